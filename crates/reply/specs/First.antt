@@ -28,6 +28,11 @@ abbrev pub firstOf : List Check → Reply
 firstOf [] = Admitted
 firstOf (c ∷ cs) = orElse (c .holds) (c .refusal) (firstOf cs)
 
+-- what a call answers: what it gives where it is admitted, and otherwise what goes with a refusal of that number
+abbrev pub answer : {A : Type 0} → Reply → (ℕ → A) → A → A
+answer Admitted refused given = given
+answer (Refused refusal) refused given = refused (numberOf refusal)
+
 -- the numbers never fall along the list
 abbrev pub sorted : List Check → Bool
 sorted [] = true
