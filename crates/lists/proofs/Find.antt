@@ -7,11 +7,10 @@ use native.Mathlib.Nat.{le-of-suc-le-suc, not-suc-le-zero}
 use native.Mathlib.Omega.{arith}
 use native.Mathlib.Numerals.{add-one}
 use lib.Dec.{ltb}
-use lib.ListN.{length, getD, drop}
+use lib.ListN.{length, getD, drop, drop-of-length-le}
 use lib.Seq.{drop-cons}
 use borrow.Author.Tests.{lt-ltb, le-ltb, ltb-true, ltb-false}
 use Rattle.lists.specs.Find.{any, firstIndex}
-use Rattle.lists.proofs.Drop.{drop-past}
 
 module _ {A : Type 0} (p : A → Bool) (xs : List A) (i : ℕ) where
   pub first-here : (d : A) → i < length xs → p (getD xs i d) ≡ true → firstIndex p (drop i xs) ≡ 0
@@ -24,7 +23,7 @@ module _ {A : Type 0} (p : A → Bool) (xs : List A) (i : ℕ) where
 
   pub first-past : length xs ≤ i → firstIndex p (drop i xs) ≡ 0
   unfolding firstIndex
-  first-past h = rw (drop-past xs i)
+  first-past h = rw (drop-of-length-le xs h)
 
 module _ {A : Type 0} (p : A → Bool) where
   first-le-step : (t : Bool) (m n : ℕ) → m ≤ n → cond t 0 (suc m) ≤ suc n

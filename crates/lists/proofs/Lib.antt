@@ -1,2 +1,2 @@
-pub mod Drop
 pub mod Find
+pub mod Map

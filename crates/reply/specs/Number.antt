@@ -21,6 +21,10 @@ numberOf TooManyStates = 12
 numberOf RankTooHigh = 13
 numberOf BadDeck = 14
 
+-- the number of a call that is answered
+abbrev pub answered : ℕ
+answered = 0
+
 abbrev pub replyNumber : Reply → ℕ
-replyNumber Admitted = 0
+replyNumber Admitted = answered
 replyNumber (Refused refusal) = numberOf refusal

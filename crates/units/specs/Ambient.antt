@@ -5,7 +5,7 @@ use Prim.Native.Nat.{ℕ}
 use lib.Ieee.{Float, binary64, mul, div, sub}
 use Rattle.doubles.specs.Decimal.{nearest, plus, zero}
 use Rattle.doubles.specs.Range.{inRange}
-use Rattle.reply.specs.Number.{numberOf}
+use Rattle.reply.specs.Number.{numberOf, answered}
 use Rattle.reply.specs.First.{Check, _if_, firstOf, answer}
 use Rattle.reply.specs.declared.Refusal.the-variants.{OutOfRange}
 use Rattle.units.specs.declared.AmbientAnswer.{AmbientAnswer}
@@ -24,7 +24,7 @@ refused number = record { number = number; rt = zero; strandExcess = zero; scaff
 
 abbrev pub ambientFigures : AmbientAnswer → Figures
 ambientFigures (Given a) =
-    record { number = 0; rt = a .rt .0; strandExcess = a .«strand_excess» .0; scaffoldExcess = a .«scaffold_excess» .0 }
+    record { number = answered; rt = a .rt .0; strandExcess = a .«strand_excess» .0; scaffoldExcess = a .«scaffold_excess» .0 }
 ambientFigures (Refused refusal) = refused (numberOf refusal)
 
 -- the gas constant, in kcal/mol/K
@@ -45,7 +45,7 @@ unfoldable pub ambientAt : Float → Figures
 ambientAt kelvin =
     answer (firstOf (ambientChecks kelvin)) refused
     (record {
-      number = 0;
+      number = answered;
       rt = mul binary64 gasConstant kelvin;
       strandExcess = excessOver37C kelvin;
       scaffoldExcess = excessOver37C kelvin;
