@@ -9,5 +9,4 @@ within low high x = le low x && le x high
 
 -- the range between two decimals
 unfoldable pub inRange : Decimal → Decimal → Float → Bool
-unfolding nearest
 inRange low high x = within (nearest low) (nearest high) x

@@ -29,12 +29,10 @@ ambientFigures (Refused refusal) = refused (numberOf refusal)
 
 -- the gas constant, in kcal/mol/K
 unfoldable pub gasConstant : Float
-unfolding nearest div
 gasConstant = div binary64 (nearest (plus 198720425864083 14)) (nearest (plus 1000 0))
 
 -- the excess over 37 °C
 unfoldable pub excessOver37C : Float → Float
-unfolding nearest
 excessOver37C kelvin = sub binary64 kelvin (nearest (plus 31015 2))
 
 -- kelvin in the ambient helper: 200 to 500

@@ -2,7 +2,7 @@
 -- Assumes nothing.
 use mathlib.Core.Path.{_≡_, sym, _∙_}
 use mathlib.Core.Bool.{true, false}
-use lib.Ieee.{ofBits}
+use lib.Ieee.{div, ofBits}
 use borrow.Author.Needs.{needs}
 use borrow.Author.Tests.{not-true, not-false}
 use Rattle.doubles.specs.Decimal.{plus, nearest}
@@ -15,7 +15,7 @@ in-range-requires : tie.Need-in-range-requires
 in-range-requires c κs = search needs
 
 returns : tie.Need-returns
-unfolding ambientAt inRange ofBits
+unfolding ambientAt inRange nearest ofBits
 returns c =
     let kelvin = c .before .before .args .temperature .0 in
     let out : inRange (plus 200 0) (plus 500 0) kelvin ≡ false = sym (c .before .in-range .ensures) ∙ not-true _ (c .if1 .taken) in
@@ -28,7 +28,7 @@ times-requires : tie.Need-times-requires
 times-requires c κs = search needs
 
 returns-2 : tie.Need-returns-2
-unfolding ambientAt inRange ofBits gasConstant excessOver37C
+unfolding ambientAt inRange nearest ofBits div gasConstant excessOver37C
 returns-2 c =
     let k = c .before .before in
     let kelvin = k .before .before .args .temperature .0 in

@@ -1,0 +1,4 @@
+pub mod Letters
+pub mod ByBase
+pub mod Lengths
+pub mod Loops

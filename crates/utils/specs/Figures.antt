@@ -1,0 +1,56 @@
+-- The doubles that the energies are made of: each the one nearest to the paper's decimal, but for the entropies that the Rust has otherwise.
+use mathlib.Core.Bool.{Bool, cond, _&&_, _||_}
+use Prim.Native.Nat.{ℕ}
+use lib.Dec.{eqb}
+use lib.Ieee.{Float}
+use lib.ListN.{getD}
+use Rattle.lists.specs.Find.{any, firstIndex}
+use Rattle.doubles.specs.Decimal.{Decimal, plus, minus, nearest, zero}
+use Rattle.utils.specs.Bases.{Base, same, complementary}
+use Rattle.utils.specs.Paper.{stackOf, initiationDg, kilo, mismatchOf, Loop, noLoop, table4, figure}
+use Rattle.utils.specs.declared.DnaNucleotideBase.the-variants.{A, T, G, C}
+use Rattle.utils.specs.declared.LoopKind.{LoopKind}
+
+-- dG of a good window
+unfoldable pub stackDg : Base → Base → Float
+stackDg a b = nearest (stackOf a b .dg)
+
+-- the Rust's entropies, in cal/mol/K: for TA, and for GG and CC, those of SantaLucia 1998
+unfoldable pub entropyOf : Base → Base → Decimal
+entropyOf a b =
+    cond (same a T && same b A) (minus 213 1) (cond (same a G && same b G || same a C && same b C) (minus 199 1) (stackOf a b .ds))
+
+unfoldable pub stackDs : Base → Base → Float
+stackDs a b = nearest (kilo (entropyOf a b))
+
+unfoldable pub startDg : Float
+startDg = nearest initiationDg
+
+-- the paper has −0.0057
+unfoldable pub startDs : Float
+startDs = nearest (plus 57 4)
+
+unfoldable pub penalty : Base → Base → Base → Float
+penalty p x y = nearest (mismatchOf p x y)
+
+-- dG of a bad window, a1 a2 over b1 b2: read from whichever strand has the pair first; 0.0 where neither place pairs
+unfoldable pub mismatchDg : Base → Base → Base → Base → Float
+mismatchDg a1 a2 b1 b2 =
+    cond (complementary a1 b1) (penalty a1 a2 b2) (cond (complementary a2 b2) (penalty b2 b1 a1) zero)
+
+-- ---- loops
+
+abbrev pub isLength : ℕ → Loop → Bool
+isLength n l = eqb (l .length) n
+
+-- LENGTHS has this length
+unfoldable pub hasLength : ℕ → Bool
+hasLength n = any (isLength n) table4
+
+-- dG of an entry of LOOP_TABLE
+unfoldable pub loopEntry : LoopKind → ℕ → Float
+loopEntry kind at = nearest (figure kind (getD table4 at noLoop))
+
+-- dG of a loop whose length LENGTHS has
+unfoldable pub loopDg : LoopKind → ℕ → Float
+loopDg kind n = loopEntry kind (firstIndex (isLength n) table4)

@@ -1,0 +1,27 @@
+-- The loop call: 5 for a kind other than 0 (internal), 1 (bulge), 2 (hairpin), or a length that LENGTHS lacks.
+use mathlib.Core.Bool.{Bool, cond, not, _||_}
+use mathlib.Core.List.{List, [], _∷_}
+use Prim.Native.Nat.{ℕ}
+use lib.Dec.{eqb, ltb}
+use Rattle.reply.specs.First.{Check, _if_, firstOf, answer}
+use Rattle.reply.specs.declared.Refusal.the-variants.{NoSuchLoop}
+use Rattle.utils.specs.Answers.{DgFigures, refusedDg, givenDg}
+use Rattle.utils.specs.Figures.{hasLength, loopDg}
+use Rattle.utils.specs.declared.LoopKind.{LoopKind}
+use Rattle.utils.specs.declared.LoopKind.the-variants.{Internal, Bulge, HairPin}
+
+-- the kind with this number, of those that there are
+unfoldable pub kindOf : ℕ → LoopKind
+kindOf kind = cond (eqb kind 0) Internal (cond (eqb kind 1) Bulge HairPin)
+
+-- the Rust's numbers of the kinds, in whose order its table stands
+abbrev pub kindIndex : LoopKind → ℕ
+kindIndex Internal = 0
+kindIndex Bulge = 1
+kindIndex HairPin = 2
+
+abbrev pub loopChecks : ℕ → ℕ → List Check
+loopChecks length kind = NoSuchLoop if (ltb 2 kind || not (hasLength length)) ∷ []
+
+unfoldable pub loopPenalty : ℕ → ℕ → DgFigures
+loopPenalty length kind = answer (firstOf (loopChecks length kind)) refusedDg (givenDg (loopDg (kindOf kind) length))

@@ -1,0 +1,109 @@
+-- Two sequences (`sequence_pair_dg_ds`), both read by index: windows of two neighbouring places, left to right.
+use mathlib.Core.Bool.{Bool, false, cond, not, _&&_, _||_}
+use mathlib.Core.List.{List, [], _∷_}
+use Prim.Native.Nat.{ℕ, _+_, _-_}
+use lib.Dec.{eqb, ltb}
+use lib.Ieee.{Float, binary64, add}
+use lib.ListN.{length}
+use Rattle.lists.specs.Find.{any}
+use Rattle.lists.specs.Fold.{foldl}
+use Rattle.doubles.specs.Decimal.{zero}
+use Rattle.reply.specs.First.{Check, _if_, firstOf, answer}
+use Rattle.reply.specs.declared.Refusal.the-variants.{WrongSize, NotABase, UnequalLengths, NoSuchLoop}
+use Rattle.utils.specs.Answers.{DgDsFigures, refusedDgDs, givenDgDs}
+use Rattle.utils.specs.Bases.{Base, bases, isBase, notABase, complementary}
+use Rattle.utils.specs.Figures.{stackDg, stackDs, mismatchDg, hasLength, loopDg}
+use Rattle.utils.specs.Single.{tooLong}
+use Rattle.utils.specs.declared.LoopKind.the-variants.{Internal}
+use Rattle.utils.specs.declared.Sums as Code
+
+-- two neighbouring places: a1 a2 of one strand over b1 b2 of the other
+pub record Window : Type 0 where
+  pub a1 : Base
+  pub a2 : Base
+  pub b1 : Base
+  pub b2 : Base
+
+abbrev pub window : Base → Base → Base → Base → Window
+window a1 a2 b1 b2 = record { a1 = a1; a2 = a2; b1 = b1; b2 = b2 }
+
+unfoldable pub windows : List Base → List Base → List Window
+windows [] b = []
+windows (a1 ∷ []) b = []
+windows (a1 ∷ a2 ∷ a) [] = []
+windows (a1 ∷ a2 ∷ a) (b1 ∷ []) = []
+windows (a1 ∷ a2 ∷ a) (b1 ∷ b2 ∷ b) = window a1 a2 b1 b2 ∷ windows (a2 ∷ a) (b2 ∷ b)
+
+-- "good if both places are complementary"
+abbrev pub good : Window → Bool
+good w = complementary (w .a1) (w .b1) && complementary (w .a2) (w .b2)
+
+-- the sums so far, how many bad windows stand in a row up to here, and whether some loop so far has no energy
+pub record Sums : Type 0 where
+  pub dg : Float
+  pub ds : Float
+  pub bad : ℕ
+  pub missing : Bool
+
+abbrev pub sumsOf : Code.Sums → Sums
+sumsOf s = record { dg = s .dg .0; ds = s .ds .0; bad = s .bad; missing = s .missing }
+
+-- a good window after k bad ones ends a loop of length k − 1, if k > 2
+abbrev pub endsLoop : ℕ → Bool
+endsLoop k = ltb 2 k
+
+-- over the loop energy of a length, and whether a length is admitted
+module _ (loopEnergy : ℕ → Float) (admitted : ℕ → Bool) where
+  -- the energy of the loop that ends here is added; a loop that is not admitted adds none, and is refused
+  abbrev pub withLoop : ℕ → Float → Float
+  withLoop k dg = cond (endsLoop k && admitted (k - 1)) (add binary64 dg (loopEnergy (k - 1))) dg
+
+  -- the pair energy, then the loop's; any good window starts the count anew
+  abbrev pub afterGood : Sums → Window → Sums
+  afterGood s w =
+      record {
+        dg = withLoop (s .bad) (add binary64 (s .dg) (stackDg (w .a1) (w .a2)));
+        ds = add binary64 (s .ds) (stackDs (w .a1) (w .a2));
+        bad = 0;
+        missing = s .missing || endsLoop (s .bad) && not (admitted (s .bad - 1));
+      }
+
+  -- the mismatch energy, and no entropy
+  abbrev pub afterBad : Sums → Window → Sums
+  afterBad s w =
+      record {
+        dg = add binary64 (s .dg) (mismatchDg (w .a1) (w .a2) (w .b1) (w .b2));
+        ds = s .ds;
+        bad = s .bad + 1;
+        missing = s .missing;
+      }
+
+  abbrev pub afterWindow : Sums → Window → Sums
+  afterWindow s w = cond (good w) (afterGood s w) (afterBad s w)
+
+abbrev pub noSums : Sums
+noSums = record { dg = zero; ds = zero; bad = 0; missing = false }
+
+-- internal loops, at the lengths of LENGTHS
+abbrev pub step : Sums → Window → Sums
+step = afterWindow (loopDg Internal) hasLength
+
+unfoldable pub pairSums : List Base → List Base → Sums
+pairSums a b = foldl step noSums (windows a b)
+
+-- some good window follows k > 2 bad ones with k − 1 not in LENGTHS
+abbrev pub lacksLoop : List ℕ → List ℕ → Bool
+lacksLoop a b = pairSums (bases a) (bases b) .missing
+
+abbrev pub pairChecks : List ℕ → List ℕ → List Check
+pairChecks a b =
+    WrongSize if (tooLong a || tooLong b)
+    ∷ NotABase if (any notABase a || any notABase b)
+    ∷ UnequalLengths if not (eqb (length a) (length b))
+    ∷ NoSuchLoop if lacksLoop a b
+    ∷ []
+
+unfoldable pub sequencePairDgDs : List ℕ → List ℕ → DgDsFigures
+sequencePairDgDs a b =
+    let sums = pairSums (bases a) (bases b) in
+    answer (firstOf (pairChecks a b)) refusedDgDs (givenDgDs (sums .dg) (sums .ds))

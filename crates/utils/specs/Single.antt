@@ -1,0 +1,57 @@
+-- One sequence (`string_dna_dg_ds`): its neighbour pairs summed left to right from 0.0, then the initiation.
+use mathlib.Core.Bool.{Bool}
+use mathlib.Core.List.{List, [], _∷_, map}
+use Prim.Native.Nat.{ℕ}
+use lib.Dec.{ltb}
+use lib.Ieee.{Float, binary64, add}
+use lib.ListN.{length}
+use Rattle.lists.specs.Find.{any}
+use Rattle.doubles.specs.Decimal.{zero}
+use Rattle.doubles.specs.Sum.{sumFrom}
+use Rattle.reply.specs.First.{Check, _if_, firstOf, answer}
+use Rattle.reply.specs.declared.Refusal.the-variants.{WrongSize, NotABase, TooShort}
+use Rattle.utils.specs.Answers.{DgDsFigures, refusedDgDs, givenDgDs}
+use Rattle.utils.specs.Bases.{Base, bases, isBase, notABase}
+use Rattle.utils.specs.Figures.{stackDg, stackDs, startDg, startDs}
+
+-- two neighbours, 5' to 3'
+pub record Neighbours : Type 0 where
+  pub first : Base
+  pub second : Base
+
+unfoldable pub neighbours : List Base → List Neighbours
+neighbours [] = []
+neighbours (a ∷ []) = []
+neighbours (a ∷ b ∷ s) = record { first = a; second = b } ∷ neighbours (b ∷ s)
+
+abbrev pub dgOf : Neighbours → Float
+dgOf n = stackDg (n .first) (n .second)
+
+abbrev pub dsOf : Neighbours → Float
+dsOf n = stackDs (n .first) (n .second)
+
+-- the sums of the stacks, without the initiation
+unfoldable pub stacksDg : List Base → Float
+stacksDg s = sumFrom zero (map dgOf (neighbours s))
+
+unfoldable pub stacksDs : List Base → Float
+stacksDs s = sumFrom zero (map dsOf (neighbours s))
+
+-- sequences: 256 bases
+abbrev pub tooLong : List ℕ → Bool
+tooLong sequence = ltb 256 (length sequence)
+
+abbrev pub tooShort : List ℕ → Bool
+tooShort sequence = ltb (length sequence) 2
+
+abbrev pub sequenceChecks : List ℕ → List Check
+sequenceChecks sequence =
+    WrongSize if tooLong sequence
+    ∷ NotABase if any notABase sequence
+    ∷ TooShort if tooShort sequence
+    ∷ []
+
+unfoldable pub stringDnaDgDs : List ℕ → DgDsFigures
+stringDnaDgDs sequence =
+    answer (firstOf (sequenceChecks sequence)) refusedDgDs
+    (givenDgDs (add binary64 (stacksDg (bases sequence)) startDg) (add binary64 (stacksDs (bases sequence)) startDs))
