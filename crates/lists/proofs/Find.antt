@@ -1,5 +1,5 @@
 -- A loop that looks for the first element that passes a test keeps `firstIndex p xs ≡ i + firstIndex p (drop i xs)`. Assumes nothing.
-use mathlib.Core.Path.{_≡_, refl}
+use mathlib.Core.Path.{_≡_, refl, sym, _∙_}
 use mathlib.Core.Bool.{Bool, true, false, cond, _||_}
 use mathlib.Core.List.{List, [], _∷_}
 use Prim.Native.Nat.{ℕ, zero, suc, _+_, _<_, _≤_}
@@ -45,6 +45,12 @@ module _ {A : Type 0} (p : A → Bool) where
   unfolding firstIndex any
   first-any [] = refl
   first-any (x ∷ xs) = any-step (p x) (any p xs) _ _ (first-any xs)
+
+  pub any-true : (xs : List A) → firstIndex p xs < length xs → any p xs ≡ true
+  any-true xs h = sym (first-any xs) ∙ lt-ltb _ _ h
+
+  pub any-false : (xs : List A) → length xs ≤ firstIndex p xs → any p xs ≡ false
+  any-false xs h = sym (first-any xs) ∙ le-ltb _ _ h
 
   fails-step : (x : A) (xs : List A) (t : Bool) → p x ≡ t → cond t 0 (suc (firstIndex p xs)) ≡ suc (length xs) → (p x ≡ false) × (firstIndex p xs ≡ length xs)
   fails-step x xs true e h = absurd (omega arith)

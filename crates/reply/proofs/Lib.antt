@@ -1,1 +1,3 @@
 pub mod Lowest
+pub mod First
+pub mod Answer

@@ -2,3 +2,5 @@ pub mod Letters
 pub mod ByBase
 pub mod Lengths
 pub mod Loops
+pub mod Neighbours
+pub mod Windows

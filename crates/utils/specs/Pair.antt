@@ -1,6 +1,6 @@
 -- Two sequences (`sequence_pair_dg_ds`), both read by index: windows of two neighbouring places, left to right.
 use mathlib.Core.Bool.{Bool, false, cond, not, _&&_, _||_}
-use mathlib.Core.List.{List, [], _∷_}
+use mathlib.Core.List.{List, [], _∷_, _++_}
 use Prim.Native.Nat.{ℕ, _+_, _-_}
 use lib.Dec.{eqb, ltb}
 use lib.Ieee.{Float, binary64, add}
@@ -59,13 +59,13 @@ module _ (loopEnergy : ℕ → Float) (admitted : ℕ → Bool) where
   withLoop k dg = cond (endsLoop k && admitted (k - 1)) (add binary64 dg (loopEnergy (k - 1))) dg
 
   -- the pair energy, then the loop's; any good window starts the count anew
-  abbrev pub afterGood : Sums → Window → Sums
-  afterGood s w =
+  abbrev pub afterGood : Sums → Base → Base → Sums
+  afterGood s a1 a2 =
       record {
-        dg = withLoop (s .bad) (add binary64 (s .dg) (stackDg (w .a1) (w .a2)));
-        ds = add binary64 (s .ds) (stackDs (w .a1) (w .a2));
+        dg = withLoop (s .bad) (add binary64 (s .dg) (stackDg a1 a2));
+        ds = add binary64 (s .ds) (stackDs a1 a2);
         bad = 0;
-        missing = s .missing || endsLoop (s .bad) && not (admitted (s .bad - 1));
+        missing = endsLoop (s .bad) && not (admitted (s .bad - 1)) || s .missing;
       }
 
   -- the mismatch energy, and no entropy
@@ -79,13 +79,13 @@ module _ (loopEnergy : ℕ → Float) (admitted : ℕ → Bool) where
       }
 
   abbrev pub afterWindow : Sums → Window → Sums
-  afterWindow s w = cond (good w) (afterGood s w) (afterBad s w)
+  afterWindow s w = cond (good w) (afterGood s (w .a1) (w .a2)) (afterBad s w)
 
 abbrev pub noSums : Sums
 noSums = record { dg = zero; ds = zero; bad = 0; missing = false }
 
 -- internal loops, at the lengths of LENGTHS
-abbrev pub step : Sums → Window → Sums
+unfoldable pub step : Sums → Window → Sums
 step = afterWindow (loopDg Internal) hasLength
 
 unfoldable pub pairSums : List Base → List Base → Sums
@@ -95,13 +95,15 @@ pairSums a b = foldl step noSums (windows a b)
 abbrev pub lacksLoop : List ℕ → List ℕ → Bool
 lacksLoop a b = pairSums (bases a) (bases b) .missing
 
-abbrev pub pairChecks : List ℕ → List ℕ → List Check
-pairChecks a b =
+abbrev pub strandChecks : List ℕ → List ℕ → List Check
+strandChecks a b =
     WrongSize if (tooLong a || tooLong b)
     ∷ NotABase if (any notABase a || any notABase b)
     ∷ UnequalLengths if not (eqb (length a) (length b))
-    ∷ NoSuchLoop if lacksLoop a b
     ∷ []
+
+abbrev pub pairChecks : List ℕ → List ℕ → List Check
+pairChecks a b = strandChecks a b ++ (NoSuchLoop if lacksLoop a b ∷ [])
 
 unfoldable pub sequencePairDgDs : List ℕ → List ℕ → DgDsFigures
 sequencePairDgDs a b =

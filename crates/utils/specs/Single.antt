@@ -24,18 +24,12 @@ neighbours [] = []
 neighbours (a ∷ []) = []
 neighbours (a ∷ b ∷ s) = record { first = a; second = b } ∷ neighbours (b ∷ s)
 
-abbrev pub dgOf : Neighbours → Float
-dgOf n = stackDg (n .first) (n .second)
+abbrev pub figureOf : (Base → Base → Float) → Neighbours → Float
+figureOf f n = f (n .first) (n .second)
 
-abbrev pub dsOf : Neighbours → Float
-dsOf n = stackDs (n .first) (n .second)
-
--- the sums of the stacks, without the initiation
-unfoldable pub stacksDg : List Base → Float
-stacksDg s = sumFrom zero (map dgOf (neighbours s))
-
-unfoldable pub stacksDs : List Base → Float
-stacksDs s = sumFrom zero (map dsOf (neighbours s))
+-- a figure of each stack, summed left to right from 0.0, without the initiation
+unfoldable pub stackSum : (Base → Base → Float) → List Base → Float
+stackSum f s = sumFrom zero (map (figureOf f) (neighbours s))
 
 -- sequences: 256 bases
 abbrev pub tooLong : List ℕ → Bool
@@ -54,4 +48,4 @@ sequenceChecks sequence =
 unfoldable pub stringDnaDgDs : List ℕ → DgDsFigures
 stringDnaDgDs sequence =
     answer (firstOf (sequenceChecks sequence)) refusedDgDs
-    (givenDgDs (add binary64 (stacksDg (bases sequence)) startDg) (add binary64 (stacksDs (bases sequence)) startDs))
+    (givenDgDs (add binary64 (stackSum stackDg (bases sequence)) startDg) (add binary64 (stackSum stackDs (bases sequence)) startDs))

@@ -1,5 +1,5 @@
 -- The strength of one or two sequences (`sequences_strength`): (dG + 1.96) − (excess × (dS + 0.0057)), the excess handed in.
-use mathlib.Core.Bool.{not}
+use mathlib.Core.Bool.{Bool, not}
 use mathlib.Core.List.{List, [], _∷_, _++_}
 use Prim.Native.Nat.{ℕ}
 use lib.Ieee.{Float, binary64, add, sub, mul}
@@ -9,21 +9,24 @@ use Rattle.reply.specs.First.{Check, _if_, firstOf, answer}
 use Rattle.reply.specs.declared.Refusal.the-variants.{OutOfRange}
 use Rattle.utils.specs.Answers.{DgFigures, refusedDg, givenDg}
 use Rattle.utils.specs.Bases.{bases}
-use Rattle.utils.specs.Figures.{startDg, startDs}
-use Rattle.utils.specs.Single.{stacksDg, stacksDs, sequenceChecks}
+use Rattle.utils.specs.Figures.{stackDg, stackDs, startDg, startDs}
+use Rattle.utils.specs.Single.{stackSum, sequenceChecks}
 use Rattle.utils.specs.Pair.{pairSums, pairChecks}
 
 unfoldable pub strengthAt : Float → Float → Float → Float
 strengthAt excess dg ds = sub binary64 (add binary64 dg startDg) (mul binary64 excess (add binary64 ds startDs))
 
 -- excess temperatures: ±1,024
+unfoldable pub excessInRange : Float → Bool
+excessInRange excess = inRange (minus 1024 0) (plus 1024 0) excess
+
 abbrev pub excessChecks : Float → List Check
-excessChecks excess = OutOfRange if not (inRange (minus 1024 0) (plus 1024 0) excess) ∷ []
+excessChecks excess = OutOfRange if not (excessInRange excess) ∷ []
 
 unfoldable pub sequenceStrength : List ℕ → Float → DgFigures
 sequenceStrength sequence excess =
     answer (firstOf (sequenceChecks sequence ++ excessChecks excess)) refusedDg
-    (givenDg (strengthAt excess (stacksDg (bases sequence)) (stacksDs (bases sequence))))
+    (givenDg (strengthAt excess (stackSum stackDg (bases sequence)) (stackSum stackDs (bases sequence))))
 
 unfoldable pub pairStrength : List ℕ → List ℕ → Float → DgFigures
 pairStrength a b excess =

@@ -1,15 +1,19 @@
 // Energies of sequences, as utils.rs works them out: of one strand on its perfect partner, and of two strands side by side.
 ghost use mathlib.Core.Path.{_≡_};
-ghost use Rattle.lists.specs.Find.{firstIndex};
-ghost use Prim.Native.Nat.{_<_};
-ghost use lib.Ieee as Ieee;
-ghost use lib.Ieee.{binary64};
+ghost use mathlib.Core.Bool.{false};
+ghost use Prim.Native.Nat.{_<_, _≤_};
 ghost use lib.ListN.{length};
-ghost use Rattle.utils.specs.Bases.{isBase, baseOf, complement, complementary, indexOf};
-ghost use Rattle.utils.specs.Figures.{stackDg, stackDs, penalty, mismatchDg, isLength, loopEntry};
+ghost use Rattle.lists.specs.Find.{any, firstIndex};
+ghost use Rattle.reply.specs.First.{firstOf};
+ghost use Rattle.utils.specs.Bases.{isBase, notABase, baseOf, bases, complement, complementary, indexOf};
 ghost use Rattle.utils.specs.Paper.{table4};
+ghost use Rattle.utils.specs.Figures.{stackDg, stackDs, penalty, mismatchDg, isLength, hasLength, loopEntry, loopDg};
 ghost use Rattle.utils.specs.Answers.{dgFigures, dgDsFigures};
 ghost use Rattle.utils.specs.Loops.{kindIndex, kindOf, loopPenalty};
+ghost use Rattle.utils.specs.Single.{stackSum, sequenceChecks, stringDnaDgDs};
+ghost use Rattle.utils.specs.Pair.{window, good, sumsOf, afterGood, step, pairSums, strandChecks, sequencePairDgDs};
+ghost use Rattle.utils.specs.declared.LoopKind.the-variants.{Internal};
+ghost use Rattle.utils.specs.Strength.{strengthAt, excessInRange, sequenceStrength, pairStrength};
 use reply::Refusal;
 use reply::Reply;
 use units::KcalPerMol;
@@ -312,4 +316,237 @@ pub fn loop_penalty(length: usize, kind: u32) -> DgAnswer
         return DgAnswer::Refused(Refusal::NoSuchLoop);
     }
     DgAnswer::Given(loop_entry(loop_kind(kind), at))
+}
+
+// The place of the first byte that is no base, or the length.
+fn first_not_a_base(dna: &[u8]) -> usize
+    ensures { λ r. ⌜ r ≡ firstIndex notABase (now (dna .entry)) ⌝ }
+{
+    let mut i = 0;
+    while i < dna.len() {
+        if !is_base(dna[i]) {
+            return i;
+        }
+        i += 1;
+    }
+    i
+}
+
+// Whether a single sequence is admitted.
+fn sequence_reply(dna: &[u8]) -> Reply
+    ensures { λ r. ⌜ r ≡ firstOf (sequenceChecks (now (dna .entry))) ⌝ }
+{
+    if LONGEST < dna.len() {
+        return Reply::Refused(Refusal::WrongSize);
+    }
+    if first_not_a_base(dna) < dna.len() {
+        return Reply::Refused(Refusal::NotABase);
+    }
+    if dna.len() < 2 {
+        return Reply::Refused(Refusal::TooShort);
+    }
+    Reply::Admitted
+}
+
+// The stacks of a sequence with its perfect partner, without the initiation.
+fn single_sequence_dg_ds(dna: &[u8]) -> DgDs
+    ensures { λ r. ⌜ (r .0 .0 ≡ stackSum stackDg (bases (now (dna .entry)))) × (r .1 .0 ≡ stackSum stackDs (bases (now (dna .entry)))) ⌝ }
+{
+    let mut dg = KcalPerMol(0.0);
+    let mut ds = KcalPerMolKelvin(0.0);
+    let mut i = 1;
+    while i < dna.len() {
+        let stack = dg_ds(base(dna[i - 1]), base(dna[i]));
+        dg = dg.add(stack.0);
+        ds = ds.add(stack.1);
+        i += 1;
+    }
+    DgDs(dg, ds)
+}
+
+// dG and dS of a sequence on its perfect partner, the initiation included.
+pub fn string_dna_dg_ds(dna: &[u8]) -> DgDsAnswer
+    ensures { λ r. ⌜ dgDsFigures r ≡ stringDnaDgDs (now (dna .entry)) ⌝ }
+{
+    match sequence_reply(dna) {
+        Reply::Refused(refusal) => DgDsAnswer::Refused(refusal),
+        Reply::Admitted => {
+            let stacks = single_sequence_dg_ds(dna);
+            DgDsAnswer::Given(stacks.0.add(INITIATION_DG), stacks.1.add(INITIATION_DS))
+        }
+    }
+}
+
+// The sums after a good window: the stack's energy, then that of the internal loop that it ends, if it ends one.
+fn after_good(s: Sums, a1: DnaNucleotideBase, a2: DnaNucleotideBase) -> Sums
+    ensures { λ r. ⌜ sumsOf r ≡ afterGood (loopDg Internal) hasLength (sumsOf s) a1 a2 ⌝ }
+{
+    let stack = dg_ds(a1, a2);
+    let dg = s.dg.add(stack.0);
+    let ds = s.ds.add(stack.1);
+    let bad = s.bad;
+    let missing = s.missing;
+    if bad <= 2 {
+        return Sums {
+            dg,
+            ds,
+            bad: 0,
+            missing,
+        };
+    }
+    let at = length_position(bad - 1);
+    if 15 <= at {
+        return Sums {
+            dg,
+            ds,
+            bad: 0,
+            missing: true,
+        };
+    }
+    Sums {
+        dg: dg.add(loop_entry(LoopKind::Internal, at)),
+        ds,
+        bad: 0,
+        missing,
+    }
+}
+
+// Whether both places of a window are complementary.
+fn good_window(
+    a1: DnaNucleotideBase,
+    a2: DnaNucleotideBase,
+    b1: DnaNucleotideBase,
+    b2: DnaNucleotideBase,
+) -> bool
+    ensures { λ r. ⌜ r ≡ good (window a1 a2 b1 b2) ⌝ }
+{
+    good_match(a1, b1) && good_match(a2, b2)
+}
+
+// The sums after one window more.
+fn after_window(
+    s: Sums,
+    a1: DnaNucleotideBase,
+    a2: DnaNucleotideBase,
+    b1: DnaNucleotideBase,
+    b2: DnaNucleotideBase,
+) -> Sums
+    requires { ⌜ s .bad < 4096 ⌝ }
+    ensures { λ r. ⌜ sumsOf r ≡ step (sumsOf s) (window a1 a2 b1 b2) ⌝ }
+{
+    if good_window(a1, a2, b1, b2) {
+        return after_good(s, a1, a2);
+    }
+    let ds = s.ds;
+    let dg = s.dg.add(calculate_single_mismatch_penalty(a1, a2, b1, b2));
+    Sums {
+        dg,
+        ds,
+        bad: s.bad + 1,
+        missing: s.missing,
+    }
+}
+
+// The sums over the windows of two strands of one length.
+fn pair_sums(a: &[u8], b: &[u8]) -> Sums
+    requires { ⌜ (length (now a) ≡ length (now b)) × (length (now a) ≤ 256) ⌝ }
+    ensures { λ r. ⌜ sumsOf r ≡ pairSums (bases (now (a .entry))) (bases (now (b .entry))) ⌝ }
+{
+    let mut sums = Sums {
+        dg: KcalPerMol(0.0),
+        ds: KcalPerMolKelvin(0.0),
+        bad: 0,
+        missing: false,
+    };
+    let mut i = 1;
+    while i < a.len() {
+        sums = after_window(sums, base(a[i - 1]), base(a[i]), base(b[i - 1]), base(b[i]));
+        i += 1;
+    }
+    sums
+}
+
+// Whether two strands are admitted, their loops aside.
+fn strands_reply(a: &[u8], b: &[u8]) -> Reply
+    ensures { λ r. ⌜ r ≡ firstOf (strandChecks (now (a .entry)) (now (b .entry))) ⌝ }
+{
+    if LONGEST < a.len() {
+        return Reply::Refused(Refusal::WrongSize);
+    }
+    if LONGEST < b.len() {
+        return Reply::Refused(Refusal::WrongSize);
+    }
+    if first_not_a_base(a) < a.len() {
+        return Reply::Refused(Refusal::NotABase);
+    }
+    if first_not_a_base(b) < b.len() {
+        return Reply::Refused(Refusal::NotABase);
+    }
+    if a.len() != b.len() {
+        return Reply::Refused(Refusal::UnequalLengths);
+    }
+    Reply::Admitted
+}
+
+// dG and dS of two strands side by side, both read by index; no initiation is added.
+pub fn sequence_pair_dg_ds(a: &[u8], b: &[u8]) -> DgDsAnswer
+    ensures { λ r. ⌜ dgDsFigures r ≡ sequencePairDgDs (now (a .entry)) (now (b .entry)) ⌝ }
+{
+    match strands_reply(a, b) {
+        Reply::Refused(refusal) => DgDsAnswer::Refused(refusal),
+        Reply::Admitted => {
+            let sums = pair_sums(a, b);
+            let dg = sums.dg;
+            let ds = sums.ds;
+            if sums.missing {
+                return DgDsAnswer::Refused(Refusal::NoSuchLoop);
+            }
+            DgDsAnswer::Given(dg, ds)
+        }
+    }
+}
+
+// The strength at an excess over 37 °C, the initiation included.
+fn strength(excess: Kelvin, dg: KcalPerMol, ds: KcalPerMolKelvin) -> KcalPerMol
+    ensures { λ r. ⌜ r .0 ≡ strengthAt (excess .0) (dg .0) (ds .0) ⌝ }
+{
+    dg.add(INITIATION_DG)
+        .sub(excess.times(ds.add(INITIATION_DS)))
+}
+
+fn excess_in_range(excess: Kelvin) -> bool
+    ensures { λ r. ⌜ r ≡ excessInRange (excess .0) ⌝ }
+{
+    doubles::in_range(LOWEST_EXCESS, HIGHEST_EXCESS, excess.0)
+}
+
+// The strength of a sequence on its perfect partner.
+pub fn sequence_strength(dna: &[u8], excess: Kelvin) -> DgAnswer
+    ensures { λ r. ⌜ dgFigures r ≡ sequenceStrength (now (dna .entry)) (excess .0) ⌝ }
+{
+    match sequence_reply(dna) {
+        Reply::Refused(refusal) => DgAnswer::Refused(refusal),
+        Reply::Admitted => {
+            if !excess_in_range(excess) {
+                return DgAnswer::Refused(Refusal::OutOfRange);
+            }
+            let stacks = single_sequence_dg_ds(dna);
+            DgAnswer::Given(strength(excess, stacks.0, stacks.1))
+        }
+    }
+}
+
+// The strength of two strands side by side.
+pub fn pair_strength(a: &[u8], b: &[u8], excess: Kelvin) -> DgAnswer
+    ensures { λ r. ⌜ dgFigures r ≡ pairStrength (now (a .entry)) (now (b .entry)) (excess .0) ⌝ }
+{
+    match sequence_pair_dg_ds(a, b) {
+        DgDsAnswer::Refused(refusal) => DgAnswer::Refused(refusal),
+        DgDsAnswer::Given(dg, ds) => {
+            if !excess_in_range(excess) {
+                return DgAnswer::Refused(Refusal::OutOfRange);
+            }
+            DgAnswer::Given(strength(excess, dg, ds))
+        }
+    }
 }

@@ -1,0 +1,96 @@
+-- `utils::single_sequence_dg_ds` meets its contract: at place i the sums so far are to be carried on over what is left. Assumes nothing.
+use mathlib.Core.Path.{_≡_, refl}
+use Prim.Native.Nat.{_≤_, _-_}
+use native.Mathlib.Omega.{arith}
+use lib.Ieee.{ofBits}
+use lib.ListN.{length}
+use denote.Ref.{now}
+use borrow.Author.Needs.{needs}
+use Rattle.utils.specs.Bases.{bases}
+use Rattle.utils.specs.Figures.{stackDg, stackDs}
+use Rattle.utils.specs.Single.{stackSum}
+use Rattle.utils.proofs.Neighbours.{sumAt, sum-more, sum-done}
+use Rattle.utils.proofs.single_sequence_dg_ds.Statement.{statement}
+use Rattle.utils.proofs.single_sequence_dg_ds.Tie as tie
+use Rattle.utils.proofs.single_sequence_dg_ds.Reads as reads
+use Rattle.utils.proofs.single_sequence_dg_ds.Lts as lts
+use Rattle.units.proofs.KcalPerMol.add.Reads as KcalPerMol-add-reads
+use Rattle.units.proofs.KcalPerMolKelvin.add.Reads as KcalPerMolKelvin-add-reads
+use Rattle.utils.proofs.base.Reads as base-reads
+use Rattle.utils.proofs.dg_ds.Reads as dg-ds-reads
+
+abbrev Inv-loop : tie.InvT-loop
+Inv-loop dna dg₀ ds₀ i₀ dg ds i =
+    (1 ≤ i) × (stackSum stackDg (bases dna) ≡ sumAt stackDg (dg .0) dna i) × (stackSum stackDs (bases dna) ≡ sumAt stackDs (ds .0) dna i)
+
+abbrev μ-loop : tie.MeasureT-loop
+μ-loop dna dg₀ ds₀ i₀ dg ds i = length dna - i
+
+loop-holds : tie.Need-loop-holds Inv-loop μ-loop
+unfolding stackSum sumAt ofBits
+loop-holds c = (omega arith, refl, refl)
+
+sub-base : tie.Need-sub-base Inv-loop μ-loop
+sub-base c = search needs
+
+shared-slice-read-base : tie.Need-shared-slice-read-base Inv-loop μ-loop
+shared-slice-read-base c = search needs
+
+base-requires : tie.Need-base-requires Inv-loop μ-loop
+base-requires c κs = search needs
+
+shared-slice-read-base-2 : tie.Need-shared-slice-read-base-2 Inv-loop μ-loop
+shared-slice-read-base-2 c = search needs
+
+base-requires-2 : tie.Need-base-requires-2 Inv-loop μ-loop
+base-requires-2 c κs = search needs
+
+dg-ds-requires : tie.Need-dg-ds-requires Inv-loop μ-loop
+dg-ds-requires c κs = search needs
+
+add-requires : tie.Need-add-requires Inv-loop μ-loop
+add-requires c κs = search needs
+
+add-requires-2 : tie.Need-add-requires-2 Inv-loop μ-loop
+add-requires-2 c κs = search needs
+
+add-i : tie.Need-add-i Inv-loop μ-loop
+add-i c = search needs
+
+loop-less : tie.Need-loop-less Inv-loop μ-loop
+loop-less c = search needs
+
+loop-again : tie.Need-loop-again Inv-loop μ-loop
+loop-again c =
+    let k = c .before .before .before in
+    let l = k .before .before .before .before .before in
+    let dna = now (l .before .before .args .dna) in
+    let i = l .loop .i in
+    (omega arith, cc (sum-more stackDg (l .loop .dg .0) dna i (omega arith) (omega arith)), cc (sum-more stackDs (l .loop .ds .0) dna i (omega arith) (omega arith)))
+
+returns : tie.Need-returns Inv-loop μ-loop
+returns c =
+    let l = c .before in
+    let dna = now (l .before .before .args .dna) in
+    let i = l .loop .i in
+    (cc (sum-done stackDg (l .loop .dg .0) dna i (omega arith)), cc (sum-done stackDs (l .loop .ds .0) dna i (omega arith)))
+
+pub single-sequence-dg-ds-spec : {M : Type 1} → statement M
+single-sequence-dg-ds-spec =
+    tie.close
+    (tie.spec
+    Inv-loop
+    μ-loop
+    loop-holds
+    sub-base
+    shared-slice-read-base
+    base-requires
+    shared-slice-read-base-2
+    base-requires-2
+    dg-ds-requires
+    add-requires
+    add-requires-2
+    add-i
+    loop-less
+    loop-again
+    returns)
