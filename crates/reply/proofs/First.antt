@@ -1,5 +1,5 @@
 -- Lists of checks, taken apart. Assumes nothing.
-use mathlib.Core.Path.{_≡_, refl}
+use mathlib.Core.Path.{_≡_, refl, ap, _∙_}
 use mathlib.Core.Bool.{Bool, true, false}
 use mathlib.Core.List.{List, [], _∷_, _++_}
 use Prim.Native.Nat.{ℕ}
@@ -30,3 +30,6 @@ append-step false refusal r s t e = e
 pub first-append : (cs ds : List Check) → firstOf (cs ++ ds) ≡ andThen (firstOf cs) (firstOf ds)
 first-append [] ds = refl
 first-append (c ∷ cs) ds = append-step (c .holds) (c .refusal) _ _ _ (first-append cs ds)
+
+pub reply-append : (cs ds : List Check) {r : Reply} → firstOf cs ≡ r → firstOf (cs ++ ds) ≡ andThen r (firstOf ds)
+reply-append cs ds e = first-append cs ds ∙ ap (λ (x : Reply). andThen x (firstOf ds)) e

@@ -4,7 +4,7 @@ use mathlib.Core.List.{List, [], _∷_}
 use Prim.Native.Nat.{ℕ}
 use lib.ListN.{getD}
 use Rattle.utils.specs.Bases.{Base, indexOf}
-use Rattle.utils.specs.declared.DnaNucleotideBase.the-variants.{A, T, G, C}
+use Rattle.utils.specs.declared.bases.DnaNucleotideBase.the-variants.{A, T, G, C}
 
 -- one entry for each base
 abbrev pub byBase : {X : Type 0} → (Base → X) → List X

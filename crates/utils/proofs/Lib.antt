@@ -4,3 +4,4 @@ pub mod Lengths
 pub mod Loops
 pub mod Neighbours
 pub mod Windows
+pub mod Strands

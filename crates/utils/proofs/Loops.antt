@@ -10,8 +10,8 @@ use Rattle.doubles.specs.Decimal.{nearest}
 use Rattle.utils.specs.Paper.{Loop, figure, noLoop, table4}
 use Rattle.utils.specs.Figures.{loopEntry}
 use Rattle.utils.specs.Loops.{kindIndex}
-use Rattle.utils.specs.declared.LoopKind.{LoopKind}
-use Rattle.utils.specs.declared.LoopKind.the-variants.{Internal, Bulge, HairPin}
+use Rattle.utils.specs.declared.tables.LoopKind.{LoopKind}
+use Rattle.utils.specs.declared.tables.LoopKind.the-variants.{Internal, Bulge, HairPin}
 use Rattle.utils.proofs.Lengths.{fifteen}
 
 abbrev pub energies : LoopKind → List Float

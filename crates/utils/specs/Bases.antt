@@ -3,8 +3,8 @@ use mathlib.Core.Bool.{Bool, cond, not, _||_}
 use mathlib.Core.List.{List, map}
 use Prim.Native.Nat.{ℕ}
 use lib.Dec.{eqb}
-use Rattle.utils.specs.declared.DnaNucleotideBase.{DnaNucleotideBase}
-use Rattle.utils.specs.declared.DnaNucleotideBase.the-variants.{A, T, G, C}
+use Rattle.utils.specs.declared.bases.DnaNucleotideBase.{DnaNucleotideBase}
+use Rattle.utils.specs.declared.bases.DnaNucleotideBase.the-variants.{A, T, G, C}
 
 abbrev pub Base : Type 0
 Base = DnaNucleotideBase

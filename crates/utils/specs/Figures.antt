@@ -8,8 +8,8 @@ use Rattle.lists.specs.Find.{any, firstIndex}
 use Rattle.doubles.specs.Decimal.{Decimal, plus, minus, nearest, zero}
 use Rattle.utils.specs.Bases.{Base, same, complementary}
 use Rattle.utils.specs.Paper.{stackOf, initiationDg, kilo, mismatchOf, Loop, noLoop, table4, figure}
-use Rattle.utils.specs.declared.DnaNucleotideBase.the-variants.{A, T, G, C}
-use Rattle.utils.specs.declared.LoopKind.{LoopKind}
+use Rattle.utils.specs.declared.bases.DnaNucleotideBase.the-variants.{A, T, G, C}
+use Rattle.utils.specs.declared.tables.LoopKind.{LoopKind}
 
 -- dG of a good window
 unfoldable pub stackDg : Base → Base → Float

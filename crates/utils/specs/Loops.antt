@@ -7,8 +7,8 @@ use Rattle.reply.specs.First.{Check, _if_, firstOf, answer}
 use Rattle.reply.specs.declared.Refusal.the-variants.{NoSuchLoop}
 use Rattle.utils.specs.Answers.{DgFigures, refusedDg, givenDg}
 use Rattle.utils.specs.Figures.{hasLength, loopDg}
-use Rattle.utils.specs.declared.LoopKind.{LoopKind}
-use Rattle.utils.specs.declared.LoopKind.the-variants.{Internal, Bulge, HairPin}
+use Rattle.utils.specs.declared.tables.LoopKind.{LoopKind}
+use Rattle.utils.specs.declared.tables.LoopKind.the-variants.{Internal, Bulge, HairPin}
 
 -- the kind with this number, of those that there are
 unfoldable pub kindOf : ℕ → LoopKind

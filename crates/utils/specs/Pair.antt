@@ -14,7 +14,7 @@ use Rattle.utils.specs.Answers.{DgDsFigures, refusedDgDs, givenDgDs}
 use Rattle.utils.specs.Bases.{Base, bases, isBase, notABase, complementary}
 use Rattle.utils.specs.Figures.{stackDg, stackDs, mismatchDg, hasLength, loopDg}
 use Rattle.utils.specs.Single.{tooLong}
-use Rattle.utils.specs.declared.LoopKind.the-variants.{Internal}
+use Rattle.utils.specs.declared.tables.LoopKind.the-variants.{Internal}
 use Rattle.utils.specs.declared.Sums as Code
 
 -- two neighbouring places: a1 a2 of one strand over b1 b2 of the other

@@ -5,9 +5,9 @@ use mathlib.Core.List.{List, [], _∷_}
 use Prim.Native.Nat.{ℕ, _+_}
 use Rattle.doubles.specs.Decimal.{Decimal, plus, minus}
 use Rattle.utils.specs.Bases.{Base, complement, same}
-use Rattle.utils.specs.declared.DnaNucleotideBase.the-variants.{A, T, G, C}
-use Rattle.utils.specs.declared.LoopKind.{LoopKind}
-use Rattle.utils.specs.declared.LoopKind.the-variants.{Internal, Bulge, HairPin}
+use Rattle.utils.specs.declared.bases.DnaNucleotideBase.the-variants.{A, T, G, C}
+use Rattle.utils.specs.declared.tables.LoopKind.{LoopKind}
+use Rattle.utils.specs.declared.tables.LoopKind.the-variants.{Internal, Bulge, HairPin}
 
 -- ---- Table 1: stacks of two pairs
 

@@ -1,4 +1,7 @@
 // Energies of sequences, as utils.rs works them out: of one strand on its perfect partner, and of two strands side by side.
+mod bases;
+mod tables;
+
 ghost use mathlib.Core.Path.{_≡_};
 ghost use mathlib.Core.Bool.{false};
 ghost use Prim.Native.Nat.{_<_, _≤_};
@@ -12,10 +15,20 @@ ghost use Rattle.utils.specs.Answers.{dgFigures, dgDsFigures};
 ghost use Rattle.utils.specs.Loops.{kindIndex, kindOf, loopPenalty};
 ghost use Rattle.utils.specs.Single.{stackSum, sequenceChecks, stringDnaDgDs};
 ghost use Rattle.utils.specs.Pair.{window, good, sumsOf, afterGood, step, pairSums, strandChecks, sequencePairDgDs};
-ghost use Rattle.utils.specs.declared.LoopKind.the-variants.{Internal};
+ghost use Rattle.utils.specs.declared.tables.LoopKind.the-variants.{Internal};
 ghost use Rattle.utils.specs.Strength.{strengthAt, excessInRange, sequenceStrength, pairStrength};
+use bases::DnaNucleotideBase;
+use bases::base;
+use bases::first_not_a_base;
+use bases::good_match;
 use reply::Refusal;
 use reply::Reply;
+use tables::DgDs;
+use tables::LoopKind;
+use tables::calculate_single_mismatch_penalty;
+use tables::dg_ds;
+use tables::length_position;
+use tables::loop_entry;
 use units::KcalPerMol;
 use units::KcalPerMolKelvin;
 use units::Kelvin;
@@ -31,106 +44,6 @@ const LOWEST_EXCESS: f64 = -1024.0;
 
 const HIGHEST_EXCESS: f64 = 1024.0;
 
-// Stacks of two pairs, 5' to 3': a row for the first base, in the order A, T, G, C.
-const NEIGHBOUR_DG: [[f64; 4]; 4] = [
-    [-1.0, -0.88, -1.28, -1.44],
-    [-0.58, -1.0, -1.45, -1.30],
-    [-1.30, -1.44, -1.84, -2.24],
-    [-1.45, -1.28, -2.17, -1.84],
-];
-
-const NEIGHBOUR_DS: [[f64; 4]; 4] = [
-    [-0.0213, -0.0204, -0.0210, -0.0224],
-    [-0.0213, -0.0213, -0.0227, -0.0222],
-    [-0.0222, -0.0224, -0.0199, -0.0244],
-    [-0.0227, -0.0210, -0.0272, -0.0199],
-];
-
-// Mismatches 5'-PX-3' over 3'-P*Y-5', at [P][X][Y]; 0.0 where X and Y pair.
-const PENALTY_TABLE: [[[f64; 4]; 4]; 4] = [
-    [
-        [0.61, 0.0, 0.14, 0.88],
-        [0.0, 0.69, 0.07, 0.73],
-        [0.02, 0.71, -0.13, 0.0],
-        [0.77, 0.64, 0.0, 1.33],
-    ],
-    [
-        [0.69, 0.0, 0.42, 0.92],
-        [0.0, 0.68, 0.34, 0.75],
-        [0.74, 0.43, 0.44, 0.0],
-        [1.33, 0.97, 0.0, 1.05],
-    ],
-    [
-        [0.17, 0.0, -0.25, 0.81],
-        [0.0, 0.45, -0.59, 0.98],
-        [-0.52, 0.08, -1.11, 0.0],
-        [0.47, 0.62, 0.0, 0.79],
-    ],
-    [
-        [0.43, 0.0, 0.03, 0.75],
-        [0.0, -0.12, -0.32, 0.40],
-        [0.11, -0.47, -0.11, 0.0],
-        [0.79, 0.62, 0.0, 0.70],
-    ],
-];
-
-// Loops: a row for each kind, a column for each of LENGTHS.
-const LOOP_TABLE: [[f64; 15]; 3] = [
-    [
-        3.2,
-        3.6,
-        4.0,
-        4.4,
-        4.6,
-        4.8,
-        4.9,
-        4.9,
-        5.2,
-        5.4,
-        5.6,
-        5.8,
-        5.9,
-        6.3,
-        6.6,
-    ],
-    [
-        3.1,
-        3.2,
-        3.3,
-        3.5,
-        3.7,
-        3.9,
-        4.1,
-        4.3,
-        4.5,
-        4.8,
-        5.0,
-        5.2,
-        5.3,
-        5.6,
-        5.9,
-    ],
-    [
-        3.5,
-        3.5,
-        3.3,
-        4.0,
-        4.2,
-        4.3,
-        4.5,
-        4.6,
-        5.0,
-        5.1,
-        5.3,
-        5.5,
-        5.7,
-        6.1,
-        6.3,
-    ],
-];
-
-const LENGTHS: [usize; 15] = [3, 4, 5, 6, 7, 8, 9, 10, 12, 14, 16, 18, 20, 25, 30];
-
 // dG and dS, or why there are none.
 pub enum DgDsAnswer {
     Given(KcalPerMol, KcalPerMolKelvin),
@@ -143,155 +56,12 @@ pub enum DgAnswer {
     Refused(Refusal),
 }
 
-pub enum LoopKind {
-    Internal,
-    Bulge,
-    HairPin,
-}
-
-pub enum DnaNucleotideBase {
-    A,
-    T,
-    G,
-    C,
-}
-
-// dG and dS of some windows.
-struct DgDs(KcalPerMol, KcalPerMolKelvin);
-
 // dG and dS so far, the bad windows in a row up to here, and whether some loop so far has no energy.
 struct Sums {
     dg: KcalPerMol,
     ds: KcalPerMolKelvin,
     bad: usize,
     missing: bool,
-}
-
-impl LoopKind {
-    fn index(self) -> usize
-        ensures { λ r. ⌜ (r ≡ kindIndex self) × (r < 3) ⌝ }
-    {
-        match self {
-            LoopKind::Internal => 0,
-            LoopKind::Bulge => 1,
-            LoopKind::HairPin => 2,
-        }
-    }
-}
-
-impl DnaNucleotideBase {
-    fn connects_to(self) -> DnaNucleotideBase
-        ensures { λ r. ⌜ r ≡ complement self ⌝ }
-    {
-        match self {
-            DnaNucleotideBase::A => DnaNucleotideBase::T,
-            DnaNucleotideBase::T => DnaNucleotideBase::A,
-            DnaNucleotideBase::G => DnaNucleotideBase::C,
-            DnaNucleotideBase::C => DnaNucleotideBase::G,
-        }
-    }
-
-    fn index(self) -> usize
-        ensures { λ r. ⌜ (r ≡ indexOf self) × (r < 4) ⌝ }
-    {
-        match self {
-            DnaNucleotideBase::A => 0,
-            DnaNucleotideBase::T => 1,
-            DnaNucleotideBase::G => 2,
-            DnaNucleotideBase::C => 3,
-        }
-    }
-}
-
-// The base of a letter; `first_not_a_base` comes before, so that no other byte is asked for its base.
-fn base(letter: u8) -> DnaNucleotideBase
-    ensures { λ r. ⌜ r ≡ baseOf letter ⌝ }
-{
-    match letter {
-        b'a' | b'A' => DnaNucleotideBase::A,
-        b't' | b'T' => DnaNucleotideBase::T,
-        b'g' | b'G' => DnaNucleotideBase::G,
-        _ => DnaNucleotideBase::C,
-    }
-}
-
-fn is_base(letter: u8) -> bool
-    ensures { λ r. ⌜ r ≡ isBase letter ⌝ }
-{
-    match letter {
-        b'a' | b'A' => true,
-        b'c' | b'C' => true,
-        b'g' | b'G' => true,
-        b't' | b'T' => true,
-        _ => false,
-    }
-}
-
-// The stack of two neighbours, 5' to 3'.
-fn dg_ds(a: DnaNucleotideBase, b: DnaNucleotideBase) -> DgDs
-    ensures { λ r. ⌜ (r .0 .0 ≡ stackDg a b) × (r .1 .0 ≡ stackDs a b) ⌝ }
-{
-    let i = a.index();
-    let j = b.index();
-    DgDs(
-        KcalPerMol(NEIGHBOUR_DG[i][j]),
-        KcalPerMolKelvin(NEIGHBOUR_DS[i][j]),
-    )
-}
-
-fn good_match(a: DnaNucleotideBase, b: DnaNucleotideBase) -> bool
-    ensures { λ r. ⌜ r ≡ complementary a b ⌝ }
-{
-    a.connects_to().index() == b.index()
-}
-
-fn calc_penalty(prior: DnaNucleotideBase, x: DnaNucleotideBase, y: DnaNucleotideBase) -> KcalPerMol
-    ensures { λ r. ⌜ r .0 ≡ penalty prior x y ⌝ }
-{
-    let p = prior.index();
-    let i = x.index();
-    let j = y.index();
-    KcalPerMol(PENALTY_TABLE[p][i][j])
-}
-
-// The energy of a bad window: of the mismatch, read from whichever strand has the pair first.
-fn calculate_single_mismatch_penalty(
-    a1: DnaNucleotideBase,
-    a2: DnaNucleotideBase,
-    b1: DnaNucleotideBase,
-    b2: DnaNucleotideBase,
-) -> KcalPerMol
-    ensures { λ r. ⌜ r .0 ≡ mismatchDg a1 a2 b1 b2 ⌝ }
-{
-    if good_match(a1, b1) {
-        return calc_penalty(a1, a2, b2);
-    }
-    if good_match(a2, b2) {
-        return calc_penalty(b2, b1, a1);
-    }
-    KcalPerMol(0.0)
-}
-
-// The place of a length among LENGTHS, or their number where it is none of them.
-fn length_position(length: usize) -> usize
-    ensures { λ r. ⌜ r ≡ firstIndex (isLength length) table4 ⌝ }
-{
-    let mut i = 0;
-    while i < 15 {
-        if LENGTHS[i] == length {
-            return i;
-        }
-        i += 1;
-    }
-    i
-}
-
-fn loop_entry(kind: LoopKind, at: usize) -> KcalPerMol
-    requires { ⌜ at < 15 ⌝ }
-    ensures { λ r. ⌜ r .0 ≡ loopEntry kind at ⌝ }
-{
-    let row = kind.index();
-    KcalPerMol(LOOP_TABLE[row][at])
 }
 
 fn loop_kind(kind: u32) -> LoopKind
@@ -316,20 +86,6 @@ pub fn loop_penalty(length: usize, kind: u32) -> DgAnswer
         return DgAnswer::Refused(Refusal::NoSuchLoop);
     }
     DgAnswer::Given(loop_entry(loop_kind(kind), at))
-}
-
-// The place of the first byte that is no base, or the length.
-fn first_not_a_base(dna: &[u8]) -> usize
-    ensures { λ r. ⌜ r ≡ firstIndex notABase (now (dna .entry)) ⌝ }
-{
-    let mut i = 0;
-    while i < dna.len() {
-        if !is_base(dna[i]) {
-            return i;
-        }
-        i += 1;
-    }
-    i
 }
 
 // Whether a single sequence is admitted.

@@ -11,39 +11,25 @@ use Rattle.utils.proofs.Lengths.{has-length}
 use borrow.Author.Needs.{needs}
 use Rattle.utils.proofs.after_good.Statement.{statement}
 use Rattle.utils.proofs.after_good.Tie as tie
-use Rattle.utils.proofs.after_good.Reads as reads
-use Rattle.utils.proofs.after_good.Lts as lts
-use Rattle.units.proofs.KcalPerMol.add.Reads as KcalPerMol-add-reads
-use Rattle.units.proofs.KcalPerMolKelvin.add.Reads as KcalPerMolKelvin-add-reads
-use Rattle.utils.proofs.dg_ds.Reads as dg-ds-reads
-use Rattle.utils.proofs.length_position.Reads as length-position-reads
-use Rattle.utils.proofs.loop_entry.Reads as loop-entry-reads
 
--- src/lib.rt:384:9
 dg-ds-requires : tie.Need-dg-ds-requires
 dg-ds-requires c κs = search needs
 
--- src/lib.rt:385:9
 add-requires : tie.Need-add-requires
 add-requires c κs = search needs
 
--- src/lib.rt:386:9
 add-requires-2 : tie.Need-add-requires-2
 add-requires-2 c κs = search needs
 
--- src/lib.rt:390:9
 returns : tie.Need-returns
 returns c = simp (le-ltb _ _ (c .if1 .taken)) (cc)
 
--- src/lib.rt:397:30
 sub-length-position : tie.Need-sub-length-position
 sub-length-position c = search needs
 
--- src/lib.rt:397:9
 length-position-requires : tie.Need-length-position-requires
 length-position-requires c κs = search needs
 
--- src/lib.rt:399:9
 returns-2 : tie.Need-returns-2
 returns-2 c =
     let k = c .before .before in
@@ -52,15 +38,12 @@ returns-2 c =
     let lacks : hasLength n ≡ false = sym (has-length n) ∙ le-ltb _ _ past in
     simp (lt-ltb _ _ (k .if1 .left), lacks) (cc)
 
--- src/lib.rt:407:20
 loop-entry-requires : tie.Need-loop-entry-requires
 loop-entry-requires c κs = search needs
 
--- src/lib.rt:407:13
 add-requires-3 : tie.Need-add-requires-3
 add-requires-3 c κs = search needs
 
--- src/lib.rt:381:1
 returns-3 : tie.Need-returns-3
 unfolding loopDg
 returns-3 c =

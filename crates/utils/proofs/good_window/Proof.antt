@@ -3,26 +3,19 @@ use mathlib.Core.Path.{sym, _∙_}
 use borrow.Author.Needs.{needs}
 use Rattle.utils.proofs.good_window.Statement.{statement}
 use Rattle.utils.proofs.good_window.Tie as tie
-use Rattle.utils.proofs.good_window.Reads as reads
-use Rattle.utils.proofs.good_window.Lts as lts
-use Rattle.utils.proofs.good_match.Reads as good-match-reads
 
--- src/lib.rt:423:5
 good-match-requires : tie.Need-good-match-requires
 good-match-requires c κs = search needs
 
--- src/lib.rt:423:27
 good-match-requires-2 : tie.Need-good-match-requires-2
 good-match-requires-2 c κs = search needs
 
--- src/lib.rt:415:1
 returns : tie.Need-returns
 returns c =
     let k = c .before in
     let first = sym (k .before .good-match .ensures) ∙ k .if1 .taken in
     simp first (c .good-match2 .ensures)
 
--- src/lib.rt:415:1
 returns-2 : tie.Need-returns-2
 returns-2 c = simp (sym (c .before .good-match .ensures) ∙ c .if1 .left) (c .if1 .left)
 

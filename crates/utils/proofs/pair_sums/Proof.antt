@@ -11,10 +11,6 @@ use Rattle.utils.specs.Pair.{Sums, sumsOf, step, pairSums}
 use Rattle.utils.proofs.Windows.{sumsAt, windowAt, sums-more, sums-done, bad-grows}
 use Rattle.utils.proofs.pair_sums.Statement.{statement}
 use Rattle.utils.proofs.pair_sums.Tie as tie
-use Rattle.utils.proofs.pair_sums.Reads as reads
-use Rattle.utils.proofs.pair_sums.Lts as lts
-use Rattle.utils.proofs.after_window.Reads as after-window-reads
-use Rattle.utils.proofs.base.Reads as base-reads
 
 abbrev badOf : Sums → ℕ
 badOf s = s .bad

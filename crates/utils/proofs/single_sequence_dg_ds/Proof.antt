@@ -12,12 +12,6 @@ use Rattle.utils.specs.Single.{stackSum}
 use Rattle.utils.proofs.Neighbours.{sumAt, sum-more, sum-done}
 use Rattle.utils.proofs.single_sequence_dg_ds.Statement.{statement}
 use Rattle.utils.proofs.single_sequence_dg_ds.Tie as tie
-use Rattle.utils.proofs.single_sequence_dg_ds.Reads as reads
-use Rattle.utils.proofs.single_sequence_dg_ds.Lts as lts
-use Rattle.units.proofs.KcalPerMol.add.Reads as KcalPerMol-add-reads
-use Rattle.units.proofs.KcalPerMolKelvin.add.Reads as KcalPerMolKelvin-add-reads
-use Rattle.utils.proofs.base.Reads as base-reads
-use Rattle.utils.proofs.dg_ds.Reads as dg-ds-reads
 
 abbrev Inv-loop : tie.InvT-loop
 Inv-loop dna dg₀ ds₀ i₀ dg ds i =

@@ -8,38 +8,25 @@ use Rattle.utils.specs.Single.{stringDnaDgDs}
 use borrow.Author.Needs.{needs}
 use Rattle.utils.proofs.string_dna_dg_ds.Statement.{statement}
 use Rattle.utils.proofs.string_dna_dg_ds.Tie as tie
-use Rattle.utils.proofs.string_dna_dg_ds.Reads as reads
-use Rattle.utils.proofs.string_dna_dg_ds.Lts as lts
-use Rattle.units.proofs.KcalPerMol.add.Reads as KcalPerMol-add-reads
-use Rattle.units.proofs.KcalPerMolKelvin.add.Reads as KcalPerMolKelvin-add-reads
-use Rattle.utils.proofs.sequence_reply.Reads as sequence-reply-reads
-use Rattle.utils.proofs.single_sequence_dg_ds.Reads as single-sequence-dg-ds-reads
 
--- src/lib.rt:371:11
 sequence-reply-requires : tie.Need-sequence-reply-requires
 sequence-reply-requires c κs = search needs
 
--- src/lib.rt:372:24
 enum-known-refusal : tie.Need-enum-known-refusal
 enum-known-refusal c = search needs
 
--- src/lib.rt:374:17
 enum-told : tie.Need-enum-told
 enum-told c = search needs
 
--- src/lib.rt:374:17
 single-sequence-dg-ds-requires : tie.Need-single-sequence-dg-ds-requires
 single-sequence-dg-ds-requires c κs = search needs
 
--- src/lib.rt:375:31
 add-requires : tie.Need-add-requires
 add-requires c κs = search needs
 
--- src/lib.rt:375:60
 add-requires-2 : tie.Need-add-requires-2
 add-requires-2 c κs = search needs
 
--- src/lib.rt:368:1
 returns : tie.Need-returns
 unfolding stringDnaDgDs
 returns c =
@@ -47,7 +34,6 @@ returns c =
     let reply = sym (k .before .sequence-reply .ensures) ∙ c .before .refusal .given .1 in
     rw reply
 
--- src/lib.rt:368:1
 returns-2 : tie.Need-returns-2
 unfolding stringDnaDgDs startDg startDs nearest initiationDg ofBits
 returns-2 c =

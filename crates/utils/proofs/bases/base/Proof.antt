@@ -1,10 +1,10 @@
 -- `utils::base` meets its contract: each arm is one letter of `baseOf`. Assumes nothing.
 use mathlib.Core.Path.{refl}
 use Rattle.utils.specs.Bases.{baseOf}
-use Rattle.utils.specs.declared.DnaNucleotideBase.the-variants.{A, T, G}
+use Rattle.utils.specs.declared.bases.DnaNucleotideBase.the-variants.{A, T, G}
 use Rattle.utils.proofs.Letters.{at-letter, no-letter}
-use Rattle.utils.proofs.base.Statement.{statement}
-use Rattle.utils.proofs.base.Tie as tie
+use Rattle.utils.proofs.bases.base.Statement.{statement}
+use Rattle.utils.proofs.bases.base.Tie as tie
 
 returns : tie.Need-returns
 unfolding baseOf

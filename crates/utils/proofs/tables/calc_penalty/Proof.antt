@@ -5,8 +5,8 @@ use Rattle.utils.specs.Paper.{mismatchOf, table2}
 use Rattle.utils.specs.Figures.{penalty}
 use Rattle.utils.proofs.ByBase.{at-bases3}
 use borrow.Author.Needs.{needs}
-use Rattle.utils.proofs.calc_penalty.Statement.{statement}
-use Rattle.utils.proofs.calc_penalty.Tie as tie
+use Rattle.utils.proofs.tables.calc_penalty.Statement.{statement}
+use Rattle.utils.proofs.tables.calc_penalty.Tie as tie
 
 index-requires : tie.Need-index-requires
 index-requires c κs = search needs

@@ -2,8 +2,8 @@
 use mathlib.Core.Path.{ap}
 use Rattle.utils.specs.Bases.{indexOf}
 use borrow.Author.Needs.{needs}
-use Rattle.utils.proofs.good_match.Statement.{statement}
-use Rattle.utils.proofs.good_match.Tie as tie
+use Rattle.utils.proofs.bases.good_match.Statement.{statement}
+use Rattle.utils.proofs.bases.good_match.Tie as tie
 
 connects-to-requires : tie.Need-connects-to-requires
 connects-to-requires c κs = search needs

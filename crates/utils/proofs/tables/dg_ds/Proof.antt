@@ -5,8 +5,8 @@ use Rattle.doubles.specs.Decimal.{nearest}
 use Rattle.utils.specs.Paper.{stackOf, find, table1}
 use Rattle.utils.specs.Figures.{stackDg, stackDs, entropyOf}
 use Rattle.utils.proofs.ByBase.{at-bases}
-use Rattle.utils.proofs.dg_ds.Statement.{statement}
-use Rattle.utils.proofs.dg_ds.Tie as tie
+use Rattle.utils.proofs.tables.dg_ds.Statement.{statement}
+use Rattle.utils.proofs.tables.dg_ds.Tie as tie
 
 index-requires : tie.Need-index-requires
 index-requires c κs = search needs

@@ -4,8 +4,8 @@ use Rattle.doubles.specs.Decimal.{nearest}
 use Rattle.utils.specs.Paper.{table4}
 use Rattle.utils.proofs.Loops.{entry-in-row}
 use borrow.Author.Needs.{needs}
-use Rattle.utils.proofs.loop_entry.Statement.{statement}
-use Rattle.utils.proofs.loop_entry.Tie as tie
+use Rattle.utils.proofs.tables.loop_entry.Statement.{statement}
+use Rattle.utils.proofs.tables.loop_entry.Tie as tie
 
 index-requires : tie.Need-index-requires
 index-requires c κs = search needs

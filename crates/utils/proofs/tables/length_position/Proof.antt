@@ -9,8 +9,8 @@ use Rattle.lists.proofs.Find.{first-here, first-later, first-past}
 use Rattle.utils.specs.Paper.{table4, noLoop}
 use Rattle.utils.specs.Figures.{isLength}
 use Rattle.utils.proofs.Lengths.{fifteen, is-length, not-length}
-use Rattle.utils.proofs.length_position.Statement.{statement}
-use Rattle.utils.proofs.length_position.Tie as tie
+use Rattle.utils.proofs.tables.length_position.Statement.{statement}
+use Rattle.utils.proofs.tables.length_position.Tie as tie
 
 abbrev Inv-loop : tie.InvT-loop
 Inv-loop n i₀ i = (i ≤ 15) × (firstIndex (isLength n) table4 ≡ i + firstIndex (isLength n) (drop i table4))

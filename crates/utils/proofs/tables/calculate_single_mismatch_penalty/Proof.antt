@@ -3,8 +3,8 @@ use mathlib.Core.Path.{sym, _∙_}
 use lib.Ieee.{ofBits}
 use Rattle.utils.specs.Figures.{mismatchDg}
 use borrow.Author.Needs.{needs}
-use Rattle.utils.proofs.calculate_single_mismatch_penalty.Statement.{statement}
-use Rattle.utils.proofs.calculate_single_mismatch_penalty.Tie as tie
+use Rattle.utils.proofs.tables.calculate_single_mismatch_penalty.Statement.{statement}
+use Rattle.utils.proofs.tables.calculate_single_mismatch_penalty.Tie as tie
 
 good-match-requires : tie.Need-good-match-requires
 good-match-requires c κs = search needs

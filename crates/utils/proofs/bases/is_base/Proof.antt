@@ -3,8 +3,8 @@ use mathlib.Core.Path.{refl}
 use mathlib.Core.Bool.{true}
 use Rattle.utils.specs.Bases.{isBase}
 use Rattle.utils.proofs.Letters.{at-letter, no-letter}
-use Rattle.utils.proofs.is_base.Statement.{statement}
-use Rattle.utils.proofs.is_base.Tie as tie
+use Rattle.utils.proofs.bases.is_base.Statement.{statement}
+use Rattle.utils.proofs.bases.is_base.Tie as tie
 
 returns : tie.Need-returns
 unfolding isBase

@@ -9,8 +9,8 @@ use borrow.Author.Needs.{needs}
 use Rattle.lists.specs.Find.{firstIndex}
 use Rattle.lists.proofs.Find.{first-here, first-later, first-past}
 use Rattle.utils.specs.Bases.{notABase}
-use Rattle.utils.proofs.first_not_a_base.Statement.{statement}
-use Rattle.utils.proofs.first_not_a_base.Tie as tie
+use Rattle.utils.proofs.bases.first_not_a_base.Statement.{statement}
+use Rattle.utils.proofs.bases.first_not_a_base.Tie as tie
 
 abbrev Inv-loop : tie.InvT-loop
 Inv-loop dna i₀ i = (i ≤ length dna) × (firstIndex notABase dna ≡ i + firstIndex notABase (drop i dna))
