@@ -5,3 +5,5 @@ pub mod Loops
 pub mod Neighbours
 pub mod Windows
 pub mod Strands
+pub mod Published
+pub mod Replies

@@ -6,3 +6,5 @@ pub mod Loops
 pub mod Single
 pub mod Pair
 pub mod Strength
+pub mod Bench
+pub mod Published

@@ -18,7 +18,7 @@ pub record Stack : Type 0 where
   pub dg : Decimal
   pub ds : Decimal
 
-abbrev stack : Base → Base → Decimal → Decimal → Stack
+abbrev pub stack : Base → Base → Decimal → Decimal → Stack
 stack first second dg ds = record { first = first; second = second; dg = dg; ds = ds }
 
 -- the ten that are printed
@@ -40,7 +40,7 @@ table1 =
 abbrev pub isFor : Base → Base → Stack → Bool
 isFor a b s = same a (s .first) && same b (s .second) || same (complement b) (s .first) && same (complement a) (s .second)
 
-abbrev absent : Stack
+abbrev pub absent : Stack
 absent = stack A A (plus 0 0) (plus 0 0)
 
 unfoldable pub find : Base → Base → List Stack → Stack

@@ -1,0 +1,15 @@
+//! The functions of include/mujplesten.h for Rust, each wrapped so that it is safe to call.
+//!
+//! Nothing checks these declarations against the Rattle source; they are held by the comparison
+//! and by the clients' tests. No function asks anything of its input, so a wrapper only has to
+//! hand over a slice as a pointer and a length. The pointer of an empty slice is dangling but
+//! never null.
+
+mod sequences;
+mod temperature;
+
+pub use sequences::{
+    loop_dg, loop_reply, pair_dg, pair_ds, pair_reply, pair_strength, pair_strength_reply,
+    sequence_dg, sequence_ds, sequence_reply, sequence_strength, sequence_strength_reply,
+};
+pub use temperature::{ambient_reply, ambient_rt, ambient_scaffold_excess, ambient_strand_excess};

@@ -1,0 +1,155 @@
+/* A C program over libexports.a: calls every function and checks what it answers. */
+
+#include <float.h>
+#include <math.h>
+#include <stdio.h>
+#include <string.h>
+
+#include "mujplesten.h"
+
+static unsigned passed, failed;
+
+static void count(const char *what, int holds)
+{
+    if (holds) {
+        passed++;
+    } else {
+        failed++;
+        printf("%s: not as expected\n", what);
+    }
+}
+
+static void reply(const char *what, uint32_t given, uint32_t expected)
+{
+    count(what, given == expected);
+}
+
+/* The bits are compared: 0.0 is not -0.0. */
+static void figure(const char *what, uint64_t given, double expected)
+{
+    uint64_t bits;
+    memcpy(&bits, &expected, sizeof bits);
+    count(what, given == bits);
+}
+
+/* A sequence as the two arguments that it is passed as. */
+#define SEQ(text) (const uint8_t *)(text), strlen(text)
+
+static uint8_t many[257];
+
+static void refused_sequence(const uint8_t *s, size_t n, uint32_t number)
+{
+    reply("a refused sequence", mj_sequence_reply(s, n), number);
+    figure("its dG", mj_sequence_dg(s, n), 0.0);
+    figure("its dS", mj_sequence_ds(s, n), 0.0);
+}
+
+static void one_sequence(void)
+{
+    reply("AC", mj_sequence_reply(SEQ("AC")), 0);
+    figure("AC dG", mj_sequence_dg(SEQ("AC")), -1.44 + 1.96);
+    figure("AC dS", mj_sequence_ds(SEQ("AC")), -0.0224 + 0.0057);
+    figure("cga dG", mj_sequence_dg(SEQ("cga")), (-2.17 + -1.30) + 1.96);
+    reply("256 bases", mj_sequence_reply(many, 256), 0);
+    refused_sequence(many, 257, 1);
+    refused_sequence(SEQ("acxg"), 2);
+    refused_sequence(SEQ("\xff"), 2);
+    refused_sequence(SEQ("A"), 3);
+    refused_sequence(NULL, 0, 3);
+}
+
+static void refused_pair(const uint8_t *a, size_t m, const uint8_t *b, size_t n, uint32_t number)
+{
+    reply("a refused pair", mj_pair_reply(a, m, b, n), number);
+    figure("its dG", mj_pair_dg(a, m, b, n), 0.0);
+    figure("its dS", mj_pair_ds(a, m, b, n), 0.0);
+}
+
+static void two_sequences(void)
+{
+    reply("AAC TAG", mj_pair_reply(SEQ("AAC"), SEQ("TAG")), 0);
+    figure("AAC TAG dG", mj_pair_dg(SEQ("AAC"), SEQ("TAG")), 0.61 + 0.17);
+    figure("AAC TAG dS", mj_pair_ds(SEQ("AAC"), SEQ("TAG")), 0.0);
+    reply("a loop of 3", mj_pair_reply(SEQ("AAAAAA"), SEQ("TAAATT")), 0);
+    figure("a loop of 3, dG", mj_pair_dg(SEQ("AAAAAA"), SEQ("TAAATT")), 0.61 + 0.69 - 1.0 + 3.2);
+    figure("a loop of 3, dS", mj_pair_ds(SEQ("AAAAAA"), SEQ("TAAATT")), -0.0213);
+    reply("no bases", mj_pair_reply(NULL, 0, NULL, 0), 0);
+    refused_pair(many, 257, SEQ("t"), 1);
+    refused_pair(SEQ("ac"), SEQ("tn"), 2);
+    refused_pair(SEQ("ac"), SEQ("tga"), 4);
+    refused_pair(SEQ("AAAAA"), SEQ("TAATT"), 5);
+}
+
+static void refused_loop(size_t length, uint32_t kind)
+{
+    reply("a refused loop", mj_loop_reply(length, kind), 5);
+    figure("its dG", mj_loop_dg(length, kind), 0.0);
+}
+
+static void loops(void)
+{
+    reply("internal loop", mj_loop_reply(30, 0), 0);
+    figure("internal loop dG", mj_loop_dg(30, 0), 6.6);
+    reply("bulge", mj_loop_reply(3, 1), 0);
+    figure("bulge dG", mj_loop_dg(3, 1), 3.1);
+    reply("hairpin", mj_loop_reply(12, 2), 0);
+    figure("hairpin dG", mj_loop_dg(12, 2), 5.0);
+    refused_loop(31, 0);
+    refused_loop(2, 1);
+    refused_loop(3, 3);
+    refused_loop(SIZE_MAX, 0);
+}
+
+static void refused_excess(double excess)
+{
+    reply("an excess", mj_sequence_strength_reply(SEQ("AC"), excess), 9);
+    figure("its strength", mj_sequence_strength(SEQ("AC"), excess), 0.0);
+    reply("an excess", mj_pair_strength_reply(SEQ("AAC"), SEQ("TAG"), excess), 9);
+    figure("its strength", mj_pair_strength(SEQ("AAC"), SEQ("TAG"), excess), 0.0);
+    reply("a short one", mj_sequence_strength_reply(SEQ("A"), excess), 3);
+}
+
+static void strengths(void)
+{
+    const double excess = 12.5;
+    const double of_one = (-1.44 + 1.96) - excess * (-0.0224 + 0.0057);
+    const double of_two = ((0.61 + 0.17) + 1.96) - excess * (0.0 + 0.0057);
+    reply("AC", mj_sequence_strength_reply(SEQ("AC"), excess), 0);
+    figure("AC strength", mj_sequence_strength(SEQ("AC"), excess), of_one);
+    reply("AAC TAG", mj_pair_strength_reply(SEQ("AAC"), SEQ("TAG"), excess), 0);
+    figure("AAC TAG strength", mj_pair_strength(SEQ("AAC"), SEQ("TAG"), excess), of_two);
+    refused_excess((double)NAN);
+    refused_excess((double)INFINITY);
+    refused_excess(1024.0 + 1024.0 * DBL_EPSILON);
+}
+
+static void ambients(void)
+{
+    static const double inside[] = {200.0, 310.15, 323.15, 500.0};
+    static const double outside[] = {199.0, 501.0, (double)NAN};
+    for (size_t i = 0; i < sizeof inside / sizeof *inside; i++) {
+        const double kelvin = inside[i];
+        reply("a kelvin", mj_ambient_reply(kelvin), 0);
+        figure("its RT", mj_ambient_rt(kelvin), (1.98720425864083 / 1000.0) * kelvin);
+        figure("its strand excess", mj_ambient_strand_excess(kelvin), kelvin - 310.15);
+        figure("its scaffold excess", mj_ambient_scaffold_excess(kelvin), kelvin - 310.15);
+    }
+    for (size_t i = 0; i < sizeof outside / sizeof *outside; i++) {
+        reply("a kelvin outside", mj_ambient_reply(outside[i]), 9);
+        figure("its RT", mj_ambient_rt(outside[i]), 0.0);
+        figure("its strand excess", mj_ambient_strand_excess(outside[i]), 0.0);
+        figure("its scaffold excess", mj_ambient_scaffold_excess(outside[i]), 0.0);
+    }
+}
+
+int main(void)
+{
+    memset(many, 'g', sizeof many);
+    one_sequence();
+    two_sequences();
+    loops();
+    strengths();
+    ambients();
+    printf("client: %u passed, %u failed\n", passed, failed);
+    return failed == 0 ? 0 : 1;
+}

@@ -1,0 +1,150 @@
+//! A Rust program over libexports.a: calls every function and checks what it answers.
+
+use mujplesten as mj;
+use std::process::ExitCode;
+
+struct Checks {
+    passed: u32,
+    failed: u32,
+}
+
+impl Checks {
+    fn reply(&mut self, what: &str, given: u32, expected: u32) {
+        self.count(what, given == expected, format!("{given}, not {expected}"));
+    }
+
+    fn figure(&mut self, what: &str, given: u64, expected: f64) {
+        let expected = expected.to_bits();
+        let told = format!("{given:016x}, not {expected:016x}");
+        self.count(what, given == expected, told);
+    }
+
+    fn count(&mut self, what: &str, holds: bool, told: String) {
+        if holds {
+            self.passed += 1;
+        } else {
+            self.failed += 1;
+            println!("{what}: {told}");
+        }
+    }
+}
+
+fn main() -> ExitCode {
+    let mut checks = Checks {
+        passed: 0,
+        failed: 0,
+    };
+    one_sequence(&mut checks);
+    two_sequences(&mut checks);
+    loops(&mut checks);
+    strengths(&mut checks);
+    ambients(&mut checks);
+    println!("client: {} passed, {} failed", checks.passed, checks.failed);
+    if checks.failed == 0 {
+        ExitCode::SUCCESS
+    } else {
+        ExitCode::FAILURE
+    }
+}
+
+fn one_sequence(checks: &mut Checks) {
+    checks.reply("AC", mj::sequence_reply(b"AC"), 0);
+    checks.figure("AC dG", mj::sequence_dg(b"AC"), -1.44 + 1.96);
+    checks.figure("AC dS", mj::sequence_ds(b"AC"), -0.0224 + 0.0057);
+    checks.figure("cga dG", mj::sequence_dg(b"cga"), (-2.17 + -1.30) + 1.96);
+    checks.reply("256 bases", mj::sequence_reply(&[b'g'; 256]), 0);
+    let refused: [(&[u8], u32); 5] = [
+        (&[b'g'; 257], 1),
+        (b"acxg", 2),
+        (&[0xff], 2),
+        (b"A", 3),
+        (b"", 3),
+    ];
+    for (s, number) in refused {
+        checks.reply("a refused sequence", mj::sequence_reply(s), number);
+        checks.figure("its dG", mj::sequence_dg(s), 0.0);
+        checks.figure("its dS", mj::sequence_ds(s), 0.0);
+    }
+}
+
+fn two_sequences(checks: &mut Checks) {
+    checks.reply("AAC TAG", mj::pair_reply(b"AAC", b"TAG"), 0);
+    checks.figure("AAC TAG dG", mj::pair_dg(b"AAC", b"TAG"), 0.61 + 0.17);
+    checks.figure("AAC TAG dS", mj::pair_ds(b"AAC", b"TAG"), 0.0);
+    let (a, b) = (b"AAAAAA", b"TAAATT");
+    checks.reply("a loop of 3", mj::pair_reply(a, b), 0);
+    let dg = 0.61 + 0.69 - 1.0 + 3.2;
+    checks.figure("a loop of 3, dG", mj::pair_dg(a, b), dg);
+    checks.figure("a loop of 3, dS", mj::pair_ds(a, b), -0.0213);
+    checks.reply("no bases", mj::pair_reply(b"", b""), 0);
+    let refused: [(&[u8], &[u8], u32); 4] = [
+        (&[b'a'; 257], b"t", 1),
+        (b"ac", b"tn", 2),
+        (b"ac", b"tga", 4),
+        (b"AAAAA", b"TAATT", 5),
+    ];
+    for (a, b, number) in refused {
+        checks.reply("a refused pair", mj::pair_reply(a, b), number);
+        checks.figure("its dG", mj::pair_dg(a, b), 0.0);
+        checks.figure("its dS", mj::pair_ds(a, b), 0.0);
+    }
+}
+
+fn loops(checks: &mut Checks) {
+    let admitted = [(30, 0, 6.6), (3, 1, 3.1), (12, 2, 5.0)];
+    for (length, kind, dg) in admitted {
+        checks.reply("a loop", mj::loop_reply(length, kind), 0);
+        checks.figure("its dG", mj::loop_dg(length, kind), dg);
+    }
+    for (length, kind) in [(31, 0), (2, 1), (3, 3), (usize::MAX, 0)] {
+        checks.reply("a refused loop", mj::loop_reply(length, kind), 5);
+        checks.figure("its dG", mj::loop_dg(length, kind), 0.0);
+    }
+}
+
+fn strengths(checks: &mut Checks) {
+    let excess = 12.5;
+    let of_one = (-1.44 + 1.96) - excess * (-0.0224 + 0.0057);
+    checks.reply("AC", mj::sequence_strength_reply(b"AC", excess), 0);
+    checks.figure("its strength", mj::sequence_strength(b"AC", excess), of_one);
+    let of_two = ((0.61 + 0.17) + 1.96) - excess * (0.0 + 0.0057);
+    let (a, b) = (b"AAC", b"TAG");
+    checks.reply("AAC TAG", mj::pair_strength_reply(a, b, excess), 0);
+    checks.figure("its strength", mj::pair_strength(a, b, excess), of_two);
+    for excess in [f64::NAN, f64::INFINITY, 1024.0f64.next_up()] {
+        checks.reply("an excess", mj::sequence_strength_reply(b"AC", excess), 9);
+        checks.figure("its strength", mj::sequence_strength(b"AC", excess), 0.0);
+        checks.reply("an excess", mj::pair_strength_reply(a, b, excess), 9);
+        checks.figure("its strength", mj::pair_strength(a, b, excess), 0.0);
+        checks.reply("a short one", mj::sequence_strength_reply(b"A", excess), 3);
+    }
+}
+
+fn ambients(checks: &mut Checks) {
+    for kelvin in [200.0, 310.15, 323.15, 500.0] {
+        checks.reply("a kelvin", mj::ambient_reply(kelvin), 0);
+        let rt = (1.98720425864083 / 1000.0) * kelvin;
+        checks.figure("its RT", mj::ambient_rt(kelvin), rt);
+        let excess = kelvin - 310.15;
+        checks.figure(
+            "its strand excess",
+            mj::ambient_strand_excess(kelvin),
+            excess,
+        );
+        checks.figure(
+            "its scaffold excess",
+            mj::ambient_scaffold_excess(kelvin),
+            excess,
+        );
+    }
+    for kelvin in [200.0f64.next_down(), 500.0f64.next_up(), f64::NAN] {
+        checks.reply("a kelvin outside", mj::ambient_reply(kelvin), 9);
+        checks.figure("its RT", mj::ambient_rt(kelvin), 0.0);
+        checks.figure("its strand excess", mj::ambient_strand_excess(kelvin), 0.0);
+        checks.figure(
+            "its scaffold excess",
+            mj::ambient_scaffold_excess(kelvin),
+            0.0,
+        );
+    }
+}

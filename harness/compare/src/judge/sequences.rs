@@ -1,0 +1,171 @@
+//! Document 01, "Sequence energies", with the rows of CALLS.md for one sequence, two sequences,
+//! loop and strength.
+
+use super::{out_of_range, Verdict};
+
+const MOST_BASES: usize = 256;
+
+/// The 15 entries of LENGTHS. Document 01 counts them; the lengths themselves are those of the
+/// paper's table of loop initiation (Table 4).
+pub const LENGTHS: [usize; 15] = [3, 4, 5, 6, 7, 8, 9, 10, 12, 14, 16, 18, 20, 25, 30];
+
+const MOST_EXCESS: f64 = 1024.0;
+
+pub fn sequence(s: &[u8]) -> Verdict {
+    Verdict::lowest(&one_sequence(s))
+}
+
+pub fn pair(a: &[u8], b: &[u8]) -> Verdict {
+    Verdict::lowest(&two_sequences(a, b))
+}
+
+/// The length is of any size; CALLS.md: "however large".
+pub fn loop_penalty(length: u64, kind: u32) -> Verdict {
+    let entry = LENGTHS.iter().any(|known| *known as u64 == length);
+    Verdict::lowest(&[(5, kind > 2 || !entry)])
+}
+
+pub fn sequence_strength(s: &[u8], excess: f64) -> Verdict {
+    let mut conditions = one_sequence(s).to_vec();
+    conditions.push((9, out_of_range(excess, -MOST_EXCESS, MOST_EXCESS)));
+    Verdict::lowest(&conditions)
+}
+
+pub fn pair_strength(a: &[u8], b: &[u8], excess: f64) -> Verdict {
+    let mut conditions = two_sequences(a, b).to_vec();
+    conditions.push((9, out_of_range(excess, -MOST_EXCESS, MOST_EXCESS)));
+    Verdict::lowest(&conditions)
+}
+
+fn one_sequence(s: &[u8]) -> [(u32, bool); 3] {
+    [
+        (1, s.len() > MOST_BASES),
+        (2, has_other_byte(s)),
+        (3, s.len() < 2),
+    ]
+}
+
+fn two_sequences(a: &[u8], b: &[u8]) -> [(u32, bool); 4] {
+    [
+        (1, a.len() > MOST_BASES || b.len() > MOST_BASES),
+        (2, has_other_byte(a) || has_other_byte(b)),
+        (4, a.len() != b.len()),
+        (5, needs_a_missing_loop(a, b)),
+    ]
+}
+
+fn has_other_byte(s: &[u8]) -> bool {
+    s.iter().any(|byte| !b"aAcCgGtT".contains(byte))
+}
+
+/// "At a good window after k > 2 bad ones, the internal loop energy for length k − 1 is added;
+/// any good window resets k. Bad windows at the end add no loop."
+fn needs_a_missing_loop(a: &[u8], b: &[u8]) -> bool {
+    let complementary: Vec<bool> = a.iter().zip(b).map(|(x, y)| are_partners(*x, *y)).collect();
+    let mut bad_windows = 0;
+    for window in complementary.windows(2) {
+        if window[0] && window[1] {
+            if bad_windows > 2 && !LENGTHS.contains(&(bad_windows - 1)) {
+                return true;
+            }
+            bad_windows = 0;
+        } else {
+            bad_windows += 1;
+        }
+    }
+    false
+}
+
+fn are_partners(x: u8, y: u8) -> bool {
+    matches!(
+        (x.to_ascii_lowercase(), y.to_ascii_lowercase()),
+        (b'a', b't') | (b't', b'a') | (b'c', b'g') | (b'g', b'c')
+    )
+}
+
+#[cfg(test)]
+mod tests {
+    use super::*;
+
+    #[test]
+    fn one_sequence_as_the_bench_table_and_calls_say() {
+        let number = |s: &[u8]| sequence(s).number();
+        assert_eq!(number(b"A"), 3);
+        assert_eq!(number(b""), 3);
+        assert_eq!(number(b"AC"), 0);
+        assert_eq!(number(b"x"), 2);
+        assert_eq!(number(&[b'g'; 256]), 0);
+        assert_eq!(number(&[b'x'; 257]), 1);
+    }
+
+    #[test]
+    fn two_sequences_as_the_bench_table_and_calls_say() {
+        let number = |a: &str, b: &str| pair(a.as_bytes(), b.as_bytes()).number();
+        assert_eq!(number("", ""), 0);
+        assert_eq!(number("a", "a"), 0);
+        assert_eq!(number("AAC", "TAG"), 0);
+        assert_eq!(number("AAAA", "TATT"), 0);
+        assert_eq!(number("AAAAA", "TAATT"), 5);
+        assert_eq!(number("AAAAAA", "TAAATT"), 0);
+        assert_eq!(number("ax", "a"), 2);
+        assert_eq!(number("ac", "a"), 4);
+        assert_eq!(number(&"a".repeat(257), "x"), 1);
+        assert_eq!(number("a", &"t".repeat(257)), 1);
+    }
+
+    /// Windows that lie on a run of m mismatched places: m at the start of the strands, m + 1 in
+    /// the middle.
+    #[test]
+    fn runs_of_mismatches_need_the_loop_of_their_bad_windows() {
+        for run in 0..=40 {
+            let needs = |bad: usize| bad > 2 && !LENGTHS.contains(&(bad - 1));
+            let a = "c".repeat(run + 2);
+            let b = format!("{}gg", "c".repeat(run));
+            let start = pair(a.as_bytes(), b.as_bytes()).number();
+            assert_eq!(start, if needs(run) { 5 } else { 0 }, "start {run}");
+
+            let (a, b) = (format!("cc{a}"), format!("gg{b}"));
+            let middle = pair(a.as_bytes(), b.as_bytes()).number();
+            let bad = if run == 0 { 0 } else { run + 1 };
+            assert_eq!(middle, if needs(bad) { 5 } else { 0 }, "middle {run}");
+
+            let (a, b) = ("c".repeat(run + 2), format!("gg{}", "c".repeat(run)));
+            assert_eq!(pair(a.as_bytes(), b.as_bytes()).number(), 0, "end {run}");
+        }
+    }
+
+    #[test]
+    fn loops_are_admitted_at_fifteen_lengths_of_three_kinds() {
+        let admitted = |kind| (0..=1000).filter(move |n| loop_penalty(*n, kind).number() == 0);
+        for kind in 0..=2 {
+            assert_eq!(admitted(kind).count(), 15);
+            assert_eq!(loop_penalty(30, kind).number(), 0);
+            assert_eq!(loop_penalty(31, kind).number(), 5);
+            assert_eq!(loop_penalty((1 << 32) + 3, kind).number(), 5);
+        }
+        assert_eq!(admitted(3).count(), 0);
+        assert_eq!(loop_penalty(3, 256).number(), 5);
+    }
+
+    #[test]
+    fn an_excess_is_looked_at_last() {
+        let number = |s: &[u8], excess| sequence_strength(s, excess).number();
+        for excess in [1024.0, -1024.0, 0.0, -0.0, 5e-324] {
+            assert_eq!(number(b"ac", excess), 0);
+            assert_eq!(pair_strength(b"", b"", excess).number(), 0);
+        }
+        let outside = [
+            f64::NAN,
+            f64::INFINITY,
+            f64::NEG_INFINITY,
+            1024.0f64.next_up(),
+            (-1024.0f64).next_down(),
+        ];
+        for excess in outside {
+            assert_eq!(number(b"ac", excess), 9);
+            assert_eq!(number(b"a", excess), 3);
+            assert_eq!(pair_strength(b"ac", b"tg", excess).number(), 9);
+            assert_eq!(pair_strength(b"ac", b"t", excess).number(), 4);
+        }
+    }
+}

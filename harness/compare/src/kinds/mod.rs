@@ -1,0 +1,48 @@
+//! The kinds of lines. A new kind is a file here, an entry in `all`, and a judge.
+
+pub mod ambient;
+pub mod loops;
+pub mod pair;
+pub mod sequence;
+pub mod strength;
+
+use crate::question::Question;
+use crate::random::Random;
+
+/// Takes the next question.
+pub type Ask<'a> = dyn FnMut(Question) + 'a;
+
+pub trait Kind {
+    /// As it stands in the last line of a run.
+    fn name(&self) -> &'static str;
+
+    /// Every reply that the questions must bring about, 0 for an answer. A run that leaves one
+    /// out has not compared what it claims, and fails.
+    fn replies(&self) -> &'static [u32];
+
+    /// Questions that hang on no seed. They are asked once in a run.
+    fn fixed(&self, ask: &mut Ask);
+
+    /// One round of random questions.
+    fn random(&self, random: &mut Random, ask: &mut Ask);
+
+    /// Whether the figures of the port are the oracle's.
+    fn agree(&self, oracle: &str, port: &str) -> bool {
+        oracle == port
+    }
+
+    /// Something about the oracle's figures that is worth counting.
+    fn note(&self, _oracle: &str) -> Option<&'static str> {
+        None
+    }
+}
+
+pub fn all() -> Vec<Box<dyn Kind>> {
+    vec![
+        Box::new(sequence::Sequences),
+        Box::new(pair::Pairs),
+        Box::new(loops::Loops),
+        Box::new(strength::Strengths),
+        Box::new(ambient::Ambients),
+    ]
+}

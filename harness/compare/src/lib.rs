@@ -1,0 +1,20 @@
+//! Port and oracle are asked the same lines, and every answer is compared bit for bit.
+//!
+//! * `kinds`: one file for each kind of line; it makes the questions and says what of an answer
+//!   is compared.
+//! * `judge`: document 01's refusals, written from the document alone.
+//! * `question`: what is asked and expected, and when an answer differs.
+//! * `comparison`, `program`, `tally`: the run.
+//! * `random`, `bases`, `doubles`: what the generators draw from.
+//! * `replay`: the fixed list of answers for the Rattle program of that name.
+
+pub mod bases;
+pub mod comparison;
+pub mod doubles;
+pub mod judge;
+pub mod kinds;
+pub mod program;
+pub mod question;
+pub mod random;
+pub mod replay;
+pub mod tally;

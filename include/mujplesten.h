@@ -1,0 +1,72 @@
+/*
+ * Mujplesten: DNA sequence energies, as C functions on byte slices.
+ *
+ * Link with libexports.a (x86-64 Linux); it needs no other library.
+ *
+ * Sequences. A sequence is a pointer and a length in bytes. Its letters are a, c, g, t in either
+ * case; it need not end in a NUL. With length 0 nothing is read through the pointer, which may then
+ * be null. Of two sequences the second is read by index beside the first, not backwards: "aac" pairs
+ * with "ttg" without a mismatch.
+ *
+ * Replies. A function that ends in _reply answers 0, or the number for which the call is refused:
+ *
+ *    1 size     a sequence of more than 256 bytes
+ *    2 base     a byte other than a, c, g, t in either case
+ *    3 short    a single sequence of fewer than 2 bases
+ *    4 unequal  paired sequences of different length
+ *    5 loop     a loop kind other than 0, 1, 2, or a loop length that the table lacks
+ *    9 range    an excess temperature or a kelvin not finite or outside its range
+ *
+ * If several apply, the lowest is given. Every other function answers a double as its 64 bits; on a
+ * refusal all bits are 0. Every function works out its whole call anew and keeps nothing.
+ *
+ * Units. Free energies (dg, strengths, rt) are in kcal/mol, entropies (ds) in kcal/mol/K,
+ * temperatures and excess temperatures in kelvin.
+ */
+#ifndef MUJPLESTEN_H
+#define MUJPLESTEN_H
+
+#include <stddef.h>
+#include <stdint.h>
+
+#ifdef __cplusplus
+extern "C" {
+#endif
+
+/* One strand with its perfect match, initiation included (string_dna_dg_ds). Replies 1, 2, 3. */
+uint32_t mj_sequence_reply(const uint8_t *s, size_t n);
+uint64_t mj_sequence_dg(const uint8_t *s, size_t n);
+uint64_t mj_sequence_ds(const uint8_t *s, size_t n);
+
+/* Two strands, mismatches and internal loops priced, no initiation (sequence_pair_dg_ds).
+ * Replies 1, 2, 4, 5. */
+uint32_t mj_pair_reply(const uint8_t *a, size_t m, const uint8_t *b, size_t n);
+uint64_t mj_pair_dg(const uint8_t *a, size_t m, const uint8_t *b, size_t n);
+uint64_t mj_pair_ds(const uint8_t *a, size_t m, const uint8_t *b, size_t n);
+
+/* The free energy of a loop (loop_penalty). Kind: 0 internal, 1 bulge, 2 hairpin; lengths 3 to 10,
+ * 12, 14, 16, 18, 20, 25, 30. Reply 5. */
+uint32_t mj_loop_reply(size_t length, uint32_t kind);
+uint64_t mj_loop_dg(size_t length, uint32_t kind);
+
+/* The binding strength of one strand with its perfect match at an excess temperature over 37 C,
+ * -1024 to 1024 (sequences_strength). Replies 1, 2, 3, 9. */
+uint32_t mj_sequence_strength_reply(const uint8_t *s, size_t n, double excess);
+uint64_t mj_sequence_strength(const uint8_t *s, size_t n, double excess);
+
+/* The same of two strands. Replies 1, 2, 4, 5, 9. */
+uint32_t mj_pair_strength_reply(const uint8_t *a, size_t m, const uint8_t *b, size_t n,
+                                double excess);
+uint64_t mj_pair_strength(const uint8_t *a, size_t m, const uint8_t *b, size_t n, double excess);
+
+/* RT and the two excess temperatures at a temperature of 200 to 500 kelvin. Reply 9. */
+uint32_t mj_ambient_reply(double kelvin);
+uint64_t mj_ambient_rt(double kelvin);
+uint64_t mj_ambient_strand_excess(double kelvin);
+uint64_t mj_ambient_scaffold_excess(double kelvin);
+
+#ifdef __cplusplus
+}
+#endif
+
+#endif
