@@ -7,3 +7,4 @@ pub mod Windows
 pub mod Strands
 pub mod Published
 pub mod Replies
+pub mod SameSums

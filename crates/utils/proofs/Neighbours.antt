@@ -31,13 +31,18 @@ bases-cons s i h =
 unfoldable pub sumAt : (Base → Base → Float) → Float → List ℕ → ℕ → Float
 sumAt f sum s i = sumFrom sum (map (figureOf f) (neighbours (drop (i - 1) (bases s))))
 
-pub sum-more : (f : Base → Base → Float) (sum : Float) (s : List ℕ) (i : ℕ) → 1 ≤ i → i < length s
+sum-more : (f : Base → Base → Float) (sum : Float) (s : List ℕ) (i : ℕ) → 1 ≤ i → i < length s
     → sumAt f sum s i ≡ sumAt f (add binary64 sum (f (baseOf (getD s (i - 1) 0)) (baseOf (getD s i 0)))) s (i + 1)
 unfolding sumAt sumFrom neighbours
 sum-more f sum s zero l h = absurd (not-suc-le-zero l)
 sum-more f sum s (suc i) l h =
     let k : i < length s = omega arith in
     simp (add-one, sub-one) (rw (bases-cons s i k, bases-cons s (suc i) h))
+
+-- the loop's step: a sum that is to be carried on from place i is to be carried on from the next, with one stack more
+pub carry-on : (f : Base → Base → Float) (sum : Float) (s : List ℕ) (i : ℕ) {total next : Float} → 1 ≤ i → i < length s → total ≡ sumAt f sum s i
+    → next ≡ add binary64 sum (f (baseOf (getD s (i - 1) 0)) (baseOf (getD s i 0))) → total ≡ sumAt f next s (i + 1)
+carry-on f sum s i l h e n = e ∙ sum-more f sum s i l h ∙ ap (λ (x : Float). sumAt f x s (i + 1)) (sym n)
 
 sum-none : (f : Base → Base → Float) (sum : Float) (s : List Base) → length s ≤ 1 → sumFrom sum (map (figureOf f) (neighbours s)) ≡ sum
 unfolding sumFrom neighbours

@@ -1,13 +1,16 @@
 -- `utils::after_good` meets its contract: each way through is one case of `afterGood`. Assumes nothing.
-use mathlib.Core.Path.{_≡_, sym, _∙_}
+use mathlib.Core.Path.{_≡_, sym, ap, ap₂, _∙_}
 use mathlib.Core.Bool.{true, false}
 use Prim.Native.Nat.{_-_, _<_, _≤_}
 use native.Mathlib.Omega.{arith}
+use lib.Ieee.{binary64, add}
 use borrow.Author.Tests.{lt-ltb, le-ltb}
 use Rattle.lists.specs.Find.{firstIndex}
 use Rattle.utils.specs.Paper.{table4}
-use Rattle.utils.specs.Figures.{isLength, hasLength, loopDg}
+use Rattle.utils.specs.Figures.{isLength, hasLength, loopEntry, loopDg}
+use Rattle.utils.specs.declared.tables.LoopKind.the-variants.{Internal}
 use Rattle.utils.proofs.Lengths.{has-length}
+use Rattle.utils.proofs.SameSums.{same-sums}
 use borrow.Author.Needs.{needs}
 use Rattle.utils.proofs.after_good.Statement.{statement}
 use Rattle.utils.proofs.after_good.Tie as tie
@@ -22,7 +25,11 @@ add-requires-2 : tie.Need-add-requires-2
 add-requires-2 c κs = search needs
 
 returns : tie.Need-returns
-returns c = simp (le-ltb _ _ (c .if1 .taken)) (cc)
+returns c =
+    let k = c .before .before in
+    let stack = k .before .dg-ds .ensures in
+    simp (le-ltb _ _ (c .if1 .taken))
+    (same-sums (k .add .ensures ∙ ap (add binary64 _) (stack .0)) (c .before .add2 .ensures ∙ ap (add binary64 _) (stack .1)))
 
 sub-length-position : tie.Need-sub-length-position
 sub-length-position c = search needs
@@ -34,9 +41,11 @@ returns-2 : tie.Need-returns-2
 returns-2 c =
     let k = c .before .before in
     let n = k .before .before .before .before .args .s .bad - 1 in
+    let stack = k .before .before .before .dg-ds .ensures in
     let past : 15 ≤ firstIndex (isLength n) table4 = omega arith in
     let lacks : hasLength n ≡ false = sym (has-length n) ∙ le-ltb _ _ past in
-    simp (lt-ltb _ _ (k .if1 .left), lacks) (cc)
+    simp (lt-ltb _ _ (k .if1 .left), lacks)
+    (same-sums (k .before .before .add .ensures ∙ ap (add binary64 _) (stack .0)) (k .before .add2 .ensures ∙ ap (add binary64 _) (stack .1)))
 
 loop-entry-requires : tie.Need-loop-entry-requires
 loop-entry-requires c κs = search needs
@@ -49,9 +58,12 @@ unfolding loopDg
 returns-3 c =
     let k = c .before .before .before .before in
     let n = k .before .before .before .before .args .s .bad - 1 in
+    let stack = k .before .before .before .dg-ds .ensures in
+    let entry = c .before .loop-entry .ensures ∙ ap (loopEntry Internal) (c .before .before .before .length-position .ensures) in
     let under : firstIndex (isLength n) table4 < 15 = omega arith in
     let has : hasLength n ≡ true = sym (has-length n) ∙ lt-ltb _ _ under in
-    simp (lt-ltb _ _ (k .if1 .left), has) (cc)
+    simp (lt-ltb _ _ (k .if1 .left), has)
+    (same-sums (c .add3 .ensures ∙ ap₂ (add binary64) (k .before .before .add .ensures ∙ ap (add binary64 _) (stack .0)) entry) (k .before .add2 .ensures ∙ ap (add binary64 _) (stack .1)))
 
 pub after-good-spec : {M : Type 1} → statement M
 after-good-spec =

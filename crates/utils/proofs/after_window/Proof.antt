@@ -1,6 +1,8 @@
 -- `utils::after_window` meets its contract: a good window and a bad one are the two cases of `step`. Assumes nothing.
-use mathlib.Core.Path.{sym, _∙_}
+use mathlib.Core.Path.{refl, sym, ap, _∙_}
+use lib.Ieee.{binary64, add}
 use Rattle.utils.specs.Pair.{step}
+use Rattle.utils.proofs.SameSums.{same-sums}
 use borrow.Author.Needs.{needs}
 use Rattle.utils.proofs.after_window.Statement.{statement}
 use Rattle.utils.proofs.after_window.Tie as tie
@@ -31,7 +33,8 @@ unfolding step
 returns-2 c =
     let k = c .before .before .before .before in
     let bad = sym (k .before .good-window .ensures) ∙ k .if1 .left in
-    simp bad (cc)
+    let penalty = c .before .before .calculate-single-mismatch-penalty .ensures in
+    simp bad (same-sums (c .before .add .ensures ∙ ap (add binary64 _) penalty) refl)
 
 pub after-window-spec : {M : Type 1} → statement M
 after-window-spec =

@@ -1,15 +1,15 @@
 -- `utils::single_sequence_dg_ds` meets its contract: at place i the sums so far are to be carried on over what is left. Assumes nothing.
-use mathlib.Core.Path.{_≡_, refl}
+use mathlib.Core.Path.{_≡_, refl, sym, ap, ap₂, _∙_}
 use Prim.Native.Nat.{_≤_, _-_}
 use native.Mathlib.Omega.{arith}
-use lib.Ieee.{ofBits}
+use lib.Ieee.{binary64, add, ofBits}
 use lib.ListN.{length}
 use denote.Ref.{now}
 use borrow.Author.Needs.{needs}
 use Rattle.utils.specs.Bases.{bases}
 use Rattle.utils.specs.Figures.{stackDg, stackDs}
 use Rattle.utils.specs.Single.{stackSum}
-use Rattle.utils.proofs.Neighbours.{sumAt, sum-more, sum-done}
+use Rattle.utils.proofs.Neighbours.{sumAt, carry-on, sum-done}
 use Rattle.utils.proofs.single_sequence_dg_ds.Statement.{statement}
 use Rattle.utils.proofs.single_sequence_dg_ds.Tie as tie
 
@@ -56,18 +56,22 @@ loop-less c = search needs
 
 loop-again : tie.Need-loop-again Inv-loop μ-loop
 loop-again c =
-    let k = c .before .before .before in
-    let l = k .before .before .before .before .before in
+    let k = c .before .before in
+    let l = k .before .before .before .before .before .before in
     let dna = now (l .before .before .args .dna) in
     let i = l .loop .i in
-    (omega arith, cc (sum-more stackDg (l .loop .dg .0) dna i (omega arith) (omega arith)), cc (sum-more stackDs (l .loop .ds .0) dna i (omega arith) (omega arith)))
+    let first = k .before .before .before .base .ensures in
+    let second = k .before .base2 .ensures in
+    let dg = c .before .add .ensures ∙ ap (add binary64 _) (k .dg-ds .ensures .0 ∙ ap₂ stackDg first second) in
+    let ds = c .add2 .ensures ∙ ap (add binary64 _) (k .dg-ds .ensures .1 ∙ ap₂ stackDs first second) in
+    (omega arith, carry-on stackDg (l .loop .dg .0) dna i (omega arith) (omega arith) (l .loop .inv .1) dg, carry-on stackDs (l .loop .ds .0) dna i (omega arith) (omega arith) (l .loop .inv .2) ds)
 
 returns : tie.Need-returns Inv-loop μ-loop
 returns c =
     let l = c .before in
     let dna = now (l .before .before .args .dna) in
     let i = l .loop .i in
-    (cc (sum-done stackDg (l .loop .dg .0) dna i (omega arith)), cc (sum-done stackDs (l .loop .ds .0) dna i (omega arith)))
+    (sym (l .loop .inv .1 ∙ sum-done stackDg (l .loop .dg .0) dna i (omega arith)), sym (l .loop .inv .2 ∙ sum-done stackDs (l .loop .ds .0) dna i (omega arith)))
 
 pub single-sequence-dg-ds-spec : {M : Type 1} → statement M
 single-sequence-dg-ds-spec =
