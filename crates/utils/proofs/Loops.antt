@@ -7,7 +7,7 @@ use lib.ListN.{getD, length}
 use lib.Ieee.{Float, nan}
 use Rattle.lists.proofs.Map.{getD-map-lt}
 use Rattle.doubles.specs.Decimal.{nearest}
-use Rattle.utils.specs.Paper.{Loop, figure, noLoop, table4}
+use Rattle.utils.specs.Paper.{figure, noLoop, table4}
 use Rattle.utils.specs.Figures.{loopEntry}
 use Rattle.utils.specs.Loops.{kindIndex}
 use Rattle.utils.specs.declared.tables.LoopKind.{LoopKind}

@@ -10,7 +10,7 @@ use lib.ListN.{length, getD, drop, length-map, List·getD-map}
 use lib.Seq.{drop-cons}
 use Rattle.doubles.specs.Sum.{sumFrom}
 use Rattle.utils.specs.Bases.{Base, baseOf, bases}
-use Rattle.utils.specs.Single.{Neighbours, neighbours, figureOf}
+use Rattle.utils.specs.Single.{neighbours, figureOf}
 
 -- the byte's base at a place of the sequence
 pub base-at : (s : List ℕ) (i : ℕ) → getD (bases s) i (baseOf 0) ≡ baseOf (getD s i 0)

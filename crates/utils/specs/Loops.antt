@@ -1,5 +1,5 @@
 -- The loop call: 5 for a kind other than 0 (internal), 1 (bulge), 2 (hairpin), or a length that LENGTHS lacks.
-use mathlib.Core.Bool.{Bool, cond, not, _||_}
+use mathlib.Core.Bool.{cond, not, _||_}
 use mathlib.Core.List.{List, [], _∷_}
 use Prim.Native.Nat.{ℕ}
 use lib.Dec.{eqb, ltb}

@@ -11,7 +11,7 @@ use Rattle.doubles.specs.Decimal.{zero}
 use Rattle.reply.specs.First.{Check, _if_, firstOf, answer}
 use Rattle.reply.specs.declared.Refusal.the-variants.{WrongSize, NotABase, UnequalLengths, NoSuchLoop}
 use Rattle.utils.specs.Answers.{DgDsFigures, refusedDgDs, givenDgDs}
-use Rattle.utils.specs.Bases.{Base, bases, isBase, notABase, complementary}
+use Rattle.utils.specs.Bases.{Base, bases, notABase, complementary}
 use Rattle.utils.specs.Figures.{stackDg, stackDs, mismatchDg, hasLength, loopDg}
 use Rattle.utils.specs.Single.{tooLong}
 use Rattle.utils.specs.declared.tables.LoopKind.the-variants.{Internal}

@@ -4,7 +4,7 @@ use mathlib.Core.Bool.{Bool, true, false, _&&_, _||_}
 use Prim.Native.Nat.{ℕ, _<_}
 use lib.Ieee.{neg}
 use lib.ListN.{getD, length}
-use Rattle.doubles.specs.Decimal.{plus, minus, nearest}
+use Rattle.doubles.specs.Decimal.{minus, nearest}
 use Rattle.utils.specs.Bases.{Base, complement, complementary, same}
 use Rattle.utils.specs.Paper.{table1, absent, stackOf, kilo, initiationDg, initiationDs, mismatchOf, table4, noLoop, figure}
 use Rattle.utils.specs.Figures.{stackDg, stackDs, startDg, startDs, mismatchDg, loopDg}

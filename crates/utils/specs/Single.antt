@@ -11,7 +11,7 @@ use Rattle.doubles.specs.Sum.{sumFrom}
 use Rattle.reply.specs.First.{Check, _if_, firstOf, answer}
 use Rattle.reply.specs.declared.Refusal.the-variants.{WrongSize, NotABase, TooShort}
 use Rattle.utils.specs.Answers.{DgDsFigures, refusedDgDs, givenDgDs}
-use Rattle.utils.specs.Bases.{Base, bases, isBase, notABase}
+use Rattle.utils.specs.Bases.{Base, bases, notABase}
 use Rattle.utils.specs.Figures.{stackDg, stackDs, startDg, startDs}
 
 -- two neighbours, 5' to 3'
