@@ -1,13 +1,13 @@
 -- A loop that looks for the first element that passes a test keeps `firstIndex p xs ≡ i + firstIndex p (drop i xs)`. Assumes nothing.
 use mathlib.Core.Path.{_≡_, refl, sym, _∙_}
-use mathlib.Core.Bool.{Bool, true, false, cond, _||_}
-use mathlib.Core.List.{List, [], _∷_}
+use mathlib.Core.Bool.{Bool, true, false, cond, _||_, or-assoc}
+use mathlib.Core.List.{List, [], _∷_, _++_, map}
 use Prim.Native.Nat.{ℕ, zero, suc, _+_, _<_, _≤_}
 use native.Mathlib.Nat.{le-of-suc-le-suc, not-suc-le-zero}
 use native.Mathlib.Omega.{arith}
 use native.Mathlib.Numerals.{add-one}
 use lib.Dec.{ltb}
-use lib.ListN.{length, getD, drop, drop-of-length-le}
+use lib.ListN.{length, getD, drop, replicate, drop-of-length-le}
 use lib.Seq.{drop-cons}
 use borrow.Author.Tests.{lt-ltb, le-ltb, ltb-true, ltb-false}
 use Rattle.lists.specs.Find.{any, firstIndex}
@@ -52,13 +52,51 @@ module _ {A : Type 0} (p : A → Bool) where
   pub any-false : (xs : List A) → length xs ≤ firstIndex p xs → any p xs ≡ false
   any-false xs h = sym (first-any xs) ∙ le-ltb _ _ h
 
-  fails-step : (x : A) (xs : List A) (t : Bool) → p x ≡ t → cond t 0 (suc (firstIndex p xs)) ≡ suc (length xs) → (p x ≡ false) × (firstIndex p xs ≡ length xs)
-  fails-step x xs true e h = absurd (omega arith)
-  fails-step x xs false e h = (e, omega arith)
+  before-step : (x : A) (xs : List A) (t : Bool) (k : ℕ) → p x ≡ t → k < cond t 0 (suc (firstIndex p xs)) → (t ≡ false) × (k ≤ firstIndex p xs)
+  before-step x xs true k e h = absurd (not-suc-le-zero h)
+  before-step x xs false k e h = (refl, le-of-suc-le-suc h)
+
+  -- each element before the first that passes fails
+  pub fails-before : (d : A) (xs : List A) (k : ℕ) → k < firstIndex p xs → p (getD xs k d) ≡ false
+  unfolding firstIndex
+  fails-before d [] k h = absurd (not-suc-le-zero h)
+  fails-before d (x ∷ xs) zero h = before-step x xs _ zero refl h .0
+  fails-before d (x ∷ xs) (suc k) h = fails-before d xs k (before-step x xs _ (suc k) refl h .1)
 
   -- where none passes, each fails
   pub each-fails : (d : A) (xs : List A) → firstIndex p xs ≡ length xs → (k : ℕ) → k < length xs → p (getD xs k d) ≡ false
+  each-fails d xs e k h = fails-before d xs k (rw e h)
+
+  -- and the first that passes does
+  pub passes-first : (d : A) (xs : List A) → firstIndex p xs < length xs → p (getD xs (firstIndex p xs) d) ≡ true
   unfolding firstIndex
-  each-fails d [] h k l = absurd (not-suc-le-zero l)
-  each-fails d (x ∷ xs) h zero l = fails-step x xs _ refl h .0
-  each-fails d (x ∷ xs) h (suc k) l = each-fails d xs (fails-step x xs _ refl h .1) k (le-of-suc-le-suc l)
+  passes-first d [] h = absurd (not-suc-le-zero h)
+  passes-first d (x ∷ xs) h = go (p x) refl h (passes-first d xs)
+    where
+      go : (t : Bool) → p x ≡ t → cond t 0 (suc (firstIndex p xs)) < suc (length xs) → (firstIndex p xs < length xs → p (getD xs (firstIndex p xs) d) ≡ true)
+          → p (getD (x ∷ xs) (cond t 0 (suc (firstIndex p xs))) d) ≡ true
+      go true e h rest = e
+      go false e h rest = rest (le-of-suc-le-suc h)
+
+  pub any-append : (xs ys : List A) → any p (xs ++ ys) ≡ (any p xs || any p ys)
+  unfolding any
+  any-append [] ys = refl
+  any-append (x ∷ xs) ys = rw (any-append xs ys) (sym (or-assoc (p x) (any p xs) (any p ys)))
+
+  pub any-replicate : (n : ℕ) (x : A) → p x ≡ false → any p (replicate n x) ≡ false
+  unfolding any
+  any-replicate zero x e = refl
+  any-replicate (suc n) x e = rw (e, any-replicate n x e)
+
+module _ {A B : Type 0} where
+  pub first-map : (p : B → Bool) (f : A → B) (xs : List A) → firstIndex p (map f xs) ≡ firstIndex (λ x. p (f x)) xs
+  unfolding firstIndex
+  first-map p f [] = refl
+  first-map p f (x ∷ xs) = rw (first-map p f xs)
+
+module _ {A : Type 0} where
+  -- two tests that agree find the same place
+  pub first-same : (p q : A → Bool) → ((x : A) → p x ≡ q x) → (xs : List A) → firstIndex p xs ≡ firstIndex q xs
+  unfolding firstIndex
+  first-same p q e [] = refl
+  first-same p q e (x ∷ xs) = rw (e x, first-same p q e xs)

@@ -1,2 +1,4 @@
 pub mod Find
 pub mod Fold
+pub mod Beginnings
+pub mod Over

@@ -1,0 +1,12 @@
+pub mod Tests
+pub mod Split
+pub mod Stretches
+pub mod Singles
+pub mod Decks
+pub mod Beginning
+pub mod Walk
+pub mod Faults
+pub mod Laying
+pub mod Runs
+pub mod Valid
+pub mod Theorems

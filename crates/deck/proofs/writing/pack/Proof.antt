@@ -1,0 +1,111 @@
+-- `deck::writing::pack` meets its contract. The loop's invariant: the words still to come, stored from here on, give the whole. A word tells of
+-- a position at least, so there is room for it. Assumes nothing.
+use mathlib.Core.Path.{_≡_, refl, sym, ap, _∙_}
+use mathlib.Core.List.{List, [], _∷_, map}
+use Prim.Native.Nat.{ℕ, _≤_, _-_, _+_}
+use native.Mathlib.Numerals.{add-one}
+use native.Mathlib.Omega.{arith}
+use lib.ListN.{length, drop, length-set, drop-of-length-le}
+use lib.Seq.{sets}
+use borrow.Author.Needs.{needs}
+use denote.Ref.{now}
+use Rattle.deck.specs.Form.{singles}
+use Rattle.deck.specs.Deck.{deckOf, stretchesOf}
+use Rattle.deck.proofs.writing.pack.Statement.{statement}
+use Rattle.deck.proofs.writing.pack.Tie as tie
+
+-- the words of what is left of a configuration
+abbrev wordsFrom : List ℕ → ℕ → List ℕ
+wordsFrom configuration at = map (singles .word) (stretchesOf singles (drop at configuration))
+
+abbrev Inv-loop : tie.InvT-loop
+Inv-loop configuration words₀ count₀ at₀ words count at =
+    (at ≤ length configuration) × (count ≤ at + 1) × (length words ≡ 129)
+    × (count + length (wordsFrom configuration at) ≡ 1 + length (wordsFrom configuration 0))
+    × (sets words count (wordsFrom configuration at) ≡ sets words₀ 1 (wordsFrom configuration 0))
+
+abbrev μ-loop : tie.MeasureT-loop
+μ-loop configuration words₀ count₀ at₀ words count at = length configuration - at
+
+cast-t8 : tie.Need-cast-t8 Inv-loop μ-loop
+cast-t8 c = search needs
+
+bits-requires : tie.Need-bits-requires Inv-loop μ-loop
+bits-requires c κs = search needs
+
+slice-write-words : tie.Need-slice-write-words Inv-loop μ-loop
+slice-write-words c = search needs
+
+loop-holds : tie.Need-loop-holds Inv-loop μ-loop
+loop-holds c = (omega arith, omega arith, length-set (now (c .before .before .before .args .words)) 0 (c .bits .result) ∙ c .before .before .before .pre .1, refl, refl)
+
+run-at-requires : tie.Need-run-at-requires Inv-loop μ-loop
+run-at-requires c κs = search needs
+
+shared-slice-read-t15 : tie.Need-shared-slice-read-t15 Inv-loop μ-loop
+shared-slice-read-t15 c = search needs
+
+bits-requires-2 : tie.Need-bits-requires-2 Inv-loop μ-loop
+bits-requires-2 c κs = search needs
+
+mul-words : tie.Need-mul-words Inv-loop μ-loop
+mul-words c = search needs
+
+slice-write-words-2 : tie.Need-slice-write-words-2 Inv-loop μ-loop
+slice-write-words-2 c = search needs
+
+add-count : tie.Need-add-count Inv-loop μ-loop
+add-count c = search needs
+
+add-at : tie.Need-add-at Inv-loop μ-loop
+add-at c = search needs
+
+loop-less : tie.Need-loop-less Inv-loop μ-loop
+loop-less c = search needs
+
+loop-again : tie.Need-loop-again Inv-loop μ-loop
+loop-again c =
+    let configuration = now (c .before .before .before .before .before .before .before .before .args .configuration) in
+    let l = c .before .before .before .before .loop in
+    let run = c .before .before .run-at in
+    let next : wordsFrom configuration (l .at) ≡ c .bits2 .result ∷ wordsFrom configuration (l .at + run .result) =
+    ap (map (singles .word)) (run .ensures .2) ∙ ap (_∷ wordsFrom configuration (l .at + run .result)) (sym (c .bits2 .ensures)) in (
+      omega arith,
+      omega arith,
+      length-set (l .words) (l .count) (c .bits2 .result) ∙ l .inv .2,
+      omega (arith, ap length next),
+      rw add-one (ap (sets (l .words) (l .count)) (sym next) ∙ l .inv .4),
+    )
+
+same-length : tie.Need-same-length Inv-loop μ-loop
+same-length c = search needs
+
+returns : tie.Need-returns Inv-loop μ-loop
+unfolding deckOf stretchesOf
+returns c =
+    let configuration = now (c .before .before .before .before .before .args .configuration) in
+    let l = c .before .loop in
+    let past : wordsFrom configuration (l .at) ≡ [] = rw (drop-of-length-le configuration (c .loop-test .left)) in
+    (omega (arith, ap length past), ap (sets (l .words) (l .count)) (sym past) ∙ l .inv .4 ∙ rw (c .before .before .bits .ensures))
+
+pub pack-spec : {M : Type 1} → statement M
+pack-spec =
+    tie.close
+    (tie.spec
+    Inv-loop
+    μ-loop
+    cast-t8
+    bits-requires
+    slice-write-words
+    loop-holds
+    run-at-requires
+    shared-slice-read-t15
+    bits-requires-2
+    mul-words
+    slice-write-words-2
+    add-count
+    add-at
+    loop-less
+    loop-again
+    same-length
+    returns)

@@ -1,0 +1,63 @@
+-- Decks and what reading them into 128 entries answers, worked out by hand and computed from the definitions.
+use mathlib.Core.List.{List, [], _∷_, map}
+use mathlib.Core.Path.{_≡_, refl}
+use Prim.Native.Nat.{ℕ}
+use lib.ListN.{replicate}
+use Rattle.lists.specs.Find.{firstIndex}
+use Rattle.lists.specs.Beginnings.{beginnings}
+use Rattle.reply.specs.Number.{numberOf, answered}
+use Rattle.reply.specs.declared.Refusal.the-variants.{BadDeck}
+use Rattle.reply.specs.declared.Place.the-variants.{Nowhere, At}
+use Rattle.deck.specs.Form.{singles}
+use Rattle.deck.specs.Deck.{follow, positions, isDeck, begins, misfitOf, laidOut, configurationOf}
+use Rattle.deck.specs.Reading.{ReadFigures, readFigures}
+
+pub record Case : Type 0 where
+  pub words : List ℕ
+  pub figures : ReadFigures
+
+infix 68 _is_
+abbrev pub _is_ : List ℕ → ReadFigures → Case
+words is figures = record { words = words; figures = figures }
+
+abbrev pub configuration : ℕ → ReadFigures
+configuration count = record { number = answered; count = count; place = Nowhere }
+
+-- refusal 14 with its place
+abbrev pub fault : ℕ → ReadFigures
+fault place = record { number = numberOf BadDeck; count = 0; place = At place }
+
+abbrev pub strands : ℕ → List ℕ
+strands n = replicate n 0x2000_0001
+
+abbrev pub cases : List Case
+cases =
+    [] is fault 0
+    ∷ (0x1000_0000 ∷ []) is configuration 0
+    ∷ (0x1000_0000 ∷ 0x3000_0001 ∷ []) is fault 1
+    ∷ (0x1000_0000 ∷ 0x1000_0000 ∷ []) is fault 1
+    ∷ (0x1000_0081 ∷ []) is fault 0
+    ∷ (0x2000_0001 ∷ []) is fault 0
+    ∷ (0x1000_0001 ∷ []) is fault 1
+    ∷ (0x1000_0002 ∷ 0x3000_0001 ∷ []) is fault 2
+    ∷ (0x1000_0002 ∷ 0x3000_0003 ∷ []) is fault 1
+    ∷ (0x1000_0002 ∷ 0x3000_0000 ∷ []) is fault 1
+    ∷ (0x1000_0002 ∷ 0x2000_0000 ∷ []) is fault 1
+    ∷ (0x1000_0002 ∷ 0x2000_0040 ∷ []) is fault 1
+    ∷ (0x1000_0002 ∷ 0x1000_0002 ∷ []) is fault 1
+    ∷ (0x1000_0002 ∷ 0x3000_0002 ∷ 0x3000_0001 ∷ []) is fault 2
+    ∷ (0x1000_0001 ∷ 0x2000_0001 ∷ 0x2000_0001 ∷ []) is fault 2
+    ∷ (0x1000_0003 ∷ 0x3000_0002 ∷ 0x2000_0001 ∷ 0x3000_0001 ∷ []) is fault 3
+    ∷ (0x1000_0003 ∷ 0x2000_0001 ∷ 0x3000_0001 ∷ []) is fault 3
+    ∷ (0x1000_0080 ∷ strands 127) is fault 128
+    ∷ (0x1000_0080 ∷ strands 128) is configuration 128
+    ∷ (0x1000_0080 ∷ strands 129) is fault 129
+    ∷ (0x1000_0080 ∷ strands 200) is fault 129
+    ∷ []
+
+abbrev answerTo : Case → ReadFigures
+answerTo c = readFigures singles (c .words) (replicate 128 0)
+
+pub cases-right : map answerTo cases ≡ map (λ c. c .figures) cases
+unfolding readFigures isDeck begins follow positions misfitOf firstIndex beginnings configurationOf laidOut
+cases-right = refl
