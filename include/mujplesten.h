@@ -10,12 +10,15 @@
  *
  * Replies. A function that ends in _reply answers 0, or the number for which the call is refused:
  *
- *    1 size     a sequence of more than 256 bytes
+ *    1 size     a sequence of more than 256 bytes; a lent slice of another length; more than 128
+ *               entries
  *    2 base     a byte other than a, c, g, t in either case
  *    3 short    a single sequence of fewer than 2 bases
  *    4 unequal  paired sequences of different length
  *    5 loop     a loop kind other than 0, 1, 2, or a loop length that the table lacks
- *    9 range    an excess temperature or a kelvin not finite or outside its range
+ *    9 range    an excess temperature or a kelvin not finite or outside its range; an entry of a
+ *               configuration above 63
+ *   14 deck     a stored configuration that breaks the word rules; it also gives the place
  *
  * If several apply, the lowest is given. Every other function answers a double as its 64 bits; on a
  * refusal all bits are 0. Every function works out its whole call anew and keeps nothing.
@@ -64,6 +67,17 @@ uint32_t mj_ambient_reply(double kelvin);
 uint64_t mj_ambient_rt(double kelvin);
 uint64_t mj_ambient_strand_excess(double kelvin);
 uint64_t mj_ambient_scaffold_excess(double kelvin);
+
+/* Stored configurations. Reading takes a deck of n words and is lent 128 entries, of which it fills
+ * as many as there are positions; writing takes the n entries of a configuration, 0 to 128, and is
+ * lent 129 words. What lies past the result is kept, and on a refusal all is. Each function works
+ * out its whole call and leaves the same behind; the counts are 0 on a refusal, and the place of a
+ * fault is given with reply 14 alone, and otherwise 0. Replies 1, 14 and 1, 9. */
+uint32_t mj_deck_read_reply(const uint32_t *words, size_t n, uint8_t *entries, size_t lent);
+size_t mj_deck_read_count(const uint32_t *words, size_t n, uint8_t *entries, size_t lent);
+size_t mj_deck_read_place(const uint32_t *words, size_t n, uint8_t *entries, size_t lent);
+uint32_t mj_deck_write_reply(const uint8_t *configuration, size_t n, uint32_t *words, size_t lent);
+size_t mj_deck_write_count(const uint8_t *configuration, size_t n, uint32_t *words, size_t lent);
 
 #ifdef __cplusplus
 }

@@ -5,9 +5,13 @@
 //! hand over a slice as a pointer and a length. The pointer of an empty slice is dangling but
 //! never null.
 
+mod deck;
 mod sequences;
 mod temperature;
 
+pub use deck::{
+    deck_read_count, deck_read_place, deck_read_reply, deck_write_count, deck_write_reply,
+};
 pub use sequences::{
     loop_dg, loop_reply, pair_dg, pair_ds, pair_reply, pair_strength, pair_strength_reply,
     sequence_dg, sequence_ds, sequence_reply, sequence_strength, sequence_strength_reply,

@@ -142,6 +142,33 @@ static void ambients(void)
     }
 }
 
+static void decks(void)
+{
+    static const uint32_t deck[] = {0x10000004, 0x20000001, 0x30000002, 0x20000002};
+    static const uint32_t faulty[] = {0x10000002, 0x30000001, 0x30000001};
+    static const uint8_t configuration[] = {1, 0, 0, 2};
+    uint8_t entries[128];
+    uint32_t words[129];
+    memset(entries, 0xa5, sizeof entries);
+    memset(words, 0xa5, sizeof words);
+    reply("a faulty deck", mj_deck_read_reply(faulty, 3, entries, 128), 14);
+    count("its place", mj_deck_read_place(faulty, 3, entries, 128) == 2);
+    count("its count", mj_deck_read_count(faulty, 3, entries, 128) == 0);
+    reply("too few entries", mj_deck_read_reply(deck, 4, entries, 127), 1);
+    count("entries are kept", entries[0] == 0xa5);
+    reply("a deck", mj_deck_read_reply(deck, 4, entries, 128), 0);
+    count("its count", mj_deck_read_count(deck, 4, entries, 128) == 4);
+    count("its place", mj_deck_read_place(deck, 4, entries, 128) == 0);
+    count("its configuration", memcmp(entries, configuration, 4) == 0 && entries[4] == 0xa5);
+    entries[0] = 64;
+    reply("a strand of 64", mj_deck_write_reply(entries, 1, words, 129), 9);
+    count("its count", mj_deck_write_count(entries, 1, words, 129) == 0);
+    count("words are kept", words[0] == 0xa5a5a5a5);
+    reply("a configuration", mj_deck_write_reply(configuration, 4, words, 129), 0);
+    count("its count", mj_deck_write_count(configuration, 4, words, 129) == 4);
+    count("its deck", memcmp(words, deck, sizeof deck) == 0 && words[4] == 0xa5a5a5a5);
+}
+
 int main(void)
 {
     memset(many, 'g', sizeof many);
@@ -150,6 +177,7 @@ int main(void)
     loops();
     strengths();
     ambients();
+    decks();
     printf("client: %u passed, %u failed\n", passed, failed);
     return failed == 0 ? 0 : 1;
 }

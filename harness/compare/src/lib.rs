@@ -5,11 +5,12 @@
 //! * `judge`: document 01's refusals, written from the document alone.
 //! * `question`: what is asked and expected, and when an answer differs.
 //! * `comparison`, `program`, `tally`: the run.
-//! * `random`, `bases`, `doubles`: what the generators draw from.
+//! * `random`, `bases`, `doubles`, `decks`: what the generators draw from.
 //! * `replay`: the fixed list of answers for the Rattle program of that name.
 
 pub mod bases;
 pub mod comparison;
+pub mod decks;
 pub mod doubles;
 pub mod judge;
 pub mod kinds;

@@ -1,6 +1,7 @@
 //! The port: answers the oracle's lines (../../oracle/PROTOCOL.md) through the C functions of the
 //! Rattle crate `exports`, with `refused N` where it refuses. It works out nothing by itself.
 
+mod deck;
 mod sequences;
 mod temperature;
 
@@ -14,6 +15,7 @@ fn answer(words: Words) -> Result<Reply, Complaint> {
     match words[0] {
         "seq" | "pair" | "loop" | "strengthx" => sequences::answer(words),
         "ambient" => temperature::answer(words),
+        "deck.read" | "deck.write" => deck::answer(words),
         other => Err(format!("no such line {other}")),
     }
 }

@@ -39,6 +39,7 @@ fn main() -> ExitCode {
     loops(&mut checks);
     strengths(&mut checks);
     ambients(&mut checks);
+    decks(&mut checks);
     println!("client: {} passed, {} failed", checks.passed, checks.failed);
     if checks.failed == 0 {
         ExitCode::SUCCESS
@@ -147,4 +148,31 @@ fn ambients(checks: &mut Checks) {
             0.0,
         );
     }
+}
+
+fn decks(checks: &mut Checks) {
+    let deck = [0x1000_0004, 0x2000_0001, 0x3000_0002, 0x2000_0002];
+    let faulty = [0x1000_0002, 0x3000_0001, 0x3000_0001];
+    let mut entries = [0xa5; 128];
+    let faulty_reply = mj::deck_read_reply(&faulty, &mut entries);
+    checks.reply("a faulty deck", faulty_reply, 14);
+    let place = mj::deck_read_place(&faulty, &mut entries);
+    checks.count("its place", place == 2, format!("{place}, not 2"));
+    let short = mj::deck_read_reply(&deck, &mut entries[..127]);
+    checks.reply("too few entries", short, 1);
+    checks.count("entries", entries == [0xa5; 128], "not kept".to_string());
+    checks.reply("a deck", mj::deck_read_reply(&deck, &mut entries), 0);
+    let count = mj::deck_read_count(&deck, &mut entries);
+    checks.count("its count", count == 4, format!("{count}, not 4"));
+    let read = entries[..5] == [1, 0, 0, 2, 0xa5];
+    checks.count("its configuration", read, format!("{:?}", &entries[..5]));
+    let mut words = [u32::MAX; 129];
+    checks.reply("a strand of 64", mj::deck_write_reply(&[64], &mut words), 9);
+    checks.count("words", words == [u32::MAX; 129], "not kept".to_string());
+    let number = mj::deck_write_reply(&[1, 0, 0, 2], &mut words);
+    checks.reply("a configuration", number, 0);
+    let count = mj::deck_write_count(&[1, 0, 0, 2], &mut words);
+    checks.count("its count", count == 4, format!("{count}, not 4"));
+    let written = words[..4] == deck && words[4] == u32::MAX;
+    checks.count("its deck", written, format!("{:x?}", &words[..5]));
 }

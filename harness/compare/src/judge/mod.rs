@@ -3,6 +3,7 @@
 //! Written from documents 01 and CALLS.md alone, never from the port or from rgrow: where port
 //! and judge agree, two readings of the document agree. It works out no energy.
 
+pub mod deck;
 pub mod sequences;
 pub mod temperature;
 

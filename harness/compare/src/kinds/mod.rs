@@ -1,6 +1,7 @@
 //! The kinds of lines. A new kind is a file here, an entry in `all`, and a judge.
 
 pub mod ambient;
+pub mod deck;
 pub mod loops;
 pub mod pair;
 pub mod sequence;
@@ -44,5 +45,6 @@ pub fn all() -> Vec<Box<dyn Kind>> {
         Box::new(loops::Loops),
         Box::new(strength::Strengths),
         Box::new(ambient::Ambients),
+        Box::new(deck::Decks),
     ]
 }
