@@ -1,2 +1,6 @@
 pub mod Find
 pub mod Map
+pub mod Build
+pub mod Any
+pub mod Keep
+pub mod Front

@@ -1,2 +1,4 @@
 pub mod Find
 pub mod Fold
+pub mod Build
+pub mod Order
