@@ -1,13 +1,15 @@
 -- A test that some element of a list passes, or none. Assumes nothing.
-use mathlib.Core.Path.{_≡_, refl}
+use mathlib.Core.Path.{_≡_, refl, sym, _∙_}
 use mathlib.Core.Bool.{Bool, true, false, _||_}
 use mathlib.Core.List.{List, [], _∷_}
-use Prim.Native.Nat.{ℕ, zero, suc, _<_}
+use Prim.Native.Nat.{ℕ, zero, suc, _<_, _≤_}
 use native.Mathlib.Nat.{le-of-suc-le-suc, not-suc-le-zero}
 use native.Mathlib.Omega.{arith}
 use lib.ListN.{length, getD}
-use Rattle.lists.specs.Find.{any}
+use borrow.Author.Tests.{lt-ltb, le-ltb}
+use Rattle.lists.specs.Find.{any, firstIndex}
 use Rattle.lists.specs.Build.{upTo}
+use Rattle.lists.proofs.Find.{first-any}
 use Rattle.lists.proofs.Build.{length-tabulate, getD-tabulate}
 
 -- what a disjunction that fails tells
@@ -36,3 +38,11 @@ module _ (p : ℕ → Bool) (n : ℕ) where
 
   pub all-below : ((k : ℕ) → k < n → p k ≡ false) → any p (upTo n) ≡ false
   all-below h = all-fail p 0 (upTo n) (λ k l. let m : k < n = rw (length-tabulate n (λ j. j)) at l in rw (getD-tabulate n (λ j. j) 0 k m) (h k m))
+
+-- a program that looked for the first that passes, and compares its place with the length
+module _ {A : Type 0} (p : A → Bool) (xs : List A) {r : ℕ} (e : r ≡ firstIndex p xs) where
+  pub found : r < length xs → any p xs ≡ true
+  found h = sym (first-any p xs) ∙ lt-ltb _ _ (rw e at h)
+
+  pub not-found : length xs ≤ r → any p xs ≡ false
+  not-found h = sym (first-any p xs) ∙ le-ltb _ _ (rw e at h)

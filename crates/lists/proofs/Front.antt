@@ -46,3 +46,11 @@ module _ {A : Type 0} where
       let n : drop k before ≡ [] = drop-of-length-le before h in
       let e : whole ≡ w .written = w .splits ∙ append-nil (w .written) in
       rw (w .is, e, n) (append-nil (w .written))
+
+  -- where the branches of a loop meet: one that wrote, and one that did not
+  pub front-step : {before whole left rest : List A} {k k' : ℕ} {now now' : List A} {x : A} → Front before whole left k now → left ≡ x ∷ rest → k < length before
+    → now' ≡ set now k x → k' ≡ k + 1 → Front before whole rest k' now'
+  front-step w split h e f = let v = rw split at w in rw (e, f) (front-more v h)
+
+  pub front-same : {before whole left left' : List A} {k k' : ℕ} {now now' : List A} → Front before whole left k now → left ≡ left' → now' ≡ now → k' ≡ k → Front before whole left' k' now'
+  front-same w same e f = let v = rw same at w in rw (e, f) v

@@ -11,8 +11,9 @@ use Rattle.doubles.specs.Decimal.{plus, minus, nearest}
 use Rattle.doubles.specs.Range.{within}
 use Rattle.reply.specs.First.{Check, _if_}
 use Rattle.reply.specs.declared.Refusal.the-variants.{WrongSize, OutOfRange, NullBinds, NotAFriend, TooManyStates, RankTooHigh}
+use Rattle.units.specs.declared.Ambient.{Ambient}
 use Rattle.model.specs.States.{count}
-use Rattle.sdc1d.specs.Design.{Design, positions, strands, west, bottom, east, potential, binds, isFriend, modelOf}
+use Rattle.sdc1d.specs.Design.{Design, positions, strands, west, bottom, east, potential, binding, isFriend, modelOf}
 
 -- ---- size
 
@@ -48,16 +49,16 @@ abbrev pub beyond : ℕ → Float → Bool
 beyond most = outside (nearest (minus most 0)) (nearest (plus most 0))
 
 -- dG cells ±1,024 kcal/mol; dS cells ±8 kcal/mol/K
-unfoldable pub cellsOut : Design → Bool
+unfoldable pub cellsOut : List Float → List Float → Bool
 unfolding any nearest
-cellsOut d = any (beyond 1024) (d .dg) || any (beyond 8) (d .ds)
+cellsOut dg ds = any (beyond 1024) dg || any (beyond 8) ds
 
 -- RT 1/8 to 8; excess temperatures ±1,024
-unfoldable pub ambientOut : Design → Bool
+unfoldable pub ambientOut : Ambient → Bool
 unfolding nearest
-ambientOut d =
-    outside (nearest (plus 125 3)) (nearest (plus 8 0)) (d .ambient .rt .0)
-    || (beyond 1024 (d .ambient .«strand_excess» .0) || beyond 1024 (d .ambient .«scaffold_excess» .0))
+ambientOut ambient =
+    outside (nearest (plus 125 3)) (nearest (plus 8 0)) (ambient .rt .0)
+    || (beyond 1024 (ambient .«strand_excess» .0) || beyond 1024 (ambient .«scaffold_excess» .0))
 
 abbrev pub befriends : Design → ℕ → ℕ → Bool
 befriends d strand i = isFriend d i strand
@@ -80,12 +81,12 @@ potentialsOut d = any (unfit d) (upTo (strands d))
 abbrev pub nullGlued : Design → Bool
 nullGlued d = not (eqb (west d 0) 0) || (not (eqb (bottom d 0) 0) || not (eqb (east d 0) 0))
 
-abbrev pub bindsNull : Design → ℕ → Bool
-bindsNull d glue = binds d 0 glue || binds d glue 0
+abbrev pub nullCells : List Float → List Float → ℕ → Bool
+nullCells dg ds glue = binding dg ds 0 glue || binding dg ds glue 0
 
 unfoldable pub nullBinds : Design → Bool
 unfolding any tabulate
-nullBinds d = nullGlued d || any (bindsNull d) (upTo 64)
+nullBinds d = nullGlued d || any (nullCells (d .dg) (d .ds)) (upTo 64)
 
 -- ---- stranger: a configuration holds, at some position, neither 0 nor a friend; a number that is no strand is no friend
 
@@ -113,8 +114,8 @@ rankTooHigh d rank = leb (count (modelOf d)) rank
 abbrev pub designChecks : Bool → Design → List Check → List Check
 designChecks ownSize d own =
     WrongSize if (ownSize || wrongSizes d)
-    ∷ OutOfRange if cellsOut d
-    ∷ OutOfRange if ambientOut d
+    ∷ OutOfRange if cellsOut (d .dg) (d .ds)
+    ∷ OutOfRange if ambientOut (d .ambient)
     ∷ OutOfRange if potentialsOut d
     ∷ NullBinds if nullBinds d
     ∷ own

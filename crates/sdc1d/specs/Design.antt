@@ -3,7 +3,7 @@ use mathlib.Core.Bool.{Bool, _||_}
 use mathlib.Core.List.{List}
 use Prim.Native.Nat.{ℕ, _+_, _*_}
 use lib.ListN.{length, getD}
-use lib.Ieee.{Float, binary64, sub, mul, div, ne}
+use lib.Ieee.{Float, nan, binary64, sub, mul, div, ne}
 use denote.Ref.{RefT, now}
 use Rattle.lists.specs.Build.{tabulate, upTo, keep}
 use Rattle.doubles.specs.Decimal.{zero}
@@ -22,10 +22,13 @@ pub record Design : Type 0 where
   pub potentials : List Float
   pub ambient : Ambient
 
+abbrev pub design : List ℕ → List ℕ → List Float → List Float → List Float → Ambient → Design
+design scaffold glues dg ds potentials ambient =
+    record { scaffold = scaffold; glues = glues; dg = dg; ds = ds; potentials = potentials; ambient = ambient }
+
 -- the design that a call is lent
 abbrev pub lent : RefT (List ℕ) → RefT (List ℕ) → RefT (List Float) → RefT (List Float) → RefT (List Float) → Ambient → Design
-lent scaffold glues dg ds potentials ambient =
-    record { scaffold = now scaffold; glues = now glues; dg = now dg; ds = now ds; potentials = now potentials; ambient = ambient }
+lent scaffold glues dg ds potentials ambient = design (now scaffold) (now glues) (now dg) (now ds) (now potentials) ambient
 
 abbrev pub positions : Design → ℕ
 positions d = length (d .scaffold)
@@ -37,21 +40,25 @@ strands d = length (d .potentials)
 abbrev pub scaffoldGlue : Design → ℕ → ℕ
 scaffoldGlue d i = getD (d .scaffold) i 0
 
+-- the glue of a strand at a side: west 0, bottom 1, east 2
+abbrev pub glue : Design → ℕ → ℕ → ℕ
+glue d strand side = getD (d .glues) (3 * strand + side) 0
+
 abbrev pub west : Design → ℕ → ℕ
-west d strand = getD (d .glues) (3 * strand) 0
+west d strand = glue d strand 0
 
 abbrev pub bottom : Design → ℕ → ℕ
-bottom d strand = getD (d .glues) (3 * strand + 1) 0
+bottom d strand = glue d strand 1
 
 abbrev pub east : Design → ℕ → ℕ
-east d strand = getD (d .glues) (3 * strand + 2) 0
+east d strand = glue d strand 2
 
 abbrev pub potential : Design → ℕ → Float
-potential d strand = getD (d .potentials) strand zero
+potential d strand = getD (d .potentials) strand nan
 
 -- the cell [row][column] of a glue table
 abbrev pub cell : List Float → ℕ → ℕ → Float
-cell table row column = getD table (row * 64 + column) zero
+cell table row column = getD table (row * 64 + column) nan
 
 -- ---- bonds
 
@@ -71,12 +78,12 @@ scaffoldBond d i strand =
 -- ---- friends
 
 -- dG or dS is nonzero at a cell; −0.0 is zero
-abbrev pub binds : Design → ℕ → ℕ → Bool
-binds d row column = ne (cell (d .dg) row column) zero || ne (cell (d .ds) row column) zero
+abbrev pub binding : List Float → List Float → ℕ → ℕ → Bool
+binding dg ds row column = ne (cell dg row column) zero || ne (cell ds row column) zero
 
 -- Document 01's friend: a strand whose dG or dS at [scaffold glue][bottom glue] is nonzero. Strand 0 is asked like any other.
 unfoldable pub isFriend : Design → ℕ → ℕ → Bool
-isFriend d i strand = binds d (scaffoldGlue d i) (bottom d strand)
+isFriend d i strand = binding (d .dg) (d .ds) (scaffoldGlue d i) (bottom d strand)
 
 -- the friends at a position, in rising order
 unfoldable pub friendsOf : Design → ℕ → List ℕ

@@ -1,3 +1,4 @@
 pub mod Design
 pub mod Checks
 pub mod Answers
+pub mod Sized

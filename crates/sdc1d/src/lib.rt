@@ -2,6 +2,10 @@
 //
 // What the Rust reads off `self` is lent in six parameters, in one order: the scaffold's glues, three glues for each strand, the dG and the dS
 // table, a potential for each strand, and the ambient.
+pub mod bonds;
+pub mod checks;
+mod friends;
+
 use reply::{Place, Refusal};
 use units::KcalPerMol;
 
