@@ -1,3 +1,4 @@
 pub mod Cells
 pub mod Options
 pub mod Sizes
+pub mod Replies

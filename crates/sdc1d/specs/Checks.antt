@@ -1,4 +1,5 @@
 -- The conditions on which a design, or what is asked of it, is refused, and each call's checks.
+use mathlib.Core.Path.{_≡_}
 use mathlib.Core.Bool.{Bool, not, false, _&&_, _||_}
 use mathlib.Core.List.{List, [], _∷_}
 use Prim.Native.Nat.{ℕ, _*_}
@@ -90,8 +91,11 @@ nullBinds d = nullGlued d || any (nullCells (d .dg) (d .ds)) (upTo 64)
 
 -- ---- stranger: a configuration holds, at some position, neither 0 nor a friend; a number that is no strand is no friend
 
+abbrev pub noFriend : Design → ℕ → ℕ → Bool
+noFriend d i occupant = not (eqb occupant 0) && not (ltb occupant (strands d) && isFriend d i occupant)
+
 abbrev pub stranger : Design → List ℕ → ℕ → Bool
-stranger d s i = not (eqb (getD s i 0) 0) && not (ltb (getD s i 0) (strands d) && isFriend d i (getD s i 0))
+stranger d s i = noFriend d i (getD s i 0)
 
 unfoldable pub strangers : Design → List ℕ → Bool
 unfolding any tabulate isFriend
@@ -106,6 +110,15 @@ tooManyStates d = ltb 1048576 (count (modelOf d))
 -- at or above the number of states
 abbrev pub rankTooHigh : Design → ℕ → Bool
 rankTooHigh d rank = leb (count (modelOf d)) rank
+
+-- ---- a design is admitted if no condition on which the table refuses the search holds
+
+pub record Admitted (d : Design) : Type 0 where
+  pub sizes : wrongSizes d ≡ false
+  pub cells : cellsOut (d .dg) (d .ds) ≡ false
+  pub ambient : ambientOut (d .ambient) ≡ false
+  pub potentials : potentialsOut d ≡ false
+  pub null : nullBinds d ≡ false
 
 -- ---- the checks of each call, sorted by number
 

@@ -5,6 +5,7 @@ use reply::{Refusal, Reply};
 use units::Ambient;
 
 ghost use mathlib.Core.Path.{_≡_};
+ghost use mathlib.Core.Bool.{false};
 ghost use mathlib.Core.List.{[]};
 ghost use Prim.Native.Nat.{_<_};
 ghost use lib.ListN.{length};
@@ -164,9 +165,8 @@ fn null_binds(scaffold: &[u8], glues: &[u8], dg: &[f64], ds: &[f64], potentials:
     null_cells(dg, ds)
 }
 
-// The first check of a design that holds, where own_size says whether a size of the call's own is wrong.
+// The first check of a design that holds.
 pub fn design_reply(
-    own_size: bool,
     scaffold: &[u8],
     glues: &[u8],
     dg: &[f64],
@@ -174,11 +174,8 @@ pub fn design_reply(
     potentials: &[f64],
     ambient: Ambient,
 ) -> Reply
-    ensures { λ r. ⌜ r ≡ firstOf (designChecks «own_size» (lent (scaffold .entry) (glues .entry) (dg .entry) (ds .entry) (potentials .entry) ambient) []) ⌝ }
+    ensures { λ r. ⌜ r ≡ firstOf (designChecks false (lent (scaffold .entry) (glues .entry) (dg .entry) (ds .entry) (potentials .entry) ambient) []) ⌝ }
 {
-    if own_size {
-        return Reply::Refused(Refusal::WrongSize);
-    }
     if wrong_sizes(scaffold, glues, dg, ds, potentials, ambient) {
         return Reply::Refused(Refusal::WrongSize);
     }

@@ -6,8 +6,15 @@ pub mod bonds;
 pub mod checks;
 mod friends;
 
-use reply::{Place, Refusal};
-use units::KcalPerMol;
+use reply::{Place, Refusal, Reply};
+use units::{Ambient, KcalPerMol};
+
+ghost use mathlib.Core.Path.{_≡_};
+ghost use Rattle.sdc1d.specs.Design.{lent};
+ghost use Rattle.sdc1d.specs.Answers.{bondFigures, strandBondAnswer, scaffoldBondAnswer, friendsFigures, friendsAnswer, friendsEntries};
+
+// The entries that friends are written into: one for each strand that a design may have.
+const FRIENDS: usize = 64;
 
 // A bond is a plain number: an energy over RT.
 pub enum BondAnswer {
@@ -41,4 +48,86 @@ pub enum ChainAnswer {
     // The sum as it is, a plain number, and times RT.
     Energy(f64, KcalPerMol),
     Refused(Refusal, Place),
+}
+
+// The bond between strand x and strand y to the east of it.
+pub fn bond_between_strands(
+    scaffold: &[u8],
+    glues: &[u8],
+    dg: &[f64],
+    ds: &[f64],
+    potentials: &[f64],
+    ambient: Ambient,
+    x: usize,
+    y: usize,
+) -> BondAnswer
+    ensures { λ r. ⌜ bondFigures r ≡ strandBondAnswer (lent (scaffold .entry) (glues .entry) (dg .entry) (ds .entry) (potentials .entry) ambient) x y ⌝ }
+{
+    if potentials.len() <= x {
+        return BondAnswer::Refused(Refusal::WrongSize, Place::Nowhere);
+    }
+    if potentials.len() <= y {
+        return BondAnswer::Refused(Refusal::WrongSize, Place::Nowhere);
+    }
+    match checks::design_reply(scaffold, glues, dg, ds, potentials, ambient) {
+        Reply::Refused(refusal) => BondAnswer::Refused(refusal, Place::Nowhere),
+        Reply::Admitted => BondAnswer::Bond(bonds::strand_bond(
+            scaffold, glues, dg, ds, potentials, ambient, x, y,
+        )),
+    }
+}
+
+// The bond between the scaffold at a position and a strand.
+pub fn bond_with_scaffold(
+    scaffold: &[u8],
+    glues: &[u8],
+    dg: &[f64],
+    ds: &[f64],
+    potentials: &[f64],
+    ambient: Ambient,
+    position: usize,
+    strand: usize,
+) -> BondAnswer
+    ensures { λ r. ⌜ bondFigures r ≡ scaffoldBondAnswer (lent (scaffold .entry) (glues .entry) (dg .entry) (ds .entry) (potentials .entry) ambient) position strand ⌝ }
+{
+    if scaffold.len() <= position {
+        return BondAnswer::Refused(Refusal::WrongSize, Place::Nowhere);
+    }
+    if potentials.len() <= strand {
+        return BondAnswer::Refused(Refusal::WrongSize, Place::Nowhere);
+    }
+    match checks::design_reply(scaffold, glues, dg, ds, potentials, ambient) {
+        Reply::Refused(refusal) => BondAnswer::Refused(refusal, Place::Nowhere),
+        Reply::Admitted => BondAnswer::Bond(bonds::scaffold_bond(
+            scaffold, glues, dg, ds, potentials, ambient, position, strand,
+        )),
+    }
+}
+
+// The friends of a position, into 64 lent entries.
+pub fn friends_btm(
+    scaffold: &[u8],
+    glues: &[u8],
+    dg: &[f64],
+    ds: &[f64],
+    potentials: &[f64],
+    ambient: Ambient,
+    position: usize,
+    entries: &mut [u8],
+) -> FriendsAnswer
+    ensures { λ r. ⌜ friendsFigures r ≡ friendsAnswer (lent (scaffold .entry) (glues .entry) (dg .entry) (ds .entry) (potentials .entry) ambient) position (now (entries .entry)) ⌝ }
+    ensures { λ r. ⌜ now (entries .exit) ≡ friendsEntries (lent (scaffold .entry) (glues .entry) (dg .entry) (ds .entry) (potentials .entry) ambient) position (now (entries .entry)) ⌝ }
+{
+    if scaffold.len() <= position {
+        return FriendsAnswer::Refused(Refusal::WrongSize, Place::Nowhere);
+    }
+    if entries.len() != FRIENDS {
+        return FriendsAnswer::Refused(Refusal::WrongSize, Place::Nowhere);
+    }
+    match checks::design_reply(scaffold, glues, dg, ds, potentials, ambient) {
+        Reply::Refused(refusal) => FriendsAnswer::Refused(refusal, Place::Nowhere),
+        Reply::Admitted => FriendsAnswer::Friends(friends::write_friends(
+            scaffold, glues, dg, ds, potentials, ambient, position, entries,
+        )),
+    }
 }

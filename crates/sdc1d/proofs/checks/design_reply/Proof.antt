@@ -19,86 +19,81 @@ use Rattle.sdc1d.proofs.checks.first_unfit.Reads as first-unfit-reads
 use Rattle.sdc1d.proofs.checks.null_binds.Reads as null-binds-reads
 use Rattle.sdc1d.proofs.checks.wrong_sizes.Reads as wrong-sizes-reads
 
--- src/checks.rt:180:9
-returns : tie.Need-returns
-returns c = simp (c .if1 .taken)
-
 -- src/checks.rt:182:8
 wrong-sizes-requires : tie.Need-wrong-sizes-requires
 wrong-sizes-requires c κs = search needs
 
 -- src/checks.rt:183:9
-returns-2 : tie.Need-returns-2
-returns-2 c = simp (c .before .before .if1 .left, ← c .before .wrong-sizes .ensures, c .if2 .taken)
+returns : tie.Need-returns
+returns c = simp (← c .before .wrong-sizes .ensures, c .if1 .taken)
 
 -- src/checks.rt:185:8
 cells-out-requires : tie.Need-cells-out-requires
 cells-out-requires c κs = search needs
 
 -- src/checks.rt:186:9
-returns-3 : tie.Need-returns-3
-returns-3 c = simp (c .before .before .before .before .if1 .left, ← c .before .before .before .wrong-sizes .ensures, c .before .before .if2 .left, ← c .before .cells-out .ensures, c .if3 .taken)
+returns-2 : tie.Need-returns-2
+returns-2 c = simp (← c .before .before .before .wrong-sizes .ensures, c .before .before .if1 .left, ← c .before .cells-out .ensures, c .if2 .taken)
 
 -- src/checks.rt:188:8
 ambient-out-requires : tie.Need-ambient-out-requires
 ambient-out-requires c κs = search needs
 
 -- src/checks.rt:189:9
-returns-4 : tie.Need-returns-4
-returns-4 c =
-    simp (c .before .before .before .before .before .before .if1 .left, ← c .before .before .before .before .before .wrong-sizes .ensures, c .before .before .before .before .if2 .left, ← c .before .before .before .cells-out .ensures, c .before .before .if3 .left, ← c .before .ambient-out .ensures, c .if4 .taken)
+returns-3 : tie.Need-returns-3
+returns-3 c =
+    simp (← c .before .before .before .before .before .wrong-sizes .ensures, c .before .before .before .before .if1 .left, ← c .before .before .before .cells-out .ensures, c .before .before .if2 .left, ← c .before .ambient-out .ensures, c .if3 .taken)
 
 -- src/checks.rt:191:8
 first-unfit-requires : tie.Need-first-unfit-requires
-first-unfit-requires c κs = sized _ (sym (c .before .before .before .before .before .wrong-sizes .ensures) ∙ c .before .before .before .before .if2 .left)
+first-unfit-requires c κs = sized _ (sym (c .before .before .before .before .before .wrong-sizes .ensures) ∙ c .before .before .before .before .if1 .left)
 
 -- src/checks.rt:192:9
-returns-5 : tie.Need-returns-5
+returns-4 : tie.Need-returns-4
 unfolding potentialsOut
-returns-5 c =
-    let a = c .before .before .before .before .before .before .before .before .before .before .before .before .before .before .args in
+returns-4 c =
+    let a = c .before .before .before .before .before .before .before .before .before .before .before .before .before .args in
     let d : Design = lent (a .scaffold) (a .glues) (a .dg) (a .ds) (a .potentials) (a .ambient) in
     let n = length (a .potentials .now) in
-    let out = found (unfit d) (upTo n) (c .before .first-unfit .ensures) (rw (length-tabulate n (λ k. k)) (c .if5 .taken)) in
-    simp (c .before .before .before .before .before .before .before .before .if1 .left, ← c .before .before .before .before .before .before .before .wrong-sizes .ensures, c .before .before .before .before .before .before .if2 .left, ← c .before .before .before .before .before .cells-out .ensures, c .before .before .before .before .if3 .left, ← c .before .before .before .ambient-out .ensures, c .before .before .if4 .left, out)
+    let out = found (unfit d) (upTo n) (c .before .first-unfit .ensures) (rw (length-tabulate n (λ k. k)) (c .if4 .taken)) in
+    simp (← c .before .before .before .before .before .before .before .wrong-sizes .ensures, c .before .before .before .before .before .before .if1 .left, ← c .before .before .before .before .before .cells-out .ensures, c .before .before .before .before .if2 .left, ← c .before .before .before .ambient-out .ensures, c .before .before .if3 .left, out)
 
 -- src/checks.rt:194:8
 null-binds-requires : tie.Need-null-binds-requires
-null-binds-requires c κs = sized _ (sym (c .before .before .before .before .before .before .before .wrong-sizes .ensures) ∙ c .before .before .before .before .before .before .if2 .left)
+null-binds-requires c κs = sized _ (sym (c .before .before .before .before .before .before .before .wrong-sizes .ensures) ∙ c .before .before .before .before .before .before .if1 .left)
 
 -- src/checks.rt:195:9
+returns-5 : tie.Need-returns-5
+unfolding potentialsOut
+returns-5 c =
+    let a = c .before .before .before .before .before .before .before .before .before .before .before .before .before .before .before .args in
+    let d : Design = lent (a .scaffold) (a .glues) (a .dg) (a .ds) (a .potentials) (a .ambient) in
+    let n = length (a .potentials .now) in
+    let fit = not-found (unfit d) (upTo n) (c .before .before .before .first-unfit .ensures) (rw (length-tabulate n (λ k. k)) (c .before .before .if4 .left)) in
+    simp (← c .before .before .before .before .before .before .before .before .before .wrong-sizes .ensures, c .before .before .before .before .before .before .before .before .if1 .left, ← c .before .before .before .before .before .before .before .cells-out .ensures, c .before .before .before .before .before .before .if2 .left, ← c .before .before .before .before .before .ambient-out .ensures, c .before .before .before .before .if3 .left, fit, ← c .before .null-binds .ensures, c .if5 .taken)
+
+-- src/checks.rt:168:1
 returns-6 : tie.Need-returns-6
 unfolding potentialsOut
 returns-6 c =
-    let a = c .before .before .before .before .before .before .before .before .before .before .before .before .before .before .before .before .args in
+    let a = c .before .before .before .before .before .before .before .before .before .before .before .before .before .before .before .args in
     let d : Design = lent (a .scaffold) (a .glues) (a .dg) (a .ds) (a .potentials) (a .ambient) in
     let n = length (a .potentials .now) in
-    let fit = not-found (unfit d) (upTo n) (c .before .before .before .first-unfit .ensures) (rw (length-tabulate n (λ k. k)) (c .before .before .if5 .left)) in
-    simp (c .before .before .before .before .before .before .before .before .before .before .if1 .left, ← c .before .before .before .before .before .before .before .before .before .wrong-sizes .ensures, c .before .before .before .before .before .before .before .before .if2 .left, ← c .before .before .before .before .before .before .before .cells-out .ensures, c .before .before .before .before .before .before .if3 .left, ← c .before .before .before .before .before .ambient-out .ensures, c .before .before .before .before .if4 .left, fit, ← c .before .null-binds .ensures, c .if6 .taken)
-
--- src/checks.rt:168:1
-returns-7 : tie.Need-returns-7
-unfolding potentialsOut
-returns-7 c =
-    let a = c .before .before .before .before .before .before .before .before .before .before .before .before .before .before .before .before .args in
-    let d : Design = lent (a .scaffold) (a .glues) (a .dg) (a .ds) (a .potentials) (a .ambient) in
-    let n = length (a .potentials .now) in
-    let fit = not-found (unfit d) (upTo n) (c .before .before .before .first-unfit .ensures) (rw (length-tabulate n (λ k. k)) (c .before .before .if5 .left)) in
-    simp (c .before .before .before .before .before .before .before .before .before .before .if1 .left, ← c .before .before .before .before .before .before .before .before .before .wrong-sizes .ensures, c .before .before .before .before .before .before .before .before .if2 .left, ← c .before .before .before .before .before .before .before .cells-out .ensures, c .before .before .before .before .before .before .if3 .left, ← c .before .before .before .before .before .ambient-out .ensures, c .before .before .before .before .if4 .left, fit, ← c .before .null-binds .ensures, c .if6 .left)
+    let fit = not-found (unfit d) (upTo n) (c .before .before .before .first-unfit .ensures) (rw (length-tabulate n (λ k. k)) (c .before .before .if4 .left)) in
+    simp (← c .before .before .before .before .before .before .before .before .before .wrong-sizes .ensures, c .before .before .before .before .before .before .before .before .if1 .left, ← c .before .before .before .before .before .before .before .cells-out .ensures, c .before .before .before .before .before .before .if2 .left, ← c .before .before .before .before .before .ambient-out .ensures, c .before .before .before .before .if3 .left, fit, ← c .before .null-binds .ensures, c .if5 .left)
 
 pub design-reply-spec : {M : Type 1} → statement M
 design-reply-spec =
     tie.close
     (tie.spec
-    returns
     wrong-sizes-requires
-    returns-2
+    returns
     cells-out-requires
-    returns-3
+    returns-2
     ambient-out-requires
-    returns-4
+    returns-3
     first-unfit-requires
-    returns-5
+    returns-4
     null-binds-requires
-    returns-6
-    returns-7)
+    returns-5
+    returns-6)
