@@ -3,14 +3,14 @@
 use mathlib.Core.Bool.{Bool, cond}
 use mathlib.Core.List.{List, [], _∷_, _++_}
 use mathlib.Core.Option.{Option, none, some}
-use Prim.Native.Nat.{ℕ, suc}
+use Prim.Native.Nat.{ℕ, zero, suc}
 use lib.Dec.{eqb}
 use lib.ListN.{drop}
 use lib.Ieee.{Float, binary64, neg, mul, lt}
 use Rattle.lists.specs.Fold.{foldl}
-use Rattle.doubles.specs.Decimal.{zero}
+use Rattle.doubles.specs.Decimal as Decimal
 use Rattle.doubles.specs.Sum.{sumFrom}
-use Rattle.model.specs.Model.{Model}
+use Rattle.model.specs.Model.{Model, occupant}
 use Rattle.model.specs.States.{states, stateAt}
 
 -- an empty place adds no term
@@ -36,10 +36,15 @@ stateTerms m i (strand ∷ right) = statePlace m i strand right ++ stateTerms m 
 -- Document 01's state energy, the Rust's `g_system`: at the end times RT.
 unfoldable pub stateEnergy : Model → List ℕ → Float
 unfolding sumFrom stateTerms
-stateEnergy m s = mul binary64 (sumFrom zero (stateTerms m 0 s)) (m .rt)
+stateEnergy m s = mul binary64 (sumFrom Decimal.zero (stateTerms m 0 s)) (m .rt)
 
 -- ---- chain energy: for each nonempty place the strand bond from the left occupant (0 included, none at position 0), the scaffold
 -- ---- bond, and less the potential
+
+-- what stands to the left of a position
+abbrev pub leftOf : List ℕ → ℕ → Option ℕ
+leftOf s zero = none
+leftOf s (suc i) = some (occupant s i)
 
 abbrev pub fromLeft : Model → Option ℕ → ℕ → List Float
 fromLeft m none strand = []
@@ -57,7 +62,7 @@ chainTerms m i left (strand ∷ right) = chainPlace m i left strand ++ chainTerm
 -- Document 01's chain energy, from 0.0.
 unfoldable pub chainEnergy : Model → List ℕ → Float
 unfolding sumFrom chainTerms
-chainEnergy m s = sumFrom zero (chainTerms m 0 none s)
+chainEnergy m s = sumFrom Decimal.zero (chainTerms m 0 none s)
 
 -- RT times the chain energy: what the search and the walk compare
 unfoldable pub chainProduct : Model → List ℕ → Float

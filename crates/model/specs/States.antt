@@ -32,10 +32,14 @@ choiceAt (here ∷ later) rank = getD here (rank / choices later) 0 ∷ choiceAt
 abbrev pub states : Model → List (List ℕ)
 states m = listing (options m)
 
+-- a place is taken by one of its friends, or empty
+abbrev pub friendsPlusOne : List ℕ → ℕ
+friendsPlusOne friends = length friends + 1
+
 -- the number of states: the product of friends plus one
 unfoldable pub count : Model → ℕ
 unfolding product
-count m = product (map (λ (friends : List ℕ). length friends + 1) (m .friends))
+count m = product (map friendsPlusOne (m .friends))
 
 -- the state at a rank, counted from 0
 abbrev pub stateAt : Model → ℕ → List ℕ

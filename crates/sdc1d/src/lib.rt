@@ -4,14 +4,17 @@
 // table, a potential for each strand, and the ambient.
 pub mod bonds;
 pub mod checks;
+mod energies;
 mod friends;
+mod states;
 
 use reply::{Place, Refusal, Reply};
+use states::MOST_STATES;
 use units::{Ambient, KcalPerMol};
 
 ghost use mathlib.Core.Path.{_≡_};
 ghost use Rattle.sdc1d.specs.Design.{lent};
-ghost use Rattle.sdc1d.specs.Answers.{bondFigures, strandBondAnswer, scaffoldBondAnswer, friendsFigures, friendsAnswer, friendsEntries};
+ghost use Rattle.sdc1d.specs.Answers.{bondFigures, strandBondAnswer, scaffoldBondAnswer, friendsFigures, friendsAnswer, friendsEntries, countFigures, countAnswer, stateFigures, rankAnswer, rankEntries, energyFigures, stateEnergyAnswer, chainFigures, chainEnergyAnswer};
 
 // The entries that friends are written into: one for each strand that a design may have.
 const FRIENDS: usize = 64;
@@ -129,5 +132,127 @@ pub fn friends_btm(
         Reply::Admitted => FriendsAnswer::Friends(friends::write_friends(
             scaffold, glues, dg, ds, potentials, ambient, position, entries,
         )),
+    }
+}
+
+// How many states there are: the product of friends plus one.
+pub fn number_of_states(
+    scaffold: &[u8],
+    glues: &[u8],
+    dg: &[f64],
+    ds: &[f64],
+    potentials: &[f64],
+    ambient: Ambient,
+) -> CountAnswer
+    ensures { λ r. ⌜ countFigures r ≡ countAnswer (lent (scaffold .entry) (glues .entry) (dg .entry) (ds .entry) (potentials .entry) ambient) ⌝ }
+{
+    match checks::design_reply(scaffold, glues, dg, ds, potentials, ambient) {
+        Reply::Refused(refusal) => CountAnswer::Refused(refusal, Place::Nowhere),
+        Reply::Admitted => {
+            let count = states::state_count(scaffold, glues, dg, ds, potentials, ambient);
+            if MOST_STATES < count {
+                return CountAnswer::Refused(Refusal::TooManyStates, Place::Nowhere);
+            }
+            CountAnswer::States(count)
+        }
+    }
+}
+
+// The state at a rank in the order of `system_states`, into one lent entry for each position.
+pub fn state_at_rank(
+    scaffold: &[u8],
+    glues: &[u8],
+    dg: &[f64],
+    ds: &[f64],
+    potentials: &[f64],
+    ambient: Ambient,
+    rank: u64,
+    entries: &mut [u8],
+) -> StateAnswer
+    ensures { λ r. ⌜ stateFigures r ≡ rankAnswer (lent (scaffold .entry) (glues .entry) (dg .entry) (ds .entry) (potentials .entry) ambient) rank (now (entries .entry)) ⌝ }
+    ensures { λ r. ⌜ now (entries .exit) ≡ rankEntries (lent (scaffold .entry) (glues .entry) (dg .entry) (ds .entry) (potentials .entry) ambient) rank (now (entries .entry)) ⌝ }
+{
+    if entries.len() != scaffold.len() {
+        return StateAnswer::Refused(Refusal::WrongSize, Place::Nowhere);
+    }
+    match checks::design_reply(scaffold, glues, dg, ds, potentials, ambient) {
+        Reply::Refused(refusal) => StateAnswer::Refused(refusal, Place::Nowhere),
+        Reply::Admitted => {
+            let count = states::state_count(scaffold, glues, dg, ds, potentials, ambient);
+            if MOST_STATES < count {
+                return StateAnswer::Refused(Refusal::TooManyStates, Place::Nowhere);
+            }
+            if count <= rank {
+                return StateAnswer::Refused(Refusal::RankTooHigh, Place::Nowhere);
+            }
+            states::write_state(
+                scaffold, glues, dg, ds, potentials, ambient, count, rank, entries,
+            );
+            StateAnswer::Written
+        }
+    }
+}
+
+// The state energy of a configuration: one occupant for each position, 0 for an empty place.
+pub fn g_system(
+    scaffold: &[u8],
+    glues: &[u8],
+    dg: &[f64],
+    ds: &[f64],
+    potentials: &[f64],
+    ambient: Ambient,
+    attachments: &[u8],
+) -> EnergyAnswer
+    ensures { λ r. ⌜ energyFigures r ≡ stateEnergyAnswer (lent (scaffold .entry) (glues .entry) (dg .entry) (ds .entry) (potentials .entry) ambient) (now (attachments .entry)) ⌝ }
+{
+    if attachments.len() != scaffold.len() {
+        return EnergyAnswer::Refused(Refusal::WrongSize, Place::Nowhere);
+    }
+    match checks::design_reply(scaffold, glues, dg, ds, potentials, ambient) {
+        Reply::Refused(refusal) => EnergyAnswer::Refused(refusal, Place::Nowhere),
+        Reply::Admitted => {
+            let stranger = states::first_stranger(
+                scaffold, glues, dg, ds, potentials, ambient, attachments,
+            );
+            if stranger < scaffold.len() {
+                return EnergyAnswer::Refused(Refusal::NotAFriend, Place::Nowhere);
+            }
+            let sumg = energies::state_sum(
+                scaffold, glues, dg, ds, potentials, ambient, attachments,
+            );
+            EnergyAnswer::Energy(KcalPerMol(sumg * ambient.rt.0))
+        }
+    }
+}
+
+// The chain energy of a configuration, as it is and times RT.
+pub fn chain_energy(
+    scaffold: &[u8],
+    glues: &[u8],
+    dg: &[f64],
+    ds: &[f64],
+    potentials: &[f64],
+    ambient: Ambient,
+    configuration: &[u8],
+) -> ChainAnswer
+    ensures { λ r. ⌜ chainFigures r ≡ chainEnergyAnswer (lent (scaffold .entry) (glues .entry) (dg .entry) (ds .entry) (potentials .entry) ambient) (now (configuration .entry)) ⌝ }
+{
+    if configuration.len() != scaffold.len() {
+        return ChainAnswer::Refused(Refusal::WrongSize, Place::Nowhere);
+    }
+    match checks::design_reply(scaffold, glues, dg, ds, potentials, ambient) {
+        Reply::Refused(refusal) => ChainAnswer::Refused(refusal, Place::Nowhere),
+        Reply::Admitted => {
+            let stranger = states::first_stranger(
+                scaffold, glues, dg, ds, potentials, ambient, configuration,
+            );
+            if stranger < scaffold.len() {
+                return ChainAnswer::Refused(Refusal::NotAFriend, Place::Nowhere);
+            }
+            let sum = energies::chain_sum(
+                scaffold, glues, dg, ds, potentials, ambient, configuration,
+            );
+            ChainAnswer::Energy(sum, KcalPerMol(sum * ambient.rt.0))
+        }
     }
 }
