@@ -2,3 +2,4 @@ pub mod Cells
 pub mod Options
 pub mod Sizes
 pub mod Replies
+pub mod Counted
