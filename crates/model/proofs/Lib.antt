@@ -1,2 +1,4 @@
 pub mod Count
 pub mod Sums
+pub mod Choices
+pub mod Listing

@@ -1,3 +1,4 @@
 pub mod Model
 pub mod States
 pub mod Energy
+pub mod Listed
