@@ -1,1 +1,6 @@
 pub mod Sum
+pub mod Size
+pub mod Order
+pub mod Sums
+pub mod Products
+pub mod NegativeZero
