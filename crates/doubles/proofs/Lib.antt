@@ -4,3 +4,4 @@ pub mod Order
 pub mod Sums
 pub mod Products
 pub mod NegativeZero
+pub mod Bounds

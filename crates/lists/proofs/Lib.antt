@@ -4,3 +4,4 @@ pub mod Build
 pub mod Any
 pub mod Keep
 pub mod Front
+pub mod Each

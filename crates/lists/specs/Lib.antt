@@ -2,3 +2,4 @@ pub mod Find
 pub mod Fold
 pub mod Build
 pub mod Order
+pub mod Each

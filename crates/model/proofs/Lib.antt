@@ -2,3 +2,4 @@ pub mod Count
 pub mod Sums
 pub mod Choices
 pub mod Listing
+pub mod Bounds

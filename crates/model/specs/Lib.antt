@@ -2,3 +2,4 @@ pub mod Model
 pub mod States
 pub mod Energy
 pub mod Listed
+pub mod Bounds
