@@ -3,3 +3,5 @@ pub mod Options
 pub mod Sizes
 pub mod Replies
 pub mod Counted
+pub mod FriendLaws
+pub mod BoundLaws
