@@ -5,3 +5,4 @@ pub mod Replies
 pub mod Counted
 pub mod FriendLaws
 pub mod BoundLaws
+pub mod Lowest

@@ -3,3 +3,4 @@ pub mod Checks
 pub mod Answers
 pub mod Sized
 pub mod Laws
+pub mod Bench
