@@ -6,7 +6,7 @@ use Prim.Native.Nat.{ℕ, _+_, _*_}
 use lib.ListN.{getD}
 use lib.Ieee.{Float, nan, ne}
 use Rattle.doubles.specs.Decimal.{zero}
-use Rattle.sdc1d.specs.Design.{binding}
+use Rattle.design.specs.Design.{binding}
 
 module _ (dg ds : List Float) (row column at : ℕ) (is : at ≡ row * 64 + column) where
   pub binds-by-dg : ne (getD dg at nan) zero ≡ true → true ≡ binding dg ds row column

@@ -13,9 +13,9 @@ use Rattle.lists.specs.Build.{upTo}
 use Rattle.lists.specs.Find.{firstIndex}
 use Rattle.lists.proofs.Build.{length-tabulate}
 use Rattle.lists.proofs.Any.{none-below, found, not-found}
-use Rattle.sdc1d.specs.Design.{Design, positions, strands, isFriend}
-use Rattle.sdc1d.specs.Checks.{noFriend, stranger, strangers}
-use Rattle.sdc1d.specs.Sized.{Sized, Placed}
+use Rattle.design.specs.Design.{Design, positions, strands, isFriend}
+use Rattle.design.specs.Checks.{noFriend, stranger, strangers}
+use Rattle.design.specs.Sized.{Sized, Placed}
 
 module _ (n : ℕ) {r : ℕ} (held : r ≡ min n 1048577) where
   pub too-many : 1048576 < r → ltb 1048576 n ≡ true

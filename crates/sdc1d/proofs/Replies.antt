@@ -10,9 +10,9 @@ use Rattle.reply.specs.declared.Refusal.{Refusal}
 use Rattle.reply.specs.declared.Refusal.the-variants.{WrongSize, OutOfRange, NullBinds}
 use Rattle.reply.specs.declared.Reply.{Reply}
 use Rattle.reply.specs.declared.Reply.the-variants as Reply
-use Rattle.sdc1d.specs.Design.{Design}
-use Rattle.sdc1d.specs.Checks.{wrongSizes, cellsOut, ambientOut, potentialsOut, nullBinds, designChecks, Admitted}
-use Rattle.sdc1d.specs.Answers.{given, refused}
+use Rattle.design.specs.Design.{Design}
+use Rattle.design.specs.Checks.{wrongSizes, cellsOut, ambientOut, potentialsOut, nullBinds, designChecks, Admitted}
+use Rattle.design.specs.Answers.{given, refused}
 
 -- the first of the five that holds, and else what follows
 chain : Bool → Bool → Bool → Bool → Bool → Reply → Reply

@@ -5,8 +5,8 @@ use units::{Ambient, KcalPerMol, KcalPerMolKelvin, Kelvin};
 ghost use mathlib.Core.Path.{_≡_};
 ghost use Prim.Native.Nat.{_<_};
 ghost use lib.ListN.{length};
-ghost use Rattle.sdc1d.specs.Design.{cell, bondOf, lent, positions, strands, strandBond, scaffoldBond};
-ghost use Rattle.sdc1d.specs.Sized.{Sized};
+ghost use Rattle.design.specs.Design.{cell, bondOf, lent, positions, strands, strandBond, scaffoldBond};
+ghost use Rattle.design.specs.Sized.{Sized};
 
 // Which of a strand's three glues.
 pub(crate) const WEST_GLUE_INDEX: usize = 0;

@@ -12,9 +12,9 @@ ghost use lib.ListN.{length};
 ghost use Rattle.lists.specs.Build.{upTo};
 ghost use Rattle.lists.specs.Find.{any, firstIndex};
 ghost use Rattle.reply.specs.First.{firstOf};
-ghost use Rattle.sdc1d.specs.Design.{lent, strands, binding};
-ghost use Rattle.sdc1d.specs.Checks.{highGlue, outside, wrongSizes, cellsOut, ambientOut, unfit, potentialsOut, nullCells, nullBinds, designChecks};
-ghost use Rattle.sdc1d.specs.Sized.{Sized};
+ghost use Rattle.design.specs.Design.{lent, strands, binding};
+ghost use Rattle.design.specs.Checks.{highGlue, outside, wrongSizes, cellsOut, ambientOut, unfit, potentialsOut, nullCells, nullBinds, designChecks};
+ghost use Rattle.design.specs.Sized.{Sized};
 
 const POSITIONS: usize = 128;
 const STRANDS: usize = 64;

@@ -8,8 +8,8 @@ ghost use lib.ListN.{length, getD, drop};
 ghost use Rattle.doubles.specs.Decimal.{zero};
 ghost use Rattle.doubles.specs.Sum.{sumFrom};
 ghost use Rattle.model.specs.Energy.{statePlace, stateTerms, leftOf, chainPlace, chainEnergy};
-ghost use Rattle.sdc1d.specs.Design.{lent, positions, modelOf};
-ghost use Rattle.sdc1d.specs.Sized.{Sized, Placed};
+ghost use Rattle.design.specs.Design.{lent, positions, modelOf};
+ghost use Rattle.design.specs.Sized.{Sized, Placed};
 
 fn wide(occupant: u8) -> usize
     ensures { λ r. ⌜ r ≡ occupant ⌝ }

@@ -6,9 +6,9 @@ ghost use mathlib.Core.Path.{_≡_};
 ghost use mathlib.Core.List.{_++_};
 ghost use Prim.Native.Nat.{_+_, _*_, _<_, _≤_};
 ghost use lib.ListN.{length, getD, drop};
-ghost use Rattle.sdc1d.specs.Design.{lent, positions, strands, binding, isFriend, friendsOf};
-ghost use Rattle.sdc1d.specs.Checks.{somewhere};
-ghost use Rattle.sdc1d.specs.Sized.{Sized};
+ghost use Rattle.design.specs.Design.{lent, positions, strands, binding, isFriend, friendsOf};
+ghost use Rattle.design.specs.Checks.{somewhere};
+ghost use Rattle.design.specs.Sized.{Sized};
 
 // A glue table has a row and a column for each glue.
 const GLUES: usize = 64;

@@ -13,8 +13,9 @@ use states::MOST_STATES;
 use units::{Ambient, KcalPerMol};
 
 ghost use mathlib.Core.Path.{_≡_};
-ghost use Rattle.sdc1d.specs.Design.{lent};
-ghost use Rattle.sdc1d.specs.Answers.{bondFigures, strandBondAnswer, scaffoldBondAnswer, friendsFigures, friendsAnswer, friendsEntries, countFigures, countAnswer, stateFigures, rankAnswer, rankEntries, energyFigures, stateEnergyAnswer, chainFigures, chainEnergyAnswer};
+ghost use Rattle.design.specs.Design.{lent};
+ghost use Rattle.design.specs.Answers.{strandBondAnswer, scaffoldBondAnswer, friendsAnswer, friendsEntries, countAnswer, rankAnswer, rankEntries, stateEnergyAnswer, chainEnergyAnswer};
+ghost use Rattle.sdc1d.specs.Figures.{bondFigures, friendsFigures, countFigures, stateFigures, energyFigures, chainFigures};
 
 // The entries that friends are written into: one for each strand that a design may have.
 const FRIENDS: usize = 64;

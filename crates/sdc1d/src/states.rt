@@ -8,9 +8,9 @@ ghost use lib.ListN.{length};
 ghost use Rattle.lists.specs.Build.{upTo};
 ghost use Rattle.lists.specs.Find.{firstIndex};
 ghost use Rattle.model.specs.States.{count, stateAt};
-ghost use Rattle.sdc1d.specs.Design.{lent, positions, modelOf};
-ghost use Rattle.sdc1d.specs.Checks.{noFriend, stranger};
-ghost use Rattle.sdc1d.specs.Sized.{Sized};
+ghost use Rattle.design.specs.Design.{lent, positions, modelOf};
+ghost use Rattle.design.specs.Checks.{noFriend, stranger};
+ghost use Rattle.design.specs.Sized.{Sized};
 
 // The most states that are counted.
 pub(crate) const MOST_STATES: u64 = 1048576;

@@ -7,11 +7,11 @@ use lib.Dec.{leb}
 use borrow.Author.Tests.{le-leb, lt-leb}
 use Rattle.doubles.specs.Decimal.{zero}
 use Rattle.reply.specs.declared.Refusal.the-variants.{WrongSize}
-use Rattle.sdc1d.specs.Design.{Design, lent, strands, strandBond}
-use Rattle.sdc1d.specs.Checks.{noStrand}
-use Rattle.sdc1d.proofs.Sizes.{sized}
+use Rattle.design.specs.Design.{Design, lent, strands, strandBond}
+use Rattle.design.specs.Checks.{noStrand}
+use Rattle.design.proofs.Sizes.{sized}
 use Rattle.sdc1d.proofs.Replies.{admitted, own-size, design-refused, design-admitted, answered, turned-down}
-use Rattle.sdc1d.specs.Answers.{given}
+use Rattle.design.specs.Answers.{given}
 use Rattle.sdc1d.proofs.bond_between_strands.Statement.{statement}
 use Rattle.sdc1d.proofs.bond_between_strands.Tie as tie
 use Rattle.sdc1d.proofs.bond_between_strands.Reads as reads

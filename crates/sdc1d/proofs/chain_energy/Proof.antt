@@ -12,10 +12,10 @@ use Rattle.reply.specs.First.{Check, firstOf, _if_}
 use Rattle.reply.specs.declared.Refusal.the-variants.{WrongSize, NotAFriend}
 use Rattle.reply.specs.declared.Reply.the-variants.{Admitted, Refused}
 use Rattle.model.specs.Energy.{chainEnergy, chainProduct}
-use Rattle.sdc1d.specs.Design.{Design, lent, positions, modelOf}
-use Rattle.sdc1d.specs.Checks.{stranger, strangers}
-use Rattle.sdc1d.specs.Answers.{given, Chain, noChain}
-use Rattle.sdc1d.proofs.Sizes.{sized}
+use Rattle.design.specs.Design.{Design, lent, positions, modelOf}
+use Rattle.design.specs.Checks.{stranger, strangers}
+use Rattle.design.specs.Answers.{given, Chain, noChain}
+use Rattle.design.proofs.Sizes.{sized}
 use Rattle.sdc1d.proofs.Counted.{placed, is-stranger, no-stranger}
 use Rattle.sdc1d.proofs.Replies.{admitted, own-size, design-refused, design-admitted, answered, turned-down}
 use Rattle.sdc1d.proofs.chain_energy.Statement.{statement}

@@ -8,10 +8,10 @@ use lib.Dec.{leb, eqb}
 use lib.ListN.{length, drop}
 use borrow.Author.Tests.{le-leb, lt-leb, eq-eqb, ne-eqb}
 use Rattle.reply.specs.declared.Refusal.the-variants.{WrongSize}
-use Rattle.sdc1d.specs.Design.{Design, lent, friendsOf}
-use Rattle.sdc1d.specs.Checks.{noPosition}
-use Rattle.sdc1d.specs.Answers.{given}
-use Rattle.sdc1d.proofs.Sizes.{sized}
+use Rattle.design.specs.Design.{Design, lent, friendsOf}
+use Rattle.design.specs.Checks.{noPosition}
+use Rattle.design.specs.Answers.{given}
+use Rattle.design.proofs.Sizes.{sized}
 use Rattle.sdc1d.proofs.Replies.{admitted, own-size, design-refused, design-admitted, answered, turned-down, entries-written, entries-kept}
 use Rattle.sdc1d.proofs.friends_btm.Statement.{statement}
 use Rattle.sdc1d.proofs.friends_btm.Tie as tie

@@ -7,10 +7,10 @@ use Rattle.reply.specs.First.{Check, firstOf, _if_}
 use Rattle.reply.specs.declared.Refusal.the-variants.{TooManyStates}
 use Rattle.reply.specs.declared.Reply.the-variants.{Admitted, Refused}
 use Rattle.model.specs.States.{count}
-use Rattle.sdc1d.specs.Design.{Design, lent, modelOf}
-use Rattle.sdc1d.specs.Checks.{tooManyStates}
-use Rattle.sdc1d.specs.Answers.{given}
-use Rattle.sdc1d.proofs.Sizes.{sized}
+use Rattle.design.specs.Design.{Design, lent, modelOf}
+use Rattle.design.specs.Checks.{tooManyStates}
+use Rattle.design.specs.Answers.{given}
+use Rattle.design.proofs.Sizes.{sized}
 use Rattle.sdc1d.proofs.Counted.{too-many, not-too-many, counted}
 use Rattle.sdc1d.proofs.Replies.{admitted, design-refused, design-admitted, answered, turned-down}
 use Rattle.sdc1d.proofs.number_of_states.Statement.{statement}

@@ -12,9 +12,9 @@ use Rattle.reply.specs.First.{Check, firstOf, _if_}
 use Rattle.reply.specs.declared.Refusal.the-variants.{WrongSize, TooManyStates, RankTooHigh}
 use Rattle.reply.specs.declared.Reply.the-variants.{Admitted, Refused}
 use Rattle.model.specs.States.{count, stateAt}
-use Rattle.sdc1d.specs.Design.{Design, lent, positions, modelOf}
-use Rattle.sdc1d.specs.Checks.{tooManyStates, rankTooHigh}
-use Rattle.sdc1d.proofs.Sizes.{sized}
+use Rattle.design.specs.Design.{Design, lent, positions, modelOf}
+use Rattle.design.specs.Checks.{tooManyStates, rankTooHigh}
+use Rattle.design.proofs.Sizes.{sized}
 use Rattle.sdc1d.proofs.Counted.{too-many, not-too-many, counted}
 use Rattle.sdc1d.proofs.Replies.{admitted, own-size, design-refused, design-admitted, answered, turned-down, entries-written, entries-kept}
 use Rattle.sdc1d.proofs.state_at_rank.Statement.{statement}

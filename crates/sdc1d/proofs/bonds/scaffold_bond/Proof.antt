@@ -1,5 +1,5 @@
 use borrow.Author.Needs.{needs}
-use Rattle.sdc1d.specs.Design.{scaffoldBond}
+use Rattle.design.specs.Design.{scaffoldBond}
 use native.Mathlib.Omega.{arith}
 use Rattle.sdc1d.proofs.bonds.scaffold_bond.Statement.{statement}
 use Rattle.sdc1d.proofs.bonds.scaffold_bond.Tie as tie

@@ -1,5 +1,5 @@
 use borrow.Author.Needs.{needs}
-use Rattle.sdc1d.specs.Design.{strandBond}
+use Rattle.design.specs.Design.{strandBond}
 use native.Mathlib.Omega.{arith}
 use Rattle.sdc1d.proofs.bonds.strand_bond.Statement.{statement}
 use Rattle.sdc1d.proofs.bonds.strand_bond.Tie as tie

@@ -6,7 +6,7 @@ use lib.Ieee.{Float, neg, ofBits}
 use borrow.Author.Tests.{not-true, not-false}
 use Rattle.doubles.specs.Decimal.{nearest, plus, minus}
 use Rattle.doubles.specs.Range.{within}
-use Rattle.sdc1d.specs.Checks.{beyond, outside, ambientOut}
+use Rattle.design.specs.Checks.{beyond, outside, ambientOut}
 use Rattle.sdc1d.proofs.checks.ambient_out.Statement.{statement}
 use Rattle.sdc1d.proofs.checks.ambient_out.Tie as tie
 use Rattle.sdc1d.proofs.checks.ambient_out.Reads as reads

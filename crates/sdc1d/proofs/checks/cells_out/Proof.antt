@@ -5,7 +5,7 @@ use lib.Ieee.{neg, ofBits}
 use Rattle.doubles.specs.Decimal.{nearest}
 use Rattle.lists.proofs.Find.{first-any}
 use Rattle.lists.proofs.Any.{found, not-found}
-use Rattle.sdc1d.specs.Checks.{beyond, cellsOut}
+use Rattle.design.specs.Checks.{beyond, cellsOut}
 use Rattle.sdc1d.proofs.checks.cells_out.Statement.{statement}
 use Rattle.sdc1d.proofs.checks.cells_out.Tie as tie
 use Rattle.sdc1d.proofs.checks.cells_out.Reads as reads

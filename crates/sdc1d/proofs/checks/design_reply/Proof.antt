@@ -6,9 +6,9 @@ use lib.ListN.{length}
 use Rattle.lists.specs.Build.{upTo}
 use Rattle.lists.proofs.Build.{length-tabulate}
 use Rattle.lists.proofs.Any.{found, not-found}
-use Rattle.sdc1d.specs.Design.{Design, lent}
-use Rattle.sdc1d.specs.Checks.{unfit, potentialsOut}
-use Rattle.sdc1d.proofs.Sizes.{sized}
+use Rattle.design.specs.Design.{Design, lent}
+use Rattle.design.specs.Checks.{unfit, potentialsOut}
+use Rattle.design.proofs.Sizes.{sized}
 use Rattle.sdc1d.proofs.checks.design_reply.Statement.{statement}
 use Rattle.sdc1d.proofs.checks.design_reply.Tie as tie
 use Rattle.sdc1d.proofs.checks.design_reply.Reads as reads

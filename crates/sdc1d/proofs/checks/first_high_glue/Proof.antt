@@ -7,7 +7,7 @@ use borrow.Author.Needs.{needs}
 use borrow.Author.Tests.{lt-ltb, le-ltb}
 use Rattle.lists.specs.Find.{firstIndex}
 use Rattle.lists.proofs.Find.{first-here, first-later, first-past}
-use Rattle.sdc1d.specs.Checks.{highGlue}
+use Rattle.design.specs.Checks.{highGlue}
 use Rattle.sdc1d.proofs.checks.first_high_glue.Statement.{statement}
 use Rattle.sdc1d.proofs.checks.first_high_glue.Tie as tie
 use Rattle.sdc1d.proofs.checks.first_high_glue.Reads as reads

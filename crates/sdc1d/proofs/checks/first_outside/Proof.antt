@@ -10,7 +10,7 @@ use borrow.Author.Needs.{needs}
 use borrow.Author.Tests.{not-true, not-false}
 use Rattle.lists.specs.Find.{firstIndex}
 use Rattle.lists.proofs.Find.{first-here, first-later, first-past}
-use Rattle.sdc1d.specs.Checks.{outside}
+use Rattle.design.specs.Checks.{outside}
 use Rattle.sdc1d.proofs.checks.first_outside.Statement.{statement}
 use Rattle.sdc1d.proofs.checks.first_outside.Tie as tie
 use Rattle.sdc1d.proofs.checks.first_outside.Reads as reads

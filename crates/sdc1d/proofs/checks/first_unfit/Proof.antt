@@ -12,8 +12,8 @@ use Rattle.doubles.specs.Decimal.{nearest}
 use Rattle.lists.specs.Build.{upTo}
 use Rattle.lists.specs.Find.{firstIndex}
 use Rattle.lists.proofs.Build.{first-here, first-later, first-past}
-use Rattle.sdc1d.specs.Design.{Design, design, lent, potential}
-use Rattle.sdc1d.specs.Checks.{somewhere, beyond, unfit}
+use Rattle.design.specs.Design.{Design, design, lent, potential}
+use Rattle.design.specs.Checks.{somewhere, beyond, unfit}
 use Rattle.sdc1d.proofs.checks.first_unfit.Statement.{statement}
 use Rattle.sdc1d.proofs.checks.first_unfit.Tie as tie
 use Rattle.sdc1d.proofs.checks.first_unfit.Reads as reads

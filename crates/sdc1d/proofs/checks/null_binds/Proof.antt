@@ -2,7 +2,7 @@
 use borrow.Author.Needs.{needs}
 use native.Mathlib.Omega.{arith}
 use borrow.Author.Tests.{eq-eqb, ne-eqb}
-use Rattle.sdc1d.specs.Checks.{nullBinds}
+use Rattle.design.specs.Checks.{nullBinds}
 use Rattle.sdc1d.proofs.checks.null_binds.Statement.{statement}
 use Rattle.sdc1d.proofs.checks.null_binds.Tie as tie
 use Rattle.sdc1d.proofs.checks.null_binds.Reads as reads

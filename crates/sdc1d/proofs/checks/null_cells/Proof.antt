@@ -8,7 +8,7 @@ use borrow.Author.Needs.{needs}
 use Rattle.lists.specs.Build.{upTo}
 use Rattle.lists.specs.Find.{any}
 use Rattle.lists.proofs.Build.{any-here, any-later, any-past}
-use Rattle.sdc1d.specs.Checks.{nullCells}
+use Rattle.design.specs.Checks.{nullCells}
 use mathlib.Core.Path.{ap}
 use mathlib.Core.Bool.{Bool, true, false, _||_, or-true}
 use Rattle.sdc1d.proofs.checks.null_cells.Statement.{statement}

@@ -4,7 +4,7 @@ use mathlib.Core.Path.{_≡_, sym, ap, _∙_}
 use borrow.Author.Tests.{lt-ltb, le-ltb, eq-eqb, ne-eqb}
 use Rattle.lists.proofs.Find.{first-any}
 use Rattle.lists.proofs.Any.{found, not-found}
-use Rattle.sdc1d.specs.Checks.{highGlue, wrongSizes}
+use Rattle.design.specs.Checks.{highGlue, wrongSizes}
 use Rattle.sdc1d.proofs.checks.wrong_sizes.Statement.{statement}
 use Rattle.sdc1d.proofs.checks.wrong_sizes.Tie as tie
 use Rattle.sdc1d.proofs.checks.wrong_sizes.Reads as reads

@@ -9,7 +9,7 @@ use lib.ListN.{length, getD, drop, drop-of-length-le}
 use lib.Seq.{drop-cons}
 use lib.Ieee.{Float, nan}
 use Rattle.model.proofs.Sums.{place-empty, place-joined, place-last}
-use Rattle.sdc1d.specs.Design.{Design, lent, strandBond, scaffoldBond, modelOf}
+use Rattle.design.specs.Design.{Design, lent, strandBond, scaffoldBond, modelOf}
 use Rattle.sdc1d.proofs.energies.add_place.Statement.{statement}
 use Rattle.sdc1d.proofs.energies.add_place.Tie as tie
 use Rattle.sdc1d.proofs.energies.add_place.Reads as reads

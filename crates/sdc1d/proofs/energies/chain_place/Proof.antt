@@ -9,7 +9,7 @@ use lib.ListN.{length, getD}
 use lib.Ieee.{Float, nan}
 use Rattle.model.specs.Energy.{leftOf}
 use Rattle.model.proofs.Sums.{chain-empty, chain-joined, chain-first, left-before}
-use Rattle.sdc1d.specs.Design.{Design, lent, strandBond, scaffoldBond, modelOf}
+use Rattle.design.specs.Design.{Design, lent, strandBond, scaffoldBond, modelOf}
 use Rattle.sdc1d.proofs.energies.chain_place.Statement.{statement}
 use Rattle.sdc1d.proofs.energies.chain_place.Tie as tie
 use Rattle.sdc1d.proofs.energies.chain_place.Reads as reads

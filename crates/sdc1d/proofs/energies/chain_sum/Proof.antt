@@ -9,7 +9,7 @@ use borrow.Author.Needs.{needs}
 use Rattle.doubles.specs.Sum.{sumFrom}
 use Rattle.model.specs.Energy.{leftOf, chainTerms, chainEnergy}
 use Rattle.model.proofs.Sums.{chain-more, chain-done}
-use Rattle.sdc1d.specs.Design.{Design, design, lent, modelOf}
+use Rattle.design.specs.Design.{Design, design, lent, modelOf}
 use Rattle.sdc1d.proofs.energies.chain_sum.Statement.{statement}
 use Rattle.sdc1d.proofs.energies.chain_sum.Tie as tie
 use Rattle.sdc1d.proofs.energies.chain_sum.Reads as reads

@@ -9,7 +9,7 @@ use Rattle.doubles.specs.Decimal.{zero}
 use Rattle.doubles.specs.Sum.{sumFrom}
 use Rattle.model.specs.Energy.{stateTerms}
 use Rattle.model.proofs.Sums.{state-more, state-done}
-use Rattle.sdc1d.specs.Design.{Design, design, lent, modelOf}
+use Rattle.design.specs.Design.{Design, design, lent, modelOf}
 use Rattle.sdc1d.proofs.energies.state_sum.Statement.{statement}
 use Rattle.sdc1d.proofs.energies.state_sum.Tie as tie
 use Rattle.sdc1d.proofs.energies.state_sum.Reads as reads

@@ -9,7 +9,7 @@ use lib.ListN.{length, drop}
 use borrow.Author.Needs.{needs}
 use Rattle.lists.specs.Build.{upTo, keep}
 use Rattle.lists.proofs.Build.{keep-here, keep-later, keep-past}
-use Rattle.sdc1d.specs.Design.{Design, design, lent, isFriend, friendsOf}
+use Rattle.design.specs.Design.{Design, design, lent, isFriend, friendsOf}
 use Rattle.sdc1d.proofs.friends.friend_count.Statement.{statement}
 use Rattle.sdc1d.proofs.friends.friend_count.Tie as tie
 use Rattle.sdc1d.proofs.friends.friend_count.Reads as reads

@@ -1,5 +1,5 @@
 use borrow.Author.Needs.{needs}
-use Rattle.sdc1d.specs.Design.{isFriend}
+use Rattle.design.specs.Design.{isFriend}
 use native.Mathlib.Omega.{arith}
 use Rattle.sdc1d.proofs.friends.is_friend.Statement.{statement}
 use Rattle.sdc1d.proofs.friends.is_friend.Tie as tie

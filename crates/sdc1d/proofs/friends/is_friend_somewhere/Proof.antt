@@ -8,10 +8,10 @@ use borrow.Author.Needs.{needs}
 use Rattle.lists.specs.Build.{upTo}
 use Rattle.lists.specs.Find.{any}
 use Rattle.lists.proofs.Build.{any-here, any-later, any-past}
-use Rattle.sdc1d.specs.Design.{design, lent}
-use Rattle.sdc1d.specs.Checks.{befriends, somewhere}
+use Rattle.design.specs.Design.{design, lent}
+use Rattle.design.specs.Checks.{befriends, somewhere}
 use mathlib.Core.Path.{refl}
-use Rattle.sdc1d.specs.Design.{Design}
+use Rattle.design.specs.Design.{Design}
 use Rattle.sdc1d.proofs.friends.is_friend_somewhere.Statement.{statement}
 use Rattle.sdc1d.proofs.friends.is_friend_somewhere.Tie as tie
 use Rattle.sdc1d.proofs.friends.is_friend_somewhere.Reads as reads

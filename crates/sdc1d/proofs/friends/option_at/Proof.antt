@@ -9,7 +9,7 @@ use lib.ListN.{length, drop, getD}
 use borrow.Author.Needs.{needs}
 use Rattle.lists.specs.Build.{upTo, keep}
 use Rattle.lists.proofs.Build.{keep-here, keep-later, keep-past}
-use Rattle.sdc1d.specs.Design.{Design, design, lent, isFriend, friendsOf}
+use Rattle.design.specs.Design.{Design, design, lent, isFriend, friendsOf}
 use Rattle.sdc1d.proofs.Options.{getD-first, getD-next}
 use Rattle.sdc1d.proofs.friends.option_at.Statement.{statement}
 use Rattle.sdc1d.proofs.friends.option_at.Tie as tie

@@ -10,7 +10,7 @@ use borrow.Author.Needs.{needs}
 use Rattle.lists.specs.Build.{upTo, keep}
 use Rattle.lists.proofs.Build.{keep-here, keep-later, keep-past}
 use Rattle.lists.proofs.Front.{Front, front-none, front-length, front-more, front-whole, front-count}
-use Rattle.sdc1d.specs.Design.{Design, design, lent, isFriend, friendsOf}
+use Rattle.design.specs.Design.{Design, design, lent, isFriend, friendsOf}
 use Rattle.lists.proofs.Front.{front-step, front-same}
 use Rattle.sdc1d.proofs.friends.write_friends.Statement.{statement}
 use Rattle.sdc1d.proofs.friends.write_friends.Tie as tie

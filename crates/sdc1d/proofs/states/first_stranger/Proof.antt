@@ -8,8 +8,8 @@ use borrow.Author.Needs.{needs}
 use Rattle.lists.specs.Build.{upTo}
 use Rattle.lists.specs.Find.{firstIndex}
 use Rattle.lists.proofs.Build.{first-here, first-later, first-past}
-use Rattle.sdc1d.specs.Design.{Design, design, lent}
-use Rattle.sdc1d.specs.Checks.{stranger}
+use Rattle.design.specs.Design.{Design, design, lent}
+use Rattle.design.specs.Checks.{stranger}
 use Rattle.sdc1d.proofs.states.first_stranger.Statement.{statement}
 use Rattle.sdc1d.proofs.states.first_stranger.Tie as tie
 use Rattle.sdc1d.proofs.states.first_stranger.Reads as reads

@@ -11,7 +11,7 @@ use Rattle.lists.specs.Build.{tabulate}
 use Rattle.lists.proofs.Build.{drop-tabulate, tabulate-past}
 use Rattle.model.specs.States.{count}
 use Rattle.model.proofs.Count.{ways, ways-none, ways-more, ways-pos, held-more}
-use Rattle.sdc1d.specs.Design.{Design, design, lent, friendsOf, modelOf}
+use Rattle.design.specs.Design.{Design, design, lent, friendsOf, modelOf}
 use Rattle.sdc1d.proofs.states.state_count.Statement.{statement}
 use Rattle.sdc1d.proofs.states.state_count.Tie as tie
 use Rattle.sdc1d.proofs.states.state_count.Reads as reads

@@ -12,7 +12,7 @@ use Rattle.lists.proofs.Front.{Front, front-none, front-length, front-step, fro
 use Rattle.model.specs.Model.{optionsOf}
 use Rattle.model.specs.States.{count, choiceAt, stateAt}
 use Rattle.model.proofs.Count.{ways, ways-pos, ways-later, choiceAt-more}
-use Rattle.sdc1d.specs.Design.{Design, design, lent, friendsOf, modelOf}
+use Rattle.design.specs.Design.{Design, design, lent, friendsOf, modelOf}
 use Rattle.sdc1d.proofs.states.write_state.Statement.{statement}
 use Rattle.sdc1d.proofs.states.write_state.Tie as tie
 use Rattle.sdc1d.proofs.states.write_state.Reads as reads

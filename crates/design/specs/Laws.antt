@@ -12,8 +12,8 @@ use Rattle.doubles.specs.Decimal.{zero}
 use Rattle.lists.specs.Order.{Rising}
 use Rattle.model.specs.Model.{Friend, State, friendsAt}
 use Rattle.model.specs.Bounds.{Bounded}
-use Rattle.sdc1d.specs.Design.{Design, positions, strands, scaffoldGlue, bottom, cell, modelOf}
-use Rattle.sdc1d.specs.Checks.{Admitted, wrongSizes, strangers}
+use Rattle.design.specs.Design.{Design, positions, strands, scaffoldGlue, bottom, cell, modelOf}
+use Rattle.design.specs.Checks.{Admitted, wrongSizes, strangers}
 
 -- one of the design's strands, with a nonzero dG or dS at the cell of the position's glue and its own bottom glue
 pub record Bound (d : Design) (i strand : ℕ) : Type 0 where

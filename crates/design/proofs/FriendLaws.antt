@@ -19,10 +19,10 @@ use Rattle.lists.proofs.Build.{length-tabulate, getD-tabulate}
 use Rattle.lists.proofs.Any.{neither, none-below, all-below}
 use Rattle.lists.proofs.Keep.{kept, kept-below, kept-passes, kept-rise}
 use Rattle.model.specs.Model.{Friend, State, friendsAt}
-use Rattle.sdc1d.specs.Design.{Design, positions, strands, scaffoldGlue, west, bottom, east, cell, binding, isFriend, friendsOf, modelOf}
-use Rattle.sdc1d.specs.Checks.{Admitted, nullGlued, nullCells, nullBinds, noFriend, stranger, strangers}
-use Rattle.sdc1d.specs.Laws.{Bound, FriendsRight}
-use Rattle.sdc1d.proofs.Sizes.{sized}
+use Rattle.design.specs.Design.{Design, positions, strands, scaffoldGlue, west, bottom, east, cell, binding, isFriend, friendsOf, modelOf}
+use Rattle.design.specs.Checks.{Admitted, nullGlued, nullCells, nullBinds, noFriend, stranger, strangers}
+use Rattle.design.specs.Laws.{Bound, FriendsRight}
+use Rattle.design.proofs.Sizes.{sized}
 
 either : (a b : Bool) → (a || b) ≡ true → (a ≡ true) ⊎ (b ≡ true)
 either true b e = inl refl

@@ -15,9 +15,9 @@ use Rattle.reply.specs.declared.Refusal.the-variants.{RankTooHigh}
 use Rattle.units.specs.declared.Ambient.{Ambient}
 use Rattle.model.specs.States.{listing, choices, choiceAt, states, count}
 use Rattle.model.specs.Energy.{chainTerms, chainEnergy, chainProduct}
-use Rattle.sdc1d.specs.Design.{Design, design, strandBond, scaffoldBond, isFriend, friendsOf, modelOf}
-use Rattle.sdc1d.specs.Checks.{wrongSizes, cellsOut, ambientOut, somewhere, potentialsOut, nullBinds}
-use Rattle.sdc1d.specs.Answers.{given, refused, countAnswer, rankAnswer, rankEntries}
+use Rattle.design.specs.Design.{Design, design, strandBond, scaffoldBond, isFriend, friendsOf, modelOf}
+use Rattle.design.specs.Checks.{wrongSizes, cellsOut, ambientOut, somewhere, potentialsOut, nullBinds}
+use Rattle.design.specs.Answers.{given, refused, countAnswer, rankAnswer, rankEntries}
 
 -- RT 0.5, and no excess
 abbrev half : Ambient

@@ -22,12 +22,12 @@ use Rattle.doubles.proofs.Bounds.{in-range-within, rt-range}
 use Rattle.units.specs.declared.Ambient.{Ambient}
 use Rattle.model.specs.Model.{Friend}
 use Rattle.model.specs.Bounds.{Bounded}
-use Rattle.sdc1d.specs.Design.{Design, positions, strands, scaffoldGlue, west, bottom, east, potential, cell, bondOf, strandBond, scaffoldBond, friendsOf, modelOf}
-use Rattle.sdc1d.specs.Checks.{outside, beyond, befriends, somewhere, unfit, cellsOut, ambientOut, potentialsOut, Admitted}
-use Rattle.sdc1d.specs.Sized.{Sized}
-use Rattle.sdc1d.specs.Laws.{Doubles, BoundsRight}
-use Rattle.sdc1d.proofs.Sizes.{sized}
-use Rattle.sdc1d.proofs.FriendLaws.{friends-right, friend-tested}
+use Rattle.design.specs.Design.{Design, positions, strands, scaffoldGlue, west, bottom, east, potential, cell, bondOf, strandBond, scaffoldBond, friendsOf, modelOf}
+use Rattle.design.specs.Checks.{outside, beyond, befriends, somewhere, unfit, cellsOut, ambientOut, potentialsOut, Admitted}
+use Rattle.design.specs.Sized.{Sized}
+use Rattle.design.specs.Laws.{Doubles, BoundsRight}
+use Rattle.design.proofs.Sizes.{sized}
+use Rattle.design.proofs.FriendLaws.{friends-right, friend-tested}
 
 -- a number that is not beyond a limit is within it
 not-beyond : (A : ℕ) → A ≤ 1024 → (x : Float) → T (fits binary64 x) → beyond A x ≡ false → Within binary64 A x

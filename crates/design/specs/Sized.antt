@@ -3,7 +3,7 @@ use mathlib.Core.Path.{_≡_}
 use mathlib.Core.List.{List}
 use Prim.Native.Nat.{ℕ, _*_, _<_, _≤_}
 use lib.ListN.{length, getD}
-use Rattle.sdc1d.specs.Design.{Design, positions, strands, scaffoldGlue}
+use Rattle.design.specs.Design.{Design, positions, strands, scaffoldGlue}
 
 pub record Sized (d : Design) : Type 0 where
   pub short : positions d ≤ 128

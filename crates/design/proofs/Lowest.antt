@@ -3,8 +3,8 @@ use mathlib.Core.List.{List}
 use Prim.Native.Nat.{ℕ}
 use Rattle.reply.specs.First.{firstOf, LowestGiven}
 use Rattle.reply.proofs.Lowest.{lowest-given}
-use Rattle.sdc1d.specs.Design.{Design}
-use Rattle.sdc1d.specs.Checks.{strandBondChecks, scaffoldBondChecks, friendsChecks, countChecks, rankChecks, energyChecks}
+use Rattle.design.specs.Design.{Design}
+use Rattle.design.specs.Checks.{strandBondChecks, scaffoldBondChecks, friendsChecks, countChecks, rankChecks, energyChecks}
 
 module _ (d : Design) where
   pub strand-bond-lowest : (x y : ℕ) → LowestGiven (strandBondChecks d x y) (firstOf (strandBondChecks d x y))

@@ -1,23 +1,17 @@
--- What each call answers: document 01's number and figures of an answer's cases, and what they are of a design and what is asked of it.
+-- What each call answers of a design and of what is asked of it: document 01's number and figures, and what stands in the lent entries
+-- afterwards.
 use mathlib.Core.List.{List, _++_}
 use Prim.Native.Nat.{ℕ}
 use lib.ListN.{length, drop}
 use lib.Ieee.{Float}
 use Rattle.doubles.specs.Decimal.{zero}
-use Rattle.reply.specs.Number.{numberOf}
 use Rattle.reply.specs.First.{firstOf, answer}
 use Rattle.reply.specs.declared.Place.{Place}
 use Rattle.reply.specs.declared.Place.the-variants.{Nowhere}
 use Rattle.model.specs.States.{count, stateAt}
 use Rattle.model.specs.Energy.{stateEnergy, chainEnergy, chainProduct}
-use Rattle.sdc1d.specs.Design.{Design, strandBond, scaffoldBond, friendsOf, modelOf}
-use Rattle.sdc1d.specs.Checks.{strandBondChecks, scaffoldBondChecks, friendsChecks, countChecks, rankChecks, energyChecks}
-use Rattle.sdc1d.specs.declared.BondAnswer.{BondAnswer}
-use Rattle.sdc1d.specs.declared.FriendsAnswer.{FriendsAnswer}
-use Rattle.sdc1d.specs.declared.CountAnswer.{CountAnswer}
-use Rattle.sdc1d.specs.declared.StateAnswer.{StateAnswer}
-use Rattle.sdc1d.specs.declared.EnergyAnswer.{EnergyAnswer}
-use Rattle.sdc1d.specs.declared.ChainAnswer.{ChainAnswer}
+use Rattle.design.specs.Design.{Design, strandBond, scaffoldBond, friendsOf, modelOf}
+use Rattle.design.specs.Checks.{strandBondChecks, scaffoldBondChecks, friendsChecks, countChecks, rankChecks, energyChecks}
 
 -- document 01's number, the place of a refusal that has one, and what the call gives
 pub record Figures (A : Type 0) : Type 0 where
@@ -34,10 +28,6 @@ refused blank number = record { number = number; place = Nowhere; figure = blank
 
 -- ---- bonds
 
-abbrev pub bondFigures : BondAnswer → Figures Float
-bondFigures (BondAnswer.Bond bond) = given bond
-bondFigures (BondAnswer.Refused refusal place) = record { number = numberOf refusal; place = place; figure = zero }
-
 abbrev pub strandBondAnswer : Design → ℕ → ℕ → Figures Float
 strandBondAnswer d x y = answer (firstOf (strandBondChecks d x y)) (refused zero) (given (strandBond d x y))
 
@@ -45,10 +35,6 @@ abbrev pub scaffoldBondAnswer : Design → ℕ → ℕ → Figures Float
 scaffoldBondAnswer d i strand = answer (firstOf (scaffoldBondChecks d i strand)) (refused zero) (given (scaffoldBond d i strand))
 
 -- ---- friends
-
-abbrev pub friendsFigures : FriendsAnswer → Figures ℕ
-friendsFigures (FriendsAnswer.Friends number) = given number
-friendsFigures (FriendsAnswer.Refused refusal place) = record { number = numberOf refusal; place = place; figure = 0 }
 
 abbrev pub friendsAnswer : Design → ℕ → List ℕ → Figures ℕ
 friendsAnswer d i entries = answer (firstOf (friendsChecks d i entries)) (refused 0) (given (length (friendsOf d i)))
@@ -60,16 +46,8 @@ friendsEntries d i entries =
 
 -- ---- states
 
-abbrev pub countFigures : CountAnswer → Figures ℕ
-countFigures (CountAnswer.States number) = given number
-countFigures (CountAnswer.Refused refusal place) = record { number = numberOf refusal; place = place; figure = 0 }
-
 abbrev pub countAnswer : Design → Figures ℕ
 countAnswer d = answer (firstOf (countChecks d)) (refused 0) (given (count (modelOf d)))
-
-abbrev pub stateFigures : StateAnswer → Figures Unit
-stateFigures StateAnswer.Written = given tt
-stateFigures (StateAnswer.Refused refusal place) = record { number = numberOf refusal; place = place; figure = tt }
 
 abbrev pub rankAnswer : Design → ℕ → List ℕ → Figures Unit
 rankAnswer d rank entries = answer (firstOf (rankChecks d rank entries)) (refused tt) (given tt)
@@ -79,10 +57,6 @@ abbrev pub rankEntries : Design → ℕ → List ℕ → List ℕ
 rankEntries d rank entries = answer (firstOf (rankChecks d rank entries)) (λ _. entries) (stateAt (modelOf d) rank)
 
 -- ---- energies
-
-abbrev pub energyFigures : EnergyAnswer → Figures Float
-energyFigures (EnergyAnswer.Energy energy) = given (energy .0)
-energyFigures (EnergyAnswer.Refused refusal place) = record { number = numberOf refusal; place = place; figure = zero }
 
 abbrev pub stateEnergyAnswer : Design → List ℕ → Figures Float
 stateEnergyAnswer d s = answer (firstOf (energyChecks d s)) (refused zero) (given (stateEnergy (modelOf d) s))
@@ -94,10 +68,6 @@ pub record Chain : Type 0 where
 
 abbrev pub noChain : Chain
 noChain = record { bare = zero; timesRt = zero }
-
-abbrev pub chainFigures : ChainAnswer → Figures Chain
-chainFigures (ChainAnswer.Energy bare energy) = given (record { bare = bare; timesRt = energy .0 })
-chainFigures (ChainAnswer.Refused refusal place) = record { number = numberOf refusal; place = place; figure = noChain }
 
 abbrev pub chainEnergyAnswer : Design → List ℕ → Figures Chain
 chainEnergyAnswer d s =

@@ -14,7 +14,7 @@ use Rattle.reply.specs.First.{Check, _if_}
 use Rattle.reply.specs.declared.Refusal.the-variants.{WrongSize, OutOfRange, NullBinds, NotAFriend, TooManyStates, RankTooHigh}
 use Rattle.units.specs.declared.Ambient.{Ambient}
 use Rattle.model.specs.States.{count}
-use Rattle.sdc1d.specs.Design.{Design, positions, strands, west, bottom, east, potential, binding, isFriend, modelOf}
+use Rattle.design.specs.Design.{Design, positions, strands, west, bottom, east, potential, binding, isFriend, modelOf}
 
 -- ---- size
 

@@ -8,9 +8,9 @@ use lib.ListN.{length, getD}
 use borrow.Author.Tests.{ltb-false, eqb-true, not-false}
 use Rattle.lists.specs.Find.{any}
 use Rattle.lists.proofs.Any.{neither, none-passes}
-use Rattle.sdc1d.specs.Design.{Design, positions, strands}
-use Rattle.sdc1d.specs.Checks.{highGlue, wrongCounts, wrongLengths, wrongSizes}
-use Rattle.sdc1d.specs.Sized.{Sized}
+use Rattle.design.specs.Design.{Design, positions, strands}
+use Rattle.design.specs.Checks.{highGlue, wrongCounts, wrongLengths, wrongSizes}
+use Rattle.design.specs.Sized.{Sized}
 
 pub sized : (d : Design) → wrongSizes d ≡ false → Sized d
 unfolding wrongSizes
