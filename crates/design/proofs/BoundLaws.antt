@@ -1,15 +1,12 @@
 -- The model of an admitted design is bounded: each bond is finite and at most 80,000 in size. Assumes nothing.
-use mathlib.Core.Path.{_≡_, refl, sym, ap, _∙_, subst}
-use mathlib.Core.Bool.{Bool, true, false, not, _&&_, _||_}
-use mathlib.Core.List.{List}
+use mathlib.Core.Path.{_≡_, refl, sym, _∙_}
+use mathlib.Core.Bool.{Bool, true, false, _&&_, _||_}
 use Prim.Native.Nat.{ℕ, _+_, _*_, _<_, _≤_}
-use native.Mathlib.Nat.{mul-le-mul-right}
 use native.Mathlib.Omega.{arith}
 use lib.Dec.{T, lit≤}
-use lib.ListN.{length, getD}
+use lib.ListN.{length}
 use lib.Ieee.{Float, nan, binary64, fits, sub, mul}
 use borrow.Author.Tests.{not-false}
-use Rattle.lists.specs.Build.{upTo, tabulate}
 use Rattle.lists.specs.Find.{any}
 use Rattle.lists.proofs.Any.{neither, none-passes, none-below}
 use Rattle.lists.proofs.Build.{length-tabulate}
@@ -19,9 +16,7 @@ use Rattle.doubles.specs.Size.{Within}
 use Rattle.doubles.proofs.Sums.{weaken, sub-within}
 use Rattle.doubles.proofs.Products.{mul-within, div-within}
 use Rattle.doubles.proofs.Bounds.{in-range-within, rt-range}
-use Rattle.units.specs.declared.Ambient.{Ambient}
 use Rattle.model.specs.Model.{Friend}
-use Rattle.model.specs.Bounds.{Bounded}
 use Rattle.design.specs.Design.{Design, positions, strands, scaffoldGlue, west, bottom, east, potential, cell, bondOf, strandBond, scaffoldBond, friendsOf, modelOf}
 use Rattle.design.specs.Checks.{outside, beyond, befriends, somewhere, unfit, cellsOut, ambientOut, potentialsOut, Admitted}
 use Rattle.design.specs.Sized.{Sized}
@@ -35,7 +30,7 @@ not-beyond A h x t e = in-range-within A (omega arith) x t (unfold inRange in no
 
 -- (dG − excess × dS) / RT is at most (1,024 + 1,024 × 8) × 8 in size
 bond-within : (dg ds excess rt : Float) → Within binary64 1024 dg → Within binary64 8 ds → Within binary64 1024 excess → T (fits binary64 rt) → inRange (plus 125 3) (plus 8 0) rt ≡ true
-  → Within binary64 80000 (bondOf dg ds excess rt)
+    → Within binary64 80000 (bondOf dg ds excess rt)
 bond-within dg ds excess rt p q e t r =
     let heat = mul-within binary64 1024 8 excess ds e q (lit≤ tt) in
     let energy = sub-within binary64 1024 8192 dg (mul binary64 excess ds) p heat (lit≤ tt) in

@@ -1,18 +1,18 @@
 -- The friends of a design's model are document 01's, in order, and its states are the configurations without a stranger. Assumes nothing.
-use mathlib.Core.Path.{_≡_, refl, sym, ap, _∙_, subst}
+use mathlib.Core.Path.{_≡_, refl, sym, _∙_, subst}
 use mathlib.Core.Logic.{_⊎_, inl, inr, _↔_}
 use mathlib.Core.Bool.{Bool, true, false, not, _&&_, _||_}
-use mathlib.Core.List.{List, [], _∷_, List·Memᴰ, List·Memᴰ·not-nil}
+use mathlib.Core.List.{List, [], List·Memᴰ, List·Memᴰ·not-nil}
 use Prim.Native.Nat.{ℕ, _<_, _≤_}
 use native.Mathlib.Decide.{decLt}
 use native.Mathlib.Nat.{not-suc-le-zero}
 use native.Mathlib.Omega.{arith}
 use lib.Dec.{eqb, ltb}
 use lib.ListN.{length, getD, List·getD-eq-default}
-use lib.Ieee.{Float, ne}
+use lib.Ieee.{ne}
 use borrow.Author.Tests.{eqb-true, ltb-true, lt-ltb, eq-eqb, not-false}
 use Rattle.doubles.specs.Decimal.{zero}
-use Rattle.lists.specs.Build.{tabulate, upTo, keep}
+use Rattle.lists.specs.Build.{tabulate, upTo}
 use Rattle.lists.specs.Find.{any}
 use Rattle.lists.specs.Order.{Rising}
 use Rattle.lists.proofs.Build.{length-tabulate, getD-tabulate}
@@ -64,8 +64,7 @@ module _ (d : Design) where
   unfolding isFriend
   exactly i x =
       let dg = ne (cell (d .dg) (scaffoldGlue d i) (bottom d x)) zero in
-      let ds = ne (cell (d .ds) (scaffoldGlue d i) (bottom d x)) zero in
-      (
+      let ds = ne (cell (d .ds) (scaffoldGlue d i) (bottom d x)) zero in (
         λ f. let w = friend-tested i x f in record { position = w .0; known = w .1; nonzero = either dg ds (w .2) },
         λ b. tested-friend i x (b .position) (b .known) (one-of dg ds (b .nonzero)),
       )
@@ -116,11 +115,10 @@ module _ (d : Design) where
 
   states : (s : List ℕ) → length s ≡ positions d → (strangers d s ≡ false) ↔ State (modelOf d) s
   unfolding strangers
-  states s l =
-      (
-        λ e. record { places = l ∙ sym positions-are; occupants = λ i h. occupant i (rw positions-are at h) (none-below (stranger d s) (positions d) e i (rw positions-are at h)) },
-        λ w. all-below (stranger d s) (positions d) (λ i h. a-friend i (getD s i 0) (w .occupants i (rw positions-are h))),
-      )
+  states s l = (
+    λ e. record { places = l ∙ sym positions-are; occupants = λ i h. occupant i (rw positions-are at h) (none-below (stranger d s) (positions d) e i (rw positions-are at h)) },
+    λ w. all-below (stranger d s) (positions d) (λ i h. a-friend i (getD s i 0) (w .occupants i (rw positions-are h))),
+  )
     where
       positions-are : length (modelOf d .friends) ≡ positions d
       positions-are = unfold modelOf in length-tabulate (positions d) (friendsOf d)

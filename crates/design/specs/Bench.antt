@@ -2,7 +2,6 @@
 use mathlib.Core.Path.{_≡_, refl}
 use mathlib.Core.Bool.{true}
 use mathlib.Core.List.{List, [], _∷_}
-use Prim.Native.Nat.{ℕ}
 use lib.ListN.{set, replicate}
 use lib.IntN.{negsuc}
 use lib.Ieee.{Float, fin, add, sub, neg, mul, div, ne, le, lt, eq}

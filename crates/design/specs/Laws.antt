@@ -7,13 +7,13 @@ use mathlib.Core.List.{List}
 use Prim.Native.Nat.{ℕ, _<_}
 use lib.Dec.{T}
 use lib.ListN.{length, getD}
-use lib.Ieee.{Float, nan, binary64, fits, ne}
+use lib.Ieee.{nan, binary64, fits, ne}
 use Rattle.doubles.specs.Decimal.{zero}
 use Rattle.lists.specs.Order.{Rising}
 use Rattle.model.specs.Model.{Friend, State, friendsAt}
 use Rattle.model.specs.Bounds.{Bounded}
 use Rattle.design.specs.Design.{Design, positions, strands, scaffoldGlue, bottom, cell, modelOf}
-use Rattle.design.specs.Checks.{Admitted, wrongSizes, strangers}
+use Rattle.design.specs.Checks.{Admitted, strangers}
 
 -- one of the design's strands, with a nonzero dG or dS at the cell of the position's glue and its own bottom glue
 pub record Bound (d : Design) (i strand : ℕ) : Type 0 where

@@ -1,7 +1,9 @@
 // The energy of a bond over RT, between two strands and between the scaffold and a strand.
 use super::friends::cell_index;
-use units::{Ambient, KcalPerMol, KcalPerMolKelvin, Kelvin};
-
+use units::Ambient;
+use units::KcalPerMol;
+use units::KcalPerMolKelvin;
+use units::Kelvin;
 ghost use mathlib.Core.Path.{_≡_};
 ghost use Prim.Native.Nat.{_<_};
 ghost use lib.ListN.{length};
@@ -10,7 +12,9 @@ ghost use Rattle.design.specs.Sized.{Sized};
 
 // Which of a strand's three glues.
 pub(crate) const WEST_GLUE_INDEX: usize = 0;
+
 pub(crate) const BOTTOM_GLUE_INDEX: usize = 1;
+
 pub(crate) const EAST_GLUE_INDEX: usize = 2;
 
 // (dG - excess * dS) / RT
@@ -50,7 +54,14 @@ pub(crate) fn strand_bond(
 {
     let x_east_glue = glues[3 * x + EAST_GLUE_INDEX];
     let y_west_glue = glues[3 * y + WEST_GLUE_INDEX];
-    bond_at(dg, ds, x_east_glue, y_west_glue, ambient.strand_excess, ambient.rt)
+    bond_at(
+        dg,
+        ds,
+        x_east_glue,
+        y_west_glue,
+        ambient.strand_excess,
+        ambient.rt,
+    )
 }
 
 pub(crate) fn scaffold_bond(
@@ -70,5 +81,12 @@ pub(crate) fn scaffold_bond(
 {
     let scaffold_glue = scaffold[position];
     let strand_glue = glues[3 * strand + BOTTOM_GLUE_INDEX];
-    bond_at(dg, ds, scaffold_glue, strand_glue, ambient.scaffold_excess, ambient.rt)
+    bond_at(
+        dg,
+        ds,
+        scaffold_glue,
+        strand_glue,
+        ambient.scaffold_excess,
+        ambient.rt,
+    )
 }

@@ -1,9 +1,12 @@
 // The conditions on which a design is refused. The searches for a number out of its range say where the first one stands.
-use super::bonds::{BOTTOM_GLUE_INDEX, EAST_GLUE_INDEX, WEST_GLUE_INDEX};
-use super::friends::{binds, is_friend_somewhere};
-use reply::{Refusal, Reply};
+use super::bonds::BOTTOM_GLUE_INDEX;
+use super::bonds::EAST_GLUE_INDEX;
+use super::bonds::WEST_GLUE_INDEX;
+use super::friends::binds;
+use super::friends::is_friend_somewhere;
+use reply::Refusal;
+use reply::Reply;
 use units::Ambient;
-
 ghost use mathlib.Core.Path.{_≡_};
 ghost use mathlib.Core.Bool.{false};
 ghost use mathlib.Core.List.{[]};
@@ -17,17 +20,26 @@ ghost use Rattle.design.specs.Checks.{highGlue, outside, wrongSizes, cellsOut, 
 ghost use Rattle.design.specs.Sized.{Sized};
 
 const POSITIONS: usize = 128;
+
 const STRANDS: usize = 64;
+
 const CELLS: usize = 4096;
+
 const LAST_GLUE: u8 = 63;
+
 const GLUES: u8 = 64;
 
 // The limits of the ranges.
 const DG: f64 = 1024.0;
+
 const DS: f64 = 8.0;
+
 const EXCESS: f64 = 1024.0;
+
 const POTENTIAL: f64 = 1024.0;
+
 const LEAST_RT: f64 = 0.125;
+
 const MOST_RT: f64 = 8.0;
 
 // Where the first glue above 63 stands; the number of glues where there is none.
@@ -44,7 +56,14 @@ fn first_high_glue(glues: &[u8]) -> usize
     i
 }
 
-fn wrong_sizes(scaffold: &[u8], glues: &[u8], dg: &[f64], ds: &[f64], potentials: &[f64], ambient: Ambient) -> bool
+fn wrong_sizes(
+    scaffold: &[u8],
+    glues: &[u8],
+    dg: &[f64],
+    ds: &[f64],
+    potentials: &[f64],
+    ambient: Ambient,
+) -> bool
     ensures { λ r. ⌜ r ≡ wrongSizes (lent (scaffold .entry) (glues .entry) (dg .entry) (ds .entry) (potentials .entry) ambient) ⌝ }
 {
     if POSITIONS < scaffold.len() {
@@ -149,7 +168,14 @@ fn null_cells(dg: &[f64], ds: &[f64]) -> bool
     false
 }
 
-fn null_binds(scaffold: &[u8], glues: &[u8], dg: &[f64], ds: &[f64], potentials: &[f64], ambient: Ambient) -> bool
+fn null_binds(
+    scaffold: &[u8],
+    glues: &[u8],
+    dg: &[f64],
+    ds: &[f64],
+    potentials: &[f64],
+    ambient: Ambient,
+) -> bool
     requires { ⌜ Sized (lent scaffold glues dg ds potentials ambient) ⌝ }
     ensures { λ r. ⌜ r ≡ nullBinds (lent (scaffold .entry) (glues .entry) (dg .entry) (ds .entry) (potentials .entry) ambient) ⌝ }
 {

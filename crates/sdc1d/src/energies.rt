@@ -1,7 +1,7 @@
 // Both energies of a configuration, summed in the Rust's order from 0.0.
-use super::bonds::{scaffold_bond, strand_bond};
+use super::bonds::scaffold_bond;
+use super::bonds::strand_bond;
 use units::Ambient;
-
 ghost use mathlib.Core.Path.{_≡_};
 ghost use Prim.Native.Nat.{_+_, _<_};
 ghost use lib.ListN.{length, getD, drop};
@@ -42,7 +42,17 @@ fn add_place(
     let right = id + 1;
     if right < attachments.len() {
         let neighbour = wide(attachments[right]);
-        let joined = bonded + strand_bond(scaffold, glues, dg, ds, potentials, ambient, strand, neighbour);
+        let joined = bonded
+            + strand_bond(
+                scaffold,
+                glues,
+                dg,
+                ds,
+                potentials,
+                ambient,
+                strand,
+                neighbour,
+            );
         return joined - potentials[strand];
     }
     bonded - potentials[strand]
@@ -65,7 +75,15 @@ pub(crate) fn state_sum(
     let mut id = 0;
     while id < attachments.len() {
         sumg = add_place(
-            scaffold, glues, dg, ds, potentials, ambient, attachments, id, sumg,
+            scaffold,
+            glues,
+            dg,
+            ds,
+            potentials,
+            ambient,
+            attachments,
+            id,
+            sumg,
         );
         id += 1;
     }
@@ -93,12 +111,22 @@ fn chain_place(
     if strand == 0 {
         return sum;
     }
-    let bond = scaffold_bond(scaffold, glues, dg, ds, potentials, ambient, position, strand);
+    let bond = scaffold_bond(
+        scaffold,
+        glues,
+        dg,
+        ds,
+        potentials,
+        ambient,
+        position,
+        strand,
+    );
     if position == 0 {
         return sum + bond - potentials[strand];
     }
     let left = wide(configuration[position - 1]);
-    sum + strand_bond(scaffold, glues, dg, ds, potentials, ambient, left, strand) + bond - potentials[strand]
+    sum + strand_bond(scaffold, glues, dg, ds, potentials, ambient, left, strand) + bond
+        - potentials[strand]
 }
 
 pub(crate) fn chain_sum(
@@ -118,7 +146,15 @@ pub(crate) fn chain_sum(
     let mut position = 0;
     while position < configuration.len() {
         sum = chain_place(
-            scaffold, glues, dg, ds, potentials, ambient, configuration, position, sum,
+            scaffold,
+            glues,
+            dg,
+            ds,
+            potentials,
+            ambient,
+            configuration,
+            position,
+            sum,
         );
         position += 1;
     }

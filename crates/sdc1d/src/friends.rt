@@ -1,7 +1,6 @@
 // Friends: the strands that a position binds.
 use super::bonds::BOTTOM_GLUE_INDEX;
 use units::Ambient;
-
 ghost use mathlib.Core.Path.{_≡_};
 ghost use mathlib.Core.List.{_++_};
 ghost use Prim.Native.Nat.{_+_, _*_, _<_, _≤_};
@@ -50,7 +49,12 @@ pub(crate) fn is_friend(
     requires { ⌜ strand < strands (lent scaffold glues dg ds potentials ambient) ⌝ }
     ensures { λ r. ⌜ r ≡ isFriend (lent (scaffold .entry) (glues .entry) (dg .entry) (ds .entry) (potentials .entry) ambient) position strand ⌝ }
 {
-    binds(dg, ds, scaffold[position], glues[3 * strand + BOTTOM_GLUE_INDEX])
+    binds(
+        dg,
+        ds,
+        scaffold[position],
+        glues[3 * strand + BOTTOM_GLUE_INDEX],
+    )
 }
 
 // Whether the strand is a friend at some position.
@@ -69,7 +73,16 @@ pub(crate) fn is_friend_somewhere(
 {
     let mut position = 0;
     while position < scaffold.len() {
-        if is_friend(scaffold, glues, dg, ds, potentials, ambient, position, strand) {
+        if is_friend(
+            scaffold,
+            glues,
+            dg,
+            ds,
+            potentials,
+            ambient,
+            position,
+            strand,
+        ) {
             return true;
         }
         position += 1;
@@ -95,7 +108,16 @@ pub(crate) fn friend_count(
     let mut count = 0;
     let mut strand = 0;
     while strand < potentials.len() {
-        if is_friend(scaffold, glues, dg, ds, potentials, ambient, position, strand) {
+        if is_friend(
+            scaffold,
+            glues,
+            dg,
+            ds,
+            potentials,
+            ambient,
+            position,
+            strand,
+        ) {
             count += 1;
         }
         strand += 1;
@@ -121,7 +143,16 @@ pub(crate) fn option_at(
     let mut left = place;
     let mut strand = 0;
     while strand < potentials.len() {
-        if is_friend(scaffold, glues, dg, ds, potentials, ambient, position, strand) {
+        if is_friend(
+            scaffold,
+            glues,
+            dg,
+            ds,
+            potentials,
+            ambient,
+            position,
+            strand,
+        ) {
             if left == 0 {
                 return strand as u8;
             }
@@ -152,7 +183,16 @@ pub(crate) fn write_friends(
     let mut count = 0;
     let mut strand = 0;
     while strand < potentials.len() {
-        if is_friend(scaffold, glues, dg, ds, potentials, ambient, position, strand) {
+        if is_friend(
+            scaffold,
+            glues,
+            dg,
+            ds,
+            potentials,
+            ambient,
+            position,
+            strand,
+        ) {
             entries[count] = strand as u8;
             count += 1;
         }

@@ -8,10 +8,12 @@ mod energies;
 mod friends;
 mod states;
 
-use reply::{Place, Refusal, Reply};
+use reply::Place;
+use reply::Refusal;
+use reply::Reply;
 use states::MOST_STATES;
-use units::{Ambient, KcalPerMol};
-
+use units::Ambient;
+use units::KcalPerMol;
 ghost use mathlib.Core.Path.{_≡_};
 ghost use Rattle.design.specs.Design.{lent};
 ghost use Rattle.design.specs.Answers.{strandBondAnswer, scaffoldBondAnswer, friendsAnswer, friendsEntries, countAnswer, rankAnswer, rankEntries, stateEnergyAnswer, chainEnergyAnswer};
@@ -76,7 +78,14 @@ pub fn bond_between_strands(
     match checks::design_reply(scaffold, glues, dg, ds, potentials, ambient) {
         Reply::Refused(refusal) => BondAnswer::Refused(refusal, Place::Nowhere),
         Reply::Admitted => BondAnswer::Bond(bonds::strand_bond(
-            scaffold, glues, dg, ds, potentials, ambient, x, y,
+            scaffold,
+            glues,
+            dg,
+            ds,
+            potentials,
+            ambient,
+            x,
+            y,
         )),
     }
 }
@@ -103,7 +112,14 @@ pub fn bond_with_scaffold(
     match checks::design_reply(scaffold, glues, dg, ds, potentials, ambient) {
         Reply::Refused(refusal) => BondAnswer::Refused(refusal, Place::Nowhere),
         Reply::Admitted => BondAnswer::Bond(bonds::scaffold_bond(
-            scaffold, glues, dg, ds, potentials, ambient, position, strand,
+            scaffold,
+            glues,
+            dg,
+            ds,
+            potentials,
+            ambient,
+            position,
+            strand,
         )),
     }
 }
@@ -131,7 +147,14 @@ pub fn friends_btm(
     match checks::design_reply(scaffold, glues, dg, ds, potentials, ambient) {
         Reply::Refused(refusal) => FriendsAnswer::Refused(refusal, Place::Nowhere),
         Reply::Admitted => FriendsAnswer::Friends(friends::write_friends(
-            scaffold, glues, dg, ds, potentials, ambient, position, entries,
+            scaffold,
+            glues,
+            dg,
+            ds,
+            potentials,
+            ambient,
+            position,
+            entries,
         )),
     }
 }
@@ -187,7 +210,15 @@ pub fn state_at_rank(
                 return StateAnswer::Refused(Refusal::RankTooHigh, Place::Nowhere);
             }
             states::write_state(
-                scaffold, glues, dg, ds, potentials, ambient, count, rank, entries,
+                scaffold,
+                glues,
+                dg,
+                ds,
+                potentials,
+                ambient,
+                count,
+                rank,
+                entries,
             );
             StateAnswer::Written
         }
@@ -213,13 +244,25 @@ pub fn g_system(
         Reply::Refused(refusal) => EnergyAnswer::Refused(refusal, Place::Nowhere),
         Reply::Admitted => {
             let stranger = states::first_stranger(
-                scaffold, glues, dg, ds, potentials, ambient, attachments,
+                scaffold,
+                glues,
+                dg,
+                ds,
+                potentials,
+                ambient,
+                attachments,
             );
             if stranger < scaffold.len() {
                 return EnergyAnswer::Refused(Refusal::NotAFriend, Place::Nowhere);
             }
             let sumg = energies::state_sum(
-                scaffold, glues, dg, ds, potentials, ambient, attachments,
+                scaffold,
+                glues,
+                dg,
+                ds,
+                potentials,
+                ambient,
+                attachments,
             );
             EnergyAnswer::Energy(KcalPerMol(sumg * ambient.rt.0))
         }
@@ -245,13 +288,25 @@ pub fn chain_energy(
         Reply::Refused(refusal) => ChainAnswer::Refused(refusal, Place::Nowhere),
         Reply::Admitted => {
             let stranger = states::first_stranger(
-                scaffold, glues, dg, ds, potentials, ambient, configuration,
+                scaffold,
+                glues,
+                dg,
+                ds,
+                potentials,
+                ambient,
+                configuration,
             );
             if stranger < scaffold.len() {
                 return ChainAnswer::Refused(Refusal::NotAFriend, Place::Nowhere);
             }
             let sum = energies::chain_sum(
-                scaffold, glues, dg, ds, potentials, ambient, configuration,
+                scaffold,
+                glues,
+                dg,
+                ds,
+                potentials,
+                ambient,
+                configuration,
             );
             ChainAnswer::Energy(sum, KcalPerMol(sum * ambient.rt.0))
         }

@@ -1,7 +1,8 @@
 // States: how many there are, the one at a rank, and whether a configuration is one.
-use super::friends::{friend_count, is_friend, option_at};
+use super::friends::friend_count;
+use super::friends::is_friend;
+use super::friends::option_at;
 use units::Ambient;
-
 ghost use mathlib.Core.Path.{_≡_};
 ghost use Prim.Native.Nat.{_<_, _≤_, min};
 ghost use lib.ListN.{length};
@@ -73,7 +74,14 @@ pub(crate) fn write_state(
         let friends = friend_count(scaffold, glues, dg, ds, potentials, ambient, position);
         later = later / (friends as u64 + 1);
         entries[position] = option_at(
-            scaffold, glues, dg, ds, potentials, ambient, position, left / later,
+            scaffold,
+            glues,
+            dg,
+            ds,
+            potentials,
+            ambient,
+            position,
+            left / later,
         );
         left = left % later;
         position += 1;
@@ -102,7 +110,16 @@ fn is_stranger(
     if potentials.len() <= strand {
         return true;
     }
-    !is_friend(scaffold, glues, dg, ds, potentials, ambient, position, strand)
+    !is_friend(
+        scaffold,
+        glues,
+        dg,
+        ds,
+        potentials,
+        ambient,
+        position,
+        strand,
+    )
 }
 
 // The first position whose occupant is neither 0 nor a friend there; the number of positions where there is none.
@@ -122,7 +139,14 @@ pub(crate) fn first_stranger(
     let mut position = 0;
     while position < scaffold.len() {
         if is_stranger(
-            scaffold, glues, dg, ds, potentials, ambient, position, configuration[position],
+            scaffold,
+            glues,
+            dg,
+            ds,
+            potentials,
+            ambient,
+            position,
+            configuration[position],
         ) {
             return position;
         }

@@ -1,25 +1,19 @@
 -- `bond_between_strands` meets its contract: each return's reply is that of the first check that holds. Assumes nothing.
 use borrow.Author.Needs.{needs}
 use mathlib.Core.Path.{_≡_, sym, ap, _∙_}
-use mathlib.Core.Bool.{Bool, true, false, _||_}
+use mathlib.Core.Bool.{true, false, _||_}
 use mathlib.Core.List.{[]}
-use lib.Dec.{leb}
 use borrow.Author.Tests.{le-leb, lt-leb}
 use Rattle.doubles.specs.Decimal.{zero}
 use Rattle.reply.specs.declared.Refusal.the-variants.{WrongSize}
-use Rattle.design.specs.Design.{Design, lent, strands, strandBond}
+use Rattle.design.specs.Design.{Design, lent, strandBond}
 use Rattle.design.specs.Checks.{noStrand}
 use Rattle.design.proofs.Sizes.{sized}
 use Rattle.sdc1d.proofs.Replies.{admitted, own-size, design-refused, design-admitted, answered, turned-down}
 use Rattle.design.specs.Answers.{given}
 use Rattle.sdc1d.proofs.bond_between_strands.Statement.{statement}
 use Rattle.sdc1d.proofs.bond_between_strands.Tie as tie
-use Rattle.sdc1d.proofs.bond_between_strands.Reads as reads
-use Rattle.sdc1d.proofs.bond_between_strands.Lts as lts
-use Rattle.sdc1d.proofs.bonds.strand_bond.Reads as strand-bond-reads
-use Rattle.sdc1d.proofs.checks.design_reply.Reads as design-reply-reads
 
--- src/lib.rt:67:9
 returns : tie.Need-returns
 returns c =
     let a = c .before .before .before .before .before .before .args in
@@ -27,7 +21,6 @@ returns c =
     let lacks : (noStrand d (a .x) || noStrand d (a .y)) ≡ true = simp (le-leb _ _ (c .if1 .taken)) in
     turned-down zero (strandBond d (a .x) (a .y)) WrongSize (own-size d (noStrand d (a .x) || noStrand d (a .y)) [] lacks)
 
--- src/lib.rt:70:9
 returns-2 : tie.Need-returns-2
 returns-2 c =
     let a = c .before .before .before .before .before .before .before .args in
@@ -35,26 +28,21 @@ returns-2 c =
     let lacks : (noStrand d (a .x) || noStrand d (a .y)) ≡ true = simp (lt-leb _ _ (c .before .if1 .left), le-leb _ _ (c .if2 .taken)) in
     turned-down zero (strandBond d (a .x) (a .y)) WrongSize (own-size d (noStrand d (a .x) || noStrand d (a .y)) [] lacks)
 
--- src/lib.rt:72:11
 design-reply-requires : tie.Need-design-reply-requires
 design-reply-requires c κs = search needs
 
--- src/lib.rt:73:24
 enum-known-refusal : tie.Need-enum-known-refusal
 enum-known-refusal c = search needs
 
--- src/lib.rt:74:45
 enum-told : tie.Need-enum-told
 enum-told c = search needs
 
--- src/lib.rt:74:45
 strand-bond-requires : tie.Need-strand-bond-requires
 strand-bond-requires c κs =
     let a = c .before .before .before .before .before .before .before .before .before .before .args in
     let d : Design = lent (a .scaffold) (a .glues) (a .dg) (a .ds) (a .potentials) (a .ambient) in
     (sized d (admitted d (sym (c .before .before .design-reply .ensures) ∙ c .enum-told .given .1) .sizes), (c .before .before .before .before .if1 .left, c .before .before .before .if2 .left))
 
--- src/lib.rt:54:1
 returns-3 : tie.Need-returns-3
 returns-3 c =
     let a = c .before .before .before .before .before .before .before .before .before .before .before .args in
@@ -64,7 +52,6 @@ returns-3 c =
     let reply = design-refused d own [] has (sym (c .before .before .before .design-reply .ensures) ∙ c .before .refusal .given .1) in
     turned-down zero (strandBond d (a .x) (a .y)) _ reply
 
--- src/lib.rt:54:1
 returns-4 : tie.Need-returns-4
 returns-4 c =
     let a = c .before .before .before .before .before .before .before .before .before .before .before .args in

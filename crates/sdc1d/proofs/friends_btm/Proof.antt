@@ -4,7 +4,7 @@ use mathlib.Core.Path.{_≡_, sym, ap, _∙_}
 use mathlib.Core.Bool.{Bool, true, false, not, _||_}
 use mathlib.Core.List.{List, [], _++_}
 use Prim.Native.Nat.{ℕ}
-use lib.Dec.{leb, eqb}
+use lib.Dec.{eqb}
 use lib.ListN.{length, drop}
 use borrow.Author.Tests.{le-leb, lt-leb, eq-eqb, ne-eqb}
 use Rattle.reply.specs.declared.Refusal.the-variants.{WrongSize}
@@ -15,10 +15,6 @@ use Rattle.design.proofs.Sizes.{sized}
 use Rattle.sdc1d.proofs.Replies.{admitted, own-size, design-refused, design-admitted, answered, turned-down, entries-written, entries-kept}
 use Rattle.sdc1d.proofs.friends_btm.Statement.{statement}
 use Rattle.sdc1d.proofs.friends_btm.Tie as tie
-use Rattle.sdc1d.proofs.friends_btm.Reads as reads
-use Rattle.sdc1d.proofs.friends_btm.Lts as lts
-use Rattle.sdc1d.proofs.checks.design_reply.Reads as design-reply-reads
-use Rattle.sdc1d.proofs.friends.write_friends.Reads as write-friends-reads
 
 -- the entries afterwards where the call is answered
 abbrev after : Design → ℕ → List ℕ → List ℕ
@@ -28,7 +24,6 @@ after d i entries = friendsOf d i ++ drop (length (friendsOf d i)) entries
 abbrev ownSize : Design → ℕ → List ℕ → Bool
 ownSize d i entries = noPosition d i || not (eqb (length entries) 64)
 
--- src/lib.rt:122:9
 returns : tie.Need-returns
 returns c =
     let a = c .before .before .before .before .before .before .before .args in
@@ -38,7 +33,6 @@ returns c =
     let reply = own-size d (ownSize d (a .position) e) [] wrong in
     (turned-down 0 (length (friendsOf d (a .position))) WrongSize reply, entries-kept e (after d (a .position) e) WrongSize reply)
 
--- src/lib.rt:125:9
 returns-2 : tie.Need-returns-2
 returns-2 c =
     let a = c .before .before .before .before .before .before .before .before .args in
@@ -48,26 +42,21 @@ returns-2 c =
     let reply = own-size d (ownSize d (a .position) e) [] wrong in
     (turned-down 0 (length (friendsOf d (a .position))) WrongSize reply, entries-kept e (after d (a .position) e) WrongSize reply)
 
--- src/lib.rt:127:11
 design-reply-requires : tie.Need-design-reply-requires
 design-reply-requires c κs = search needs
 
--- src/lib.rt:128:24
 enum-known-refusal : tie.Need-enum-known-refusal
 enum-known-refusal c = search needs
 
--- src/lib.rt:130:69
 enum-told : tie.Need-enum-told
 enum-told c = search needs
 
--- src/lib.rt:129:51
 write-friends-requires : tie.Need-write-friends-requires
 write-friends-requires c κs =
     let a = c .before .before .before .before .before .before .before .before .before .before .before .before .args in
     let d : Design = lent (a .scaffold) (a .glues) (a .dg) (a .ds) (a .potentials) (a .ambient) in
     (sized d (admitted d (sym (c .before .before .before .design-reply .ensures) ∙ c .before .enum-told .given .1) .sizes), (c .before .before .before .before .before .if1 .left, c .before .before .before .before .if2 .left))
 
--- src/lib.rt:108:1
 returns-3 : tie.Need-returns-3
 returns-3 c =
     let a = c .before .before .before .before .before .before .before .before .before .before .before .before .args in
@@ -77,19 +66,16 @@ returns-3 c =
     let reply = design-refused d (ownSize d (a .position) e) [] right (sym (c .before .before .before .design-reply .ensures) ∙ c .before .refusal .given .1) in
     (turned-down 0 (length (friendsOf d (a .position))) _ reply, entries-kept e (after d (a .position) e) _ reply)
 
--- src/lib.rt:108:1
 same-length : tie.Need-same-length
 same-length c = search needs
 
--- src/lib.rt:108:1
 returns-4 : tie.Need-returns-4
 returns-4 c =
     let a = c .before .before .before .before .before .before .before .before .before .before .before .before .before .before .before .args in
     let d : Design = lent (a .scaffold) (a .glues) (a .dg) (a .ds) (a .potentials) (a .ambient) in
     let e = a .entries .now in
     let right : ownSize d (a .position) e ≡ false = simp (lt-leb _ _ (c .before .before .before .before .before .before .before .before .if1 .left), eq-eqb _ _ (c .before .before .before .before .before .before .before .if2 .left)) in
-    let reply = design-admitted d (ownSize d (a .position) e) [] right (admitted d (sym (c .before .before .before .before .before .before .design-reply .ensures) ∙ c .before .before .before .before .enum-told .given .1)) in
-    (
+    let reply = design-admitted d (ownSize d (a .position) e) [] right (admitted d (sym (c .before .before .before .before .before .before .design-reply .ensures) ∙ c .before .before .before .before .enum-told .given .1)) in (
       ap given (c .before .before .write-friends .ensures .0) ∙ answered 0 (length (friendsOf d (a .position))) reply,
       c .before .before .write-friends .ensures .1 ∙ entries-written e (after d (a .position) e) reply,
     )

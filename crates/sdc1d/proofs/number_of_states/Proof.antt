@@ -1,7 +1,7 @@
 -- `number_of_states` meets its contract: each return's reply is that of the first check that holds. Assumes nothing.
 use borrow.Author.Needs.{needs}
 use mathlib.Core.Path.{_≡_, refl, sym, ap, _∙_}
-use mathlib.Core.Bool.{Bool, true, false}
+use mathlib.Core.Bool.{false}
 use mathlib.Core.List.{List, [], _∷_}
 use Rattle.reply.specs.First.{Check, firstOf, _if_}
 use Rattle.reply.specs.declared.Refusal.the-variants.{TooManyStates}
@@ -15,35 +15,26 @@ use Rattle.sdc1d.proofs.Counted.{too-many, not-too-many, counted}
 use Rattle.sdc1d.proofs.Replies.{admitted, design-refused, design-admitted, answered, turned-down}
 use Rattle.sdc1d.proofs.number_of_states.Statement.{statement}
 use Rattle.sdc1d.proofs.number_of_states.Tie as tie
-use Rattle.sdc1d.proofs.number_of_states.Reads as reads
-use Rattle.sdc1d.proofs.number_of_states.Lts as lts
-use Rattle.sdc1d.proofs.checks.design_reply.Reads as design-reply-reads
-use Rattle.sdc1d.proofs.states.state_count.Reads as state-count-reads
 
 -- the check of its own
 abbrev own : Design → List Check
 own d = TooManyStates if tooManyStates d ∷ []
 
--- src/lib.rt:149:11
 design-reply-requires : tie.Need-design-reply-requires
 design-reply-requires c κs = search needs
 
--- src/lib.rt:150:24
 enum-known-refusal : tie.Need-enum-known-refusal
 enum-known-refusal c = search needs
 
--- src/lib.rt:152:17
 enum-told : tie.Need-enum-told
 enum-told c = search needs
 
--- src/lib.rt:152:17
 state-count-requires : tie.Need-state-count-requires
 state-count-requires c κs =
     let a = c .before .before .before .before .before .before .before .before .args in
     let d : Design = lent (a .scaffold) (a .glues) (a .dg) (a .ds) (a .potentials) (a .ambient) in
     sized d (admitted d (sym (c .before .before .design-reply .ensures) ∙ c .enum-told .given .1) .sizes)
 
--- src/lib.rt:154:17
 returns : tie.Need-returns
 returns c =
     let a = c .before .before .before .before .before .before .before .before .before .before .args in
@@ -52,14 +43,12 @@ returns c =
     let many : firstOf (own d) ≡ Refused TooManyStates = simp (too-many (count (modelOf d)) (c .before .state-count .ensures) (c .if1 .taken)) in
     turned-down 0 (count (modelOf d)) TooManyStates (goes-on ∙ many)
 
--- src/lib.rt:139:1
 returns-2 : tie.Need-returns-2
 returns-2 c =
     let a = c .before .before .before .before .before .before .before .before .before .args in
     let d : Design = lent (a .scaffold) (a .glues) (a .dg) (a .ds) (a .potentials) (a .ambient) in
     turned-down 0 (count (modelOf d)) _ (design-refused d false (own d) refl (sym (c .before .before .before .design-reply .ensures) ∙ c .before .refusal .given .1))
 
--- src/lib.rt:139:1
 returns-3 : tie.Need-returns-3
 returns-3 c =
     let a = c .before .before .before .before .before .before .before .before .before .before .args in

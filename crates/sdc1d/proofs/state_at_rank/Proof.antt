@@ -1,10 +1,9 @@
 -- `state_at_rank` meets its contract: each return's reply is that of the first check that holds, and only the last writes. Assumes nothing.
 use borrow.Author.Needs.{needs}
-use mathlib.Core.Path.{_≡_, refl, sym, ap, _∙_}
-use mathlib.Core.Bool.{Bool, true, false, not}
+use mathlib.Core.Path.{_≡_, sym, ap, _∙_}
+use mathlib.Core.Bool.{Bool, true, not}
 use mathlib.Core.List.{List, [], _∷_}
 use Prim.Native.Nat.{ℕ, _<_, _≤_}
-use native.Mathlib.Omega.{arith}
 use lib.Dec.{eqb}
 use lib.ListN.{length}
 use borrow.Author.Tests.{eq-eqb, ne-eqb, le-leb, lt-leb}
@@ -19,11 +18,6 @@ use Rattle.sdc1d.proofs.Counted.{too-many, not-too-many, counted}
 use Rattle.sdc1d.proofs.Replies.{admitted, own-size, design-refused, design-admitted, answered, turned-down, entries-written, entries-kept}
 use Rattle.sdc1d.proofs.state_at_rank.Statement.{statement}
 use Rattle.sdc1d.proofs.state_at_rank.Tie as tie
-use Rattle.sdc1d.proofs.state_at_rank.Reads as reads
-use Rattle.sdc1d.proofs.state_at_rank.Lts as lts
-use Rattle.sdc1d.proofs.checks.design_reply.Reads as design-reply-reads
-use Rattle.sdc1d.proofs.states.state_count.Reads as state-count-reads
-use Rattle.sdc1d.proofs.states.write_state.Reads as write-state-reads
 
 -- the checks of its own, and whether its own size is wrong
 abbrev own : Design → ℕ → List Check
@@ -32,7 +26,6 @@ own d rank = TooManyStates if tooManyStates d ∷ RankTooHigh if rankTooHigh d r
 abbrev ownSize : Design → List ℕ → Bool
 ownSize d entries = not (eqb (length entries) (positions d))
 
--- src/lib.rt:176:9
 returns : tie.Need-returns
 returns c =
     let a = c .before .before .before .before .before .before .before .args in
@@ -42,26 +35,21 @@ returns c =
     let reply = own-size d (ownSize d e) (own d (a .rank)) wrong in
     (turned-down tt tt WrongSize reply, entries-kept e (stateAt (modelOf d) (a .rank)) WrongSize reply)
 
--- src/lib.rt:178:11
 design-reply-requires : tie.Need-design-reply-requires
 design-reply-requires c κs = search needs
 
--- src/lib.rt:179:24
 enum-known-refusal : tie.Need-enum-known-refusal
 enum-known-refusal c = search needs
 
--- src/lib.rt:181:17
 enum-told : tie.Need-enum-told
 enum-told c = search needs
 
--- src/lib.rt:181:17
 state-count-requires : tie.Need-state-count-requires
 state-count-requires c κs =
     let a = c .before .before .before .before .before .before .before .before .before .before .args in
     let d : Design = lent (a .scaffold) (a .glues) (a .dg) (a .ds) (a .potentials) (a .ambient) in
     sized d (admitted d (sym (c .before .before .design-reply .ensures) ∙ c .enum-told .given .1) .sizes)
 
--- src/lib.rt:183:17
 returns-2 : tie.Need-returns-2
 returns-2 c =
     let a = c .before .before .before .before .before .before .before .before .before .before .before .before .args in
@@ -72,7 +60,6 @@ returns-2 c =
     let reply = goes-on ∙ many in
     (turned-down tt tt TooManyStates reply, entries-kept e (stateAt (modelOf d) (a .rank)) TooManyStates reply)
 
--- src/lib.rt:186:17
 returns-3 : tie.Need-returns-3
 returns-3 c =
     let a = c .before .before .before .before .before .before .before .before .before .before .before .before .before .args in
@@ -86,17 +73,14 @@ returns-3 c =
     let reply = goes-on ∙ high in
     (turned-down tt tt RankTooHigh reply, entries-kept e (stateAt (modelOf d) (a .rank)) RankTooHigh reply)
 
--- src/lib.rt:188:13
 write-state-requires : tie.Need-write-state-requires
 write-state-requires c κs =
     let a = c .before .before .before .before .before .before .before .before .before .before .before .before .before .before .args in
-    let d : Design = lent (a .scaffold) (a .glues) (a .dg) (a .ds) (a .potentials) (a .ambient) in
-    (
+    let d : Design = lent (a .scaffold) (a .glues) (a .dg) (a .ds) (a .potentials) (a .ambient) in (
       sized d (admitted d (sym (c .before .before .before .before .before .before .design-reply .ensures) ∙ c .before .before .before .before .enum-told .given .1) .sizes),
       (counted (count (modelOf d)) (c .before .before .before .state-count .ensures) (c .before .before .if2 .left), c .before .before .before .before .before .before .before .if1 .left),
     )
 
--- src/lib.rt:162:1
 returns-4 : tie.Need-returns-4
 returns-4 c =
     let a = c .before .before .before .before .before .before .before .before .before .before .before .args in
@@ -105,11 +89,9 @@ returns-4 c =
     let reply = design-refused d (ownSize d e) (own d (a .rank)) (ap not (eq-eqb _ _ (c .before .before .before .before .if1 .left))) (sym (c .before .before .before .design-reply .ensures) ∙ c .before .refusal .given .1) in
     (turned-down tt tt _ reply, entries-kept e (stateAt (modelOf d) (a .rank)) _ reply)
 
--- src/lib.rt:162:1
 same-length : tie.Need-same-length
 same-length c = search needs
 
--- src/lib.rt:162:1
 returns-5 : tie.Need-returns-5
 returns-5 c =
     let a = c .before .before .before .before .before .before .before .before .before .before .before .before .before .before .before .before .before .args in

@@ -1,36 +1,25 @@
 use borrow.Author.Needs.{needs}
 use Rattle.sdc1d.proofs.bonds.bond_at.Statement.{statement}
 use Rattle.sdc1d.proofs.bonds.bond_at.Tie as tie
-use Rattle.sdc1d.proofs.bonds.bond_at.Reads as reads
-use Rattle.sdc1d.proofs.bonds.bond_at.Lts as lts
-use Rattle.sdc1d.proofs.bonds.bond.Reads as bond-reads
-use Rattle.sdc1d.proofs.friends.cell_index.Reads as cell-index-reads
 
--- src/bonds.rt:31:9
 cell-index-requires : tie.Need-cell-index-requires
 cell-index-requires c κs = search needs
 
--- src/bonds.rt:32:21
 mul-t8 : tie.Need-mul-t8
 mul-t8 c = search needs
 
--- src/bonds.rt:32:21
 shared-slice-read-t10 : tie.Need-shared-slice-read-t10
 shared-slice-read-t10 c = search needs
 
--- src/bonds.rt:32:47
 mul-t12 : tie.Need-mul-t12
 mul-t12 c = search needs
 
--- src/bonds.rt:32:47
 shared-slice-read-t14 : tie.Need-shared-slice-read-t14
 shared-slice-read-t14 c = search needs
 
--- src/bonds.rt:32:5
 bond-requires : tie.Need-bond-requires
 bond-requires c κs = search needs
 
--- src/bonds.rt:24:1
 returns : tie.Need-returns
 returns c = cc
 

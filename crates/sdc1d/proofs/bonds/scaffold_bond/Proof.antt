@@ -3,34 +3,25 @@ use Rattle.design.specs.Design.{scaffoldBond}
 use native.Mathlib.Omega.{arith}
 use Rattle.sdc1d.proofs.bonds.scaffold_bond.Statement.{statement}
 use Rattle.sdc1d.proofs.bonds.scaffold_bond.Tie as tie
-use Rattle.sdc1d.proofs.bonds.scaffold_bond.Reads as reads
-use Rattle.sdc1d.proofs.bonds.scaffold_bond.Lts as lts
-use Rattle.sdc1d.proofs.bonds.bond_at.Reads as bond-at-reads
 
--- src/bonds.rt:71:25
 shared-slice-read-scaffold-glue : tie.Need-shared-slice-read-scaffold-glue
 shared-slice-read-scaffold-glue c = search needs
 
--- src/bonds.rt:72:29
 mul-strand-glue : tie.Need-mul-strand-glue
 mul-strand-glue c = search needs
 
--- src/bonds.rt:72:29
 add-strand-glue : tie.Need-add-strand-glue
 add-strand-glue c = search needs
 
--- src/bonds.rt:72:23
 shared-slice-read-strand-glue : tie.Need-shared-slice-read-strand-glue
 shared-slice-read-strand-glue c = search needs
 
--- src/bonds.rt:73:5
 bond-at-requires : tie.Need-bond-at-requires
 bond-at-requires c κs =
     let s = c .before .before .before .before .before .before .before in
     let z = s .pre .0 in
     (z .dg-cells, (z .ds-cells, (z .scaffold-low _ (s .pre .1 .0), z .glues-low _ (omega arith))))
 
--- src/bonds.rt:56:1
 returns : tie.Need-returns
 unfolding scaffoldBond
 returns c = c .bond-at .ensures

@@ -1,6 +1,5 @@
 -- The range test of the cells meets its contract: a first cell out of range is one that is. Assumes nothing.
 use borrow.Author.Needs.{needs}
-use mathlib.Core.Path.{_≡_, sym, ap, _∙_}
 use lib.Ieee.{neg, ofBits}
 use Rattle.doubles.specs.Decimal.{nearest}
 use Rattle.lists.proofs.Find.{first-any}
@@ -8,24 +7,17 @@ use Rattle.lists.proofs.Any.{found, not-found}
 use Rattle.design.specs.Checks.{beyond, cellsOut}
 use Rattle.sdc1d.proofs.checks.cells_out.Statement.{statement}
 use Rattle.sdc1d.proofs.checks.cells_out.Tie as tie
-use Rattle.sdc1d.proofs.checks.cells_out.Reads as reads
-use Rattle.sdc1d.proofs.checks.cells_out.Lts as lts
-use Rattle.sdc1d.proofs.checks.first_outside.Reads as first-outside-reads
 
--- src/checks.rt:90:8
 first-outside-requires : tie.Need-first-outside-requires
 first-outside-requires c κs = search needs
 
--- src/checks.rt:91:9
 returns : tie.Need-returns
 unfolding cellsOut nearest neg ofBits
 returns c = simp (found (beyond 1024) (c .before .before .before .before .args .dg .now) (c .before .first-outside .ensures) (c .if1 .taken))
 
--- src/checks.rt:93:5
 first-outside-requires-2 : tie.Need-first-outside-requires-2
 first-outside-requires-2 c κs = search needs
 
--- src/checks.rt:87:1
 returns-2 : tie.Need-returns-2
 unfolding cellsOut nearest neg ofBits
 returns-2 c =

@@ -1,5 +1,5 @@
 -- The search for a glue above 63 meets its contract. The invariant: what is found from i on, i places further, is what is found. Assumes nothing.
-use mathlib.Core.Path.{_≡_, sym, _∙_}
+use mathlib.Core.Path.{_≡_}
 use Prim.Native.Nat.{_≤_, _+_, _-_}
 use native.Mathlib.Omega.{arith}
 use lib.ListN.{length, drop}
@@ -10,8 +10,6 @@ use Rattle.lists.proofs.Find.{first-here, first-later, first-past}
 use Rattle.design.specs.Checks.{highGlue}
 use Rattle.sdc1d.proofs.checks.first_high_glue.Statement.{statement}
 use Rattle.sdc1d.proofs.checks.first_high_glue.Tie as tie
-use Rattle.sdc1d.proofs.checks.first_high_glue.Reads as reads
-use Rattle.sdc1d.proofs.checks.first_high_glue.Lts as lts
 
 abbrev Inv-loop : tie.InvT-loop
 Inv-loop glues i₀ i = (i ≤ length glues) × (firstIndex highGlue glues ≡ i + firstIndex highGlue (drop i glues))
@@ -19,35 +17,28 @@ Inv-loop glues i₀ i = (i ≤ length glues) × (firstIndex highGlue glues ≡ i
 abbrev μ-loop : tie.MeasureT-loop
 μ-loop glues i₀ i = length glues - i
 
--- src/checks.rt:37:5
 loop-holds : tie.Need-loop-holds Inv-loop μ-loop
 loop-holds c = search needs
 
--- src/checks.rt:38:24
 shared-slice-read-if1 : tie.Need-shared-slice-read-if1 Inv-loop μ-loop
 shared-slice-read-if1 c = search needs
 
--- src/checks.rt:39:13
 returns : tie.Need-returns Inv-loop μ-loop
 returns c =
     let l = c .before .before .before in
     omega (arith, first-here highGlue (l .before .args .glues .now) (l .loop .i) 0 (omega arith) (lt-ltb _ _ (c .if1 .taken)), l .loop .inv .1)
 
--- src/checks.rt:41:9
 add-i : tie.Need-add-i Inv-loop μ-loop
 add-i c = search needs
 
--- src/checks.rt:37:5
 loop-less : tie.Need-loop-less Inv-loop μ-loop
 loop-less c = search needs
 
--- src/checks.rt:37:5
 loop-again : tie.Need-loop-again Inv-loop μ-loop
 loop-again c =
     let l = c .before .before .before in
     (omega arith, omega (arith, first-later highGlue (l .before .args .glues .now) (l .loop .i) 0 (omega arith) (le-ltb _ _ (c .if1 .left)), l .loop .inv .1))
 
--- src/checks.rt:33:1
 returns-2 : tie.Need-returns-2 Inv-loop μ-loop
 returns-2 c =
     let l = c .before in

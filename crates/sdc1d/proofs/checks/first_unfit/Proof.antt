@@ -16,10 +16,6 @@ use Rattle.design.specs.Design.{Design, design, lent, potential}
 use Rattle.design.specs.Checks.{somewhere, beyond, unfit}
 use Rattle.sdc1d.proofs.checks.first_unfit.Statement.{statement}
 use Rattle.sdc1d.proofs.checks.first_unfit.Tie as tie
-use Rattle.sdc1d.proofs.checks.first_unfit.Reads as reads
-use Rattle.sdc1d.proofs.checks.first_unfit.Lts as lts
-use Rattle.doubles.proofs.in_range.Reads as in-range-reads
-use Rattle.sdc1d.proofs.friends.is_friend_somewhere.Reads as is-friend-somewhere-reads
 
 -- a strand that is somewhere a friend is unfit exactly if its potential is out of range, and any other is not
 looked-at : (d : Design) (strand : _) (t : Bool) → somewhere d strand ≡ true → beyond 1024 (potential d strand) ≡ t → unfit d strand ≡ t
@@ -32,32 +28,26 @@ abbrev Inv-loop : tie.InvT-loop
 Inv-loop scaffold glues dg ds potentials ambient strand₀ strand =
     (strand ≤ length potentials)
     × (firstIndex (unfit (design scaffold glues dg ds potentials ambient)) (upTo (length potentials))
-      ≡ strand + firstIndex (unfit (design scaffold glues dg ds potentials ambient)) (drop strand (upTo (length potentials))))
+    ≡ strand + firstIndex (unfit (design scaffold glues dg ds potentials ambient)) (drop strand (upTo (length potentials))))
 
 abbrev μ-loop : tie.MeasureT-loop
 μ-loop scaffold glues dg ds potentials ambient strand₀ strand = length potentials - strand
 
--- src/checks.rt:121:5
 loop-holds : tie.Need-loop-holds Inv-loop μ-loop
 loop-holds c = search needs
 
--- src/checks.rt:122:12
 is-friend-somewhere-requires : tie.Need-is-friend-somewhere-requires Inv-loop μ-loop
 is-friend-somewhere-requires c κs = search needs
 
--- src/checks.rt:123:58
 mul-in-range : tie.Need-mul-in-range Inv-loop μ-loop
 mul-in-range c = search needs
 
--- src/checks.rt:123:58
 shared-slice-read-in-range : tie.Need-shared-slice-read-in-range Inv-loop μ-loop
 shared-slice-read-in-range c = search needs
 
--- src/checks.rt:123:17
 in-range-requires : tie.Need-in-range-requires Inv-loop μ-loop
 in-range-requires c κs = search needs
 
--- src/checks.rt:124:17
 returns : tie.Need-returns Inv-loop μ-loop
 unfolding nearest neg ofBits
 returns c =
@@ -68,15 +58,12 @@ returns c =
     let here = looked-at d (l .loop .strand) true (sym (c .before .before .before .before .is-friend-somewhere .ensures) ∙ c .before .before .before .if1 .taken) out in
     omega (arith, first-here (unfit d) (length (a .potentials .now)) (l .loop .strand) (c .before .before .before .before .before .loop-test .taken) here, l .loop .inv .1)
 
--- src/checks.rt:127:9
 add-strand : tie.Need-add-strand Inv-loop μ-loop
 add-strand c = search needs
 
--- src/checks.rt:121:5
 loop-less : tie.Need-loop-less Inv-loop μ-loop
 loop-less c = search needs
 
--- src/checks.rt:121:5
 loop-again : tie.Need-loop-again Inv-loop μ-loop
 unfolding nearest neg ofBits
 loop-again c =
@@ -86,19 +73,16 @@ loop-again c =
     let n = length (a .potentials .now) in
     let somewhere-is = sym (c .before .is-friend-somewhere .ensures) in
     elim (c .if1 .came) [
-      | inl w ↦
-        (
-          omega arith,
-          omega (arith, first-later (unfit d) n (l .loop .strand) (c .before .before .loop-test .taken) (looked-at d (l .loop .strand) false (somewhere-is ∙ w .0 .taken) (ap not (sym (w .2 .ensures)) ∙ w .3 .left)), l .loop .inv .1),
-        )
-      | inr w ↦
-        (
-          omega arith,
-          omega (arith, first-later (unfit d) n (l .loop .strand) (c .before .before .loop-test .taken) (passed-over d (l .loop .strand) (somewhere-is ∙ w .left)), l .loop .inv .1),
-        )
+      | inl w ↦ (
+        omega arith,
+        omega (arith, first-later (unfit d) n (l .loop .strand) (c .before .before .loop-test .taken) (looked-at d (l .loop .strand) false (somewhere-is ∙ w .0 .taken) (ap not (sym (w .2 .ensures)) ∙ w .3 .left)), l .loop .inv .1),
+      )
+      | inr w ↦ (
+        omega arith,
+        omega (arith, first-later (unfit d) n (l .loop .strand) (c .before .before .loop-test .taken) (passed-over d (l .loop .strand) (somewhere-is ∙ w .left)), l .loop .inv .1),
+      )
     ]
 
--- src/checks.rt:109:1
 returns-2 : tie.Need-returns-2 Inv-loop μ-loop
 returns-2 c =
     let a = c .before .before .before .before .before .before .before .args in

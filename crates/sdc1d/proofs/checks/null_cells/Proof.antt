@@ -3,19 +3,14 @@
 use mathlib.Core.Path.{_≡_, sym, _∙_}
 use Prim.Native.Nat.{_≤_, _-_}
 use native.Mathlib.Omega.{arith}
-use lib.ListN.{length, drop}
+use lib.ListN.{drop}
 use borrow.Author.Needs.{needs}
 use Rattle.lists.specs.Build.{upTo}
 use Rattle.lists.specs.Find.{any}
 use Rattle.lists.proofs.Build.{any-here, any-later, any-past}
 use Rattle.design.specs.Checks.{nullCells}
-use mathlib.Core.Path.{ap}
-use mathlib.Core.Bool.{Bool, true, false, _||_, or-true}
 use Rattle.sdc1d.proofs.checks.null_cells.Statement.{statement}
 use Rattle.sdc1d.proofs.checks.null_cells.Tie as tie
-use Rattle.sdc1d.proofs.checks.null_cells.Reads as reads
-use Rattle.sdc1d.proofs.checks.null_cells.Lts as lts
-use Rattle.sdc1d.proofs.friends.binds.Reads as binds-reads
 
 abbrev Inv-loop : tie.InvT-loop
 Inv-loop dg ds glue₀ glue = (glue ≤ 64) × (any (nullCells dg ds) (upTo 64) ≡ any (nullCells dg ds) (drop glue (upTo 64)))
@@ -23,15 +18,12 @@ Inv-loop dg ds glue₀ glue = (glue ≤ 64) × (any (nullCells dg ds) (upTo 64) 
 abbrev μ-loop : tie.MeasureT-loop
 μ-loop dg ds glue₀ glue = 64 - glue
 
--- src/checks.rt:139:5
 loop-holds : tie.Need-loop-holds Inv-loop μ-loop
 loop-holds c = search needs
 
--- src/checks.rt:140:12
 binds-requires : tie.Need-binds-requires Inv-loop μ-loop
 binds-requires c κs = search needs
 
--- src/checks.rt:141:13
 returns : tie.Need-returns Inv-loop μ-loop
 returns c =
     let a = c .before .before .before .before .before .before .args in
@@ -39,11 +31,9 @@ returns c =
     let t = nullCells (a .dg .now) (a .ds .now) in
     sym (l .loop .inv .1 ∙ any-here t 64 (l .loop .glue) (c .before .before .loop-test .taken) (simp (← c .before .binds .ensures, c .if1 .taken)))
 
--- src/checks.rt:143:12
 binds-requires-2 : tie.Need-binds-requires-2 Inv-loop μ-loop
 binds-requires-2 c κs = search needs
 
--- src/checks.rt:144:13
 returns-2 : tie.Need-returns-2 Inv-loop μ-loop
 returns-2 c =
     let a = c .before .before .before .before .before .before .before .before .args in
@@ -51,15 +41,12 @@ returns-2 c =
     let t = nullCells (a .dg .now) (a .ds .now) in
     sym (l .loop .inv .1 ∙ any-here t 64 (l .loop .glue) (c .before .before .before .before .loop-test .taken) (simp (← c .before .before .before .binds .ensures, c .before .before .if1 .left, ← c .before .binds2 .ensures, c .if2 .taken)))
 
--- src/checks.rt:146:9
 add-glue : tie.Need-add-glue Inv-loop μ-loop
 add-glue c = search needs
 
--- src/checks.rt:139:5
 loop-less : tie.Need-loop-less Inv-loop μ-loop
 loop-less c = search needs
 
--- src/checks.rt:139:5
 loop-again : tie.Need-loop-again Inv-loop μ-loop
 loop-again c =
     let a = c .before .before .before .before .before .before .before .before .args in
@@ -67,7 +54,6 @@ loop-again c =
     let t = nullCells (a .dg .now) (a .ds .now) in
     (omega arith, l .loop .inv .1 ∙ any-later t 64 (l .loop .glue) (c .before .before .before .before .loop-test .taken) (simp (← c .before .before .before .binds .ensures, c .before .before .if1 .left, ← c .before .binds2 .ensures, c .if2 .left)))
 
--- src/checks.rt:133:1
 returns-3 : tie.Need-returns-3 Inv-loop μ-loop
 returns-3 c =
     let a = c .before .before .before .before .args in

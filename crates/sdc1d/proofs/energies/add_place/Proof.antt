@@ -1,32 +1,24 @@
 -- One place of `g_system` meets its contract: the terms are added in the order of the definition. Assumes nothing.
 use borrow.Author.Needs.{needs}
-use mathlib.Core.Path.{_≡_, refl, sym, ap, _∙_}
-use mathlib.Core.List.{List, [], _∷_}
-use Prim.Native.Nat.{ℕ, _+_, _-_, _<_}
+use mathlib.Core.Path.{_≡_, sym, ap, _∙_}
+use mathlib.Core.List.{_∷_}
+use Prim.Native.Nat.{ℕ, _+_}
 use native.Mathlib.Omega.{arith}
 use native.Mathlib.Numerals.{add-one}
-use lib.ListN.{length, getD, drop, drop-of-length-le}
+use lib.ListN.{getD, drop, drop-of-length-le}
 use lib.Seq.{drop-cons}
-use lib.Ieee.{Float, nan}
+use lib.Ieee.{nan}
 use Rattle.model.proofs.Sums.{place-empty, place-joined, place-last}
 use Rattle.design.specs.Design.{Design, lent, strandBond, scaffoldBond, modelOf}
 use Rattle.sdc1d.proofs.energies.add_place.Statement.{statement}
 use Rattle.sdc1d.proofs.energies.add_place.Tie as tie
-use Rattle.sdc1d.proofs.energies.add_place.Reads as reads
-use Rattle.sdc1d.proofs.energies.add_place.Lts as lts
-use Rattle.sdc1d.proofs.bonds.scaffold_bond.Reads as scaffold-bond-reads
-use Rattle.sdc1d.proofs.bonds.strand_bond.Reads as strand-bond-reads
-use Rattle.sdc1d.proofs.energies.wide.Reads as wide-reads
 
--- src/energies.rt:37:23
 shared-slice-read-wide : tie.Need-shared-slice-read-wide
 shared-slice-read-wide c = omega (arith, c .before .before .before .before .before .before .before .pre .1 .0 .places)
 
--- src/energies.rt:37:9
 wide-requires : tie.Need-wide-requires
 wide-requires c κs = search needs
 
--- src/energies.rt:39:9
 returns : tie.Need-returns
 unfolding modelOf
 returns c =
@@ -34,30 +26,24 @@ returns c =
     let d : Design = lent (a .scaffold) (a .glues) (a .dg) (a .ds) (a .potentials) (a .ambient) in
     place-empty (modelOf d) (a .id) (a .sumg) (drop (a .id + 1) (a .attachments .now)) (sym (c .before .wide .ensures) ∙ c .if1 .taken)
 
--- src/energies.rt:41:25
 scaffold-bond-requires : tie.Need-scaffold-bond-requires
 scaffold-bond-requires c κs =
     let s = c .before .before .before .before .before .before .before .before .before in
     (s .pre .0, (s .pre .1 .1, omega (arith, c .before .wide .ensures, s .pre .1 .0 .known (s .args .id) (s .pre .1 .1))))
 
--- src/energies.rt:42:17
 add-right : tie.Need-add-right
 add-right c = search needs
 
--- src/energies.rt:44:30
 shared-slice-read-wide-2 : tie.Need-shared-slice-read-wide-2
 shared-slice-read-wide-2 c = search needs
 
--- src/energies.rt:44:13
 wide-requires-2 : tie.Need-wide-requires-2
 wide-requires-2 c κs = search needs
 
--- src/energies.rt:45:31
 strand-bond-requires : tie.Need-strand-bond-requires
 strand-bond-requires c κs =
     let s = c .before .before .before .before .before .before .before .before .before .before .before .before .before in
-    let p = s .pre .1 .0 in
-    (
+    let p = s .pre .1 .0 in (
       s .pre .0,
       (
         omega (arith, c .before .before .before .before .before .wide .ensures, p .known (s .args .id) (s .pre .1 .1)),
@@ -65,19 +51,16 @@ strand-bond-requires c κs =
       ),
     )
 
--- src/energies.rt:46:25
 mul-result : tie.Need-mul-result
 mul-result c =
     let s = c .before .before .before .before .before .before .before .before .before .before .before .before .before .before in
     omega (arith, c .before .before .before .before .before .before .wide .ensures, s .pre .1 .0 .known (s .args .id) (s .pre .1 .1), s .pre .0 .few)
 
--- src/energies.rt:46:25
 shared-slice-read-result : tie.Need-shared-slice-read-result
 shared-slice-read-result c =
     let s = c .before .before .before .before .before .before .before .before .before .before .before .before .before .before .before in
     omega (arith, c .before .before .before .before .before .before .before .wide .ensures, s .pre .1 .0 .known (s .args .id) (s .pre .1 .1))
 
--- src/energies.rt:46:9
 returns-2 : tie.Need-returns-2
 unfolding modelOf
 returns-2 c =
@@ -90,19 +73,16 @@ returns-2 c =
     place-joined (modelOf d) (a .id) (a .sumg) (λ e. c .before .before .before .before .before .before .if1 .left (strand ∙ e)) (c .before .before .before .before .before .scaffold-bond .ensures ∙ ap (scaffoldBond d (a .id)) strand) (ap (λ (k : ℕ). getD (a .potentials .now) k nan) strand)
     (c .before .strand-bond .ensures ∙ ap (λ (k : ℕ). strandBond d k (c .before .before .wide2 .result)) strand ∙ ap (strandBond d (getD t (a .id) 0)) (c .before .before .wide2 .ensures)) right
 
--- src/energies.rt:48:14
 mul-result-2 : tie.Need-mul-result-2
 mul-result-2 c =
     let s = c .before .before .before .before .before .before .before .before .before .before .before in
     omega (arith, c .before .before .before .wide .ensures, s .pre .1 .0 .known (s .args .id) (s .pre .1 .1), s .pre .0 .few)
 
--- src/energies.rt:48:14
 shared-slice-read-result-2 : tie.Need-shared-slice-read-result-2
 shared-slice-read-result-2 c =
     let s = c .before .before .before .before .before .before .before .before .before .before .before .before in
     omega (arith, c .before .before .before .before .wide .ensures, s .pre .1 .0 .known (s .args .id) (s .pre .1 .1))
 
--- src/energies.rt:21:1
 returns-3 : tie.Need-returns-3
 unfolding modelOf
 returns-3 c =

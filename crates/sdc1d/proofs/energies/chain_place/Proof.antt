@@ -1,32 +1,22 @@
 -- One place of the chain sum meets its contract: the terms are added in the order of the definition. Assumes nothing.
 use borrow.Author.Needs.{needs}
-use mathlib.Core.Path.{_≡_, refl, sym, ap, _∙_}
-use mathlib.Core.Option.{Option, none, some}
-use mathlib.Core.List.{List}
-use Prim.Native.Nat.{ℕ, _+_, _-_, _<_}
+use mathlib.Core.Path.{sym, ap, _∙_}
+use Prim.Native.Nat.{ℕ, _-_}
 use native.Mathlib.Omega.{arith}
-use lib.ListN.{length, getD}
-use lib.Ieee.{Float, nan}
+use lib.ListN.{getD}
+use lib.Ieee.{nan}
 use Rattle.model.specs.Energy.{leftOf}
 use Rattle.model.proofs.Sums.{chain-empty, chain-joined, chain-first, left-before}
 use Rattle.design.specs.Design.{Design, lent, strandBond, scaffoldBond, modelOf}
 use Rattle.sdc1d.proofs.energies.chain_place.Statement.{statement}
 use Rattle.sdc1d.proofs.energies.chain_place.Tie as tie
-use Rattle.sdc1d.proofs.energies.chain_place.Reads as reads
-use Rattle.sdc1d.proofs.energies.chain_place.Lts as lts
-use Rattle.sdc1d.proofs.bonds.scaffold_bond.Reads as scaffold-bond-reads
-use Rattle.sdc1d.proofs.bonds.strand_bond.Reads as strand-bond-reads
-use Rattle.sdc1d.proofs.energies.wide.Reads as wide-reads
 
--- src/energies.rt:92:23
 shared-slice-read-wide : tie.Need-shared-slice-read-wide
 shared-slice-read-wide c = omega (arith, c .before .before .before .before .before .before .before .pre .1 .0 .places)
 
--- src/energies.rt:92:9
 wide-requires : tie.Need-wide-requires
 wide-requires c κs = search needs
 
--- src/energies.rt:94:9
 returns : tie.Need-returns
 unfolding modelOf
 returns c =
@@ -34,25 +24,21 @@ returns c =
     let d : Design = lent (a .scaffold) (a .glues) (a .dg) (a .ds) (a .potentials) (a .ambient) in
     chain-empty (modelOf d) (a .position) (a .sum) (leftOf (a .configuration .now) (a .position)) (sym (c .before .wide .ensures) ∙ c .if1 .taken)
 
--- src/energies.rt:96:9
 scaffold-bond-requires : tie.Need-scaffold-bond-requires
 scaffold-bond-requires c κs =
     let s = c .before .before .before .before .before .before .before .before .before in
     (s .pre .0, (s .pre .1 .1, omega (arith, c .before .wide .ensures, s .pre .1 .0 .known (s .args .position) (s .pre .1 .1))))
 
--- src/energies.rt:98:29
 mul-result : tie.Need-mul-result
 mul-result c =
     let s = c .before .before .before .before .before .before .before .before .before .before .before in
     omega (arith, c .before .before .before .wide .ensures, s .pre .1 .0 .known (s .args .position) (s .pre .1 .1), s .pre .0 .few)
 
--- src/energies.rt:98:29
 shared-slice-read-result : tie.Need-shared-slice-read-result
 shared-slice-read-result c =
     let s = c .before .before .before .before .before .before .before .before .before .before .before .before in
     omega (arith, c .before .before .before .before .wide .ensures, s .pre .1 .0 .known (s .args .position) (s .pre .1 .1))
 
--- src/energies.rt:98:9
 returns-2 : tie.Need-returns-2
 unfolding modelOf
 returns-2 c =
@@ -63,24 +49,19 @@ returns-2 c =
     chain-first (modelOf d) (a .position) (a .sum) (λ e. c .before .before .before .if1 .left (strand ∙ e)) (c .before .before .scaffold-bond .ensures ∙ ap (scaffoldBond d (a .position)) strand) (ap (λ (k : ℕ). getD (a .potentials .now) k nan) strand)
     (ap (leftOf (a .configuration .now)) (c .before .if2 .taken))
 
--- src/energies.rt:100:35
 sub-wide : tie.Need-sub-wide
 sub-wide c = search needs
 
--- src/energies.rt:100:21
 shared-slice-read-wide-2 : tie.Need-shared-slice-read-wide-2
 shared-slice-read-wide-2 c = omega (arith, c .before .before .before .before .before .before .before .before .before .before .before .before .pre .1 .0 .places, c .before .before .before .before .before .before .before .before .before .before .before .before .pre .1 .1)
 
--- src/energies.rt:100:9
 wide-requires-2 : tie.Need-wide-requires-2
 wide-requires-2 c κs = search needs
 
--- src/energies.rt:101:11
 strand-bond-requires : tie.Need-strand-bond-requires
 strand-bond-requires c κs =
     let s = c .before .before .before .before .before .before .before .before .before .before .before .before .before in
-    let p = s .pre .1 .0 in
-    (
+    let p = s .pre .1 .0 in (
       s .pre .0,
       (
         omega (arith, c .wide2 .ensures, p .known (s .args .position - 1) (omega (arith, s .pre .1 .1))),
@@ -88,19 +69,16 @@ strand-bond-requires c κs =
       ),
     )
 
--- src/energies.rt:101:92
 mul-result-2 : tie.Need-mul-result-2
 mul-result-2 c =
     let s = c .before .before .before .before .before .before .before .before .before .before .before .before .before .before in
     omega (arith, c .before .before .before .before .before .before .wide .ensures, s .pre .1 .0 .known (s .args .position) (s .pre .1 .1), s .pre .0 .few)
 
--- src/energies.rt:101:92
 shared-slice-read-result-2 : tie.Need-shared-slice-read-result-2
 shared-slice-read-result-2 c =
     let s = c .before .before .before .before .before .before .before .before .before .before .before .before .before .before .before in
     omega (arith, c .before .before .before .before .before .before .before .wide .ensures, s .pre .1 .0 .known (s .args .position) (s .pre .1 .1))
 
--- src/energies.rt:76:1
 returns-3 : tie.Need-returns-3
 unfolding modelOf
 returns-3 c =

@@ -12,49 +12,39 @@ use Rattle.model.proofs.Sums.{state-more, state-done}
 use Rattle.design.specs.Design.{Design, design, lent, modelOf}
 use Rattle.sdc1d.proofs.energies.state_sum.Statement.{statement}
 use Rattle.sdc1d.proofs.energies.state_sum.Tie as tie
-use Rattle.sdc1d.proofs.energies.state_sum.Reads as reads
-use Rattle.sdc1d.proofs.energies.state_sum.Lts as lts
-use Rattle.sdc1d.proofs.energies.add_place.Reads as add-place-reads
 
 abbrev Inv-loop : tie.InvT-loop
 Inv-loop scaffold glues dg ds potentials ambient attachments sumg₀ id₀ sumg id =
     (id ≤ length attachments)
     × (sumFrom zero (stateTerms (modelOf (design scaffold glues dg ds potentials ambient)) 0 attachments)
-      ≡ sumFrom sumg (stateTerms (modelOf (design scaffold glues dg ds potentials ambient)) id (drop id attachments)))
+    ≡ sumFrom sumg (stateTerms (modelOf (design scaffold glues dg ds potentials ambient)) id (drop id attachments)))
 
 abbrev μ-loop : tie.MeasureT-loop
 μ-loop scaffold glues dg ds potentials ambient attachments sumg₀ id₀ sumg id = length attachments - id
 
--- src/energies.rt:66:5
 loop-holds : tie.Need-loop-holds Inv-loop μ-loop
 unfolding ofBits
 loop-holds c = (omega arith, refl)
 
--- src/energies.rt:67:9
 add-place-requires : tie.Need-add-place-requires Inv-loop μ-loop
 add-place-requires c κs = (c .before .before .before .before .before .before .before .before .pre .0, (c .before .before .before .before .before .before .before .before .pre .1, omega (arith, c .before .before .before .before .before .before .before .before .pre .1 .places)))
 
--- src/energies.rt:70:9
 add-id : tie.Need-add-id Inv-loop μ-loop
 add-id c = search needs
 
--- src/energies.rt:66:5
 loop-less : tie.Need-loop-less Inv-loop μ-loop
 loop-less c = search needs
 
--- src/energies.rt:66:5
 loop-again : tie.Need-loop-again Inv-loop μ-loop
 loop-again c =
     let a = c .before .before .before .before .before .before .before .before .before .args in
     let d : Design = lent (a .scaffold) (a .glues) (a .dg) (a .ds) (a .potentials) (a .ambient) in
     let l = c .before .before in
-    let rest : Float → Float = λ sum. sumFrom sum (stateTerms (modelOf d) (l .loop .id + 1) (drop (l .loop .id + 1) (a .attachments .now))) in
-    (
+    let rest : Float → Float = λ sum. sumFrom sum (stateTerms (modelOf d) (l .loop .id + 1) (drop (l .loop .id + 1) (a .attachments .now))) in (
       omega arith,
       l .loop .inv .1 ∙ state-more (modelOf d) (a .attachments .now) (l .loop .sumg) (l .loop .id) (c .before .loop-test .taken) ∙ ap rest (sym (c .add-place .ensures)),
     )
 
--- src/energies.rt:51:1
 returns : tie.Need-returns Inv-loop μ-loop
 returns c =
     let a = c .before .before .before .before .before .before .before .before .args in

@@ -3,34 +3,25 @@ use Rattle.design.specs.Design.{isFriend}
 use native.Mathlib.Omega.{arith}
 use Rattle.sdc1d.proofs.friends.is_friend.Statement.{statement}
 use Rattle.sdc1d.proofs.friends.is_friend.Tie as tie
-use Rattle.sdc1d.proofs.friends.is_friend.Reads as reads
-use Rattle.sdc1d.proofs.friends.is_friend.Lts as lts
-use Rattle.sdc1d.proofs.friends.binds.Reads as binds-reads
 
--- src/friends.rt:52:19
 shared-slice-read-binds : tie.Need-shared-slice-read-binds
 shared-slice-read-binds c = search needs
 
--- src/friends.rt:52:45
 mul-binds : tie.Need-mul-binds
 mul-binds c = search needs
 
--- src/friends.rt:52:45
 add-binds : tie.Need-add-binds
 add-binds c = search needs
 
--- src/friends.rt:52:39
 shared-slice-read-binds-2 : tie.Need-shared-slice-read-binds-2
 shared-slice-read-binds-2 c = search needs
 
--- src/friends.rt:52:5
 binds-requires : tie.Need-binds-requires
 binds-requires c κs =
     let s = c .before .before .before .before .before .before .before in
     let z = s .pre .0 in
     (z .dg-cells, (z .ds-cells, (z .scaffold-low (s .args .position) (s .pre .1 .0), z .glues-low _ (omega arith))))
 
--- src/friends.rt:37:1
 returns : tie.Need-returns
 unfolding isFriend
 returns c = c .binds .ensures

@@ -1,6 +1,6 @@
 -- The loop over the positions meets its contract. The invariant: whether the strand is a friend from a position on is whether it is one
 -- somewhere. Assumes nothing.
-use mathlib.Core.Path.{_≡_, sym, _∙_}
+use mathlib.Core.Path.{_≡_, sym, _∙_, refl}
 use Prim.Native.Nat.{_≤_, _-_}
 use native.Mathlib.Omega.{arith}
 use lib.ListN.{length, drop}
@@ -8,35 +8,27 @@ use borrow.Author.Needs.{needs}
 use Rattle.lists.specs.Build.{upTo}
 use Rattle.lists.specs.Find.{any}
 use Rattle.lists.proofs.Build.{any-here, any-later, any-past}
-use Rattle.design.specs.Design.{design, lent}
+use Rattle.design.specs.Design.{design, lent, Design}
 use Rattle.design.specs.Checks.{befriends, somewhere}
-use mathlib.Core.Path.{refl}
-use Rattle.design.specs.Design.{Design}
 use Rattle.sdc1d.proofs.friends.is_friend_somewhere.Statement.{statement}
 use Rattle.sdc1d.proofs.friends.is_friend_somewhere.Tie as tie
-use Rattle.sdc1d.proofs.friends.is_friend_somewhere.Reads as reads
-use Rattle.sdc1d.proofs.friends.is_friend_somewhere.Lts as lts
-use Rattle.sdc1d.proofs.friends.is_friend.Reads as is-friend-reads
 
 abbrev Inv-loop : tie.InvT-loop
 Inv-loop scaffold glues dg ds potentials ambient strand position₀ position =
     (position ≤ length scaffold)
     × (somewhere (design scaffold glues dg ds potentials ambient) strand
-      ≡ any (befriends (design scaffold glues dg ds potentials ambient) strand) (drop position (upTo (length scaffold))))
+    ≡ any (befriends (design scaffold glues dg ds potentials ambient) strand) (drop position (upTo (length scaffold))))
 
 abbrev μ-loop : tie.MeasureT-loop
 μ-loop scaffold glues dg ds potentials ambient strand position₀ position = length scaffold - position
 
--- src/friends.rt:71:5
 loop-holds : tie.Need-loop-holds Inv-loop μ-loop
 unfolding somewhere
 loop-holds c = (omega arith, refl)
 
--- src/friends.rt:72:12
 is-friend-requires : tie.Need-is-friend-requires Inv-loop μ-loop
 is-friend-requires c κs = search needs
 
--- src/friends.rt:73:13
 returns : tie.Need-returns Inv-loop μ-loop
 returns c =
     let a = c .before .before .before .before .before .before .before .before .before .args in
@@ -44,26 +36,21 @@ returns c =
     let l = c .before .before .before in
     sym (l .loop .inv .1 ∙ any-here (befriends d (a .strand)) (length (a .scaffold .now)) (l .loop .position) (c .before .before .loop-test .taken) (sym (c .before .is-friend .ensures) ∙ c .if1 .taken))
 
--- src/friends.rt:75:9
 add-position : tie.Need-add-position Inv-loop μ-loop
 add-position c = search needs
 
--- src/friends.rt:71:5
 loop-less : tie.Need-loop-less Inv-loop μ-loop
 loop-less c = search needs
 
--- src/friends.rt:71:5
 loop-again : tie.Need-loop-again Inv-loop μ-loop
 loop-again c =
     let a = c .before .before .before .before .before .before .before .before .before .args in
     let d : Design = lent (a .scaffold) (a .glues) (a .dg) (a .ds) (a .potentials) (a .ambient) in
-    let l = c .before .before .before in
-    (
+    let l = c .before .before .before in (
       omega arith,
       l .loop .inv .1 ∙ any-later (befriends d (a .strand)) (length (a .scaffold .now)) (l .loop .position) (c .before .before .loop-test .taken) (sym (c .before .is-friend .ensures) ∙ c .if1 .left),
     )
 
--- src/friends.rt:57:1
 returns-2 : tie.Need-returns-2 Inv-loop μ-loop
 returns-2 c =
     let a = c .before .before .before .before .before .before .before .args in

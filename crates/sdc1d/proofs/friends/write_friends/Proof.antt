@@ -1,47 +1,39 @@
 -- The writing of a position's friends meets its contract. The invariant: those among the strands passed stand in front, and the rest is
 -- as it was. Assumes nothing.
-use mathlib.Core.Path.{_≡_, refl, sym, ap, _∙_, subst}
+use mathlib.Core.Path.{_≡_, sym, _∙_}
 use mathlib.Core.Logic.{inl, inr}
-use mathlib.Core.List.{List, [], _∷_}
-use Prim.Native.Nat.{ℕ, _≤_, _+_, _-_}
+use mathlib.Core.List.{[]}
+use Prim.Native.Nat.{_≤_, _-_}
 use native.Mathlib.Omega.{arith}
-use lib.ListN.{length, drop, set}
+use lib.ListN.{length, drop}
 use borrow.Author.Needs.{needs}
 use Rattle.lists.specs.Build.{upTo, keep}
 use Rattle.lists.proofs.Build.{keep-here, keep-later, keep-past}
-use Rattle.lists.proofs.Front.{Front, front-none, front-length, front-more, front-whole, front-count}
+use Rattle.lists.proofs.Front.{Front, front-none, front-length, front-whole, front-count, front-step, front-same}
 use Rattle.design.specs.Design.{Design, design, lent, isFriend, friendsOf}
-use Rattle.lists.proofs.Front.{front-step, front-same}
 use Rattle.sdc1d.proofs.friends.write_friends.Statement.{statement}
 use Rattle.sdc1d.proofs.friends.write_friends.Tie as tie
-use Rattle.sdc1d.proofs.friends.write_friends.Reads as reads
-use Rattle.sdc1d.proofs.friends.write_friends.Lts as lts
-use Rattle.sdc1d.proofs.friends.is_friend.Reads as is-friend-reads
 
 abbrev Inv-loop : tie.InvT-loop
 Inv-loop scaffold glues dg ds potentials ambient position entries₀ count₀ strand₀ entries count strand =
     (strand ≤ length potentials)
     × (count ≤ strand)
     × Front entries₀ (friendsOf (design scaffold glues dg ds potentials ambient) position)
-      (keep (isFriend (design scaffold glues dg ds potentials ambient) position) (drop strand (upTo (length potentials)))) count entries
+    (keep (isFriend (design scaffold glues dg ds potentials ambient) position) (drop strand (upTo (length potentials)))) count entries
 
 abbrev μ-loop : tie.MeasureT-loop
 μ-loop scaffold glues dg ds potentials ambient position entries₀ count₀ strand₀ entries count strand = length potentials - strand
 
--- src/friends.rt:154:5
 loop-holds : tie.Need-loop-holds Inv-loop μ-loop
 unfolding friendsOf
 loop-holds c = (omega arith, omega arith, front-none _ _)
 
--- src/friends.rt:155:12
 is-friend-requires : tie.Need-is-friend-requires Inv-loop μ-loop
 is-friend-requires c κs = search needs
 
--- src/friends.rt:156:30
 cast-entries : tie.Need-cast-entries Inv-loop μ-loop
 cast-entries c = omega (arith, c .before .before .before .before .before .before .before .before .before .before .pre .0 .few)
 
--- src/friends.rt:156:13
 slice-write-entries : tie.Need-slice-write-entries Inv-loop μ-loop
 slice-write-entries c =
     let l = c .before .before .before in
@@ -51,19 +43,15 @@ slice-write-entries c =
     let e : length (l .loop .entries) ≡ length (s .args .entries .now) = front-length (l .loop .inv .2) (omega arith) in
     omega arith
 
--- src/friends.rt:157:13
 add-count : tie.Need-add-count Inv-loop μ-loop
 add-count c = search needs
 
--- src/friends.rt:159:9
 add-strand : tie.Need-add-strand Inv-loop μ-loop
 add-strand c = search needs
 
--- src/friends.rt:154:5
 loop-less : tie.Need-loop-less Inv-loop μ-loop
 loop-less c = search needs
 
--- src/friends.rt:154:5
 loop-again : tie.Need-loop-again Inv-loop μ-loop
 loop-again c =
     let s = c .before .before .before .before .before .before .before .before .before .before in
@@ -75,21 +63,18 @@ loop-again c =
     let few = s .pre .0 .few in
     let sixty-four = s .pre .1 .1 in
     elim (c .if1 .came) [
-      | inl w ↦
-        (
-          omega arith,
-          omega (arith, w .2),
-          front-step (l .loop .inv .2) (keep-here t n (l .loop .strand) (c .before .before .loop-test .taken) (sym (c .before .is-friend .ensures) ∙ w .0 .taken)) (omega arith) (w .1) (w .2),
-        )
-      | inr w ↦
-        (
-          omega arith,
-          omega (arith, w .2),
-          front-same (l .loop .inv .2) (keep-later t n (l .loop .strand) (c .before .before .loop-test .taken) (sym (c .before .is-friend .ensures) ∙ w .0 .left)) (w .1) (w .2),
-        )
+      | inl w ↦ (
+        omega arith,
+        omega (arith, w .2),
+        front-step (l .loop .inv .2) (keep-here t n (l .loop .strand) (c .before .before .loop-test .taken) (sym (c .before .is-friend .ensures) ∙ w .0 .taken)) (omega arith) (w .1) (w .2),
+      )
+      | inr w ↦ (
+        omega arith,
+        omega (arith, w .2),
+        front-same (l .loop .inv .2) (keep-later t n (l .loop .strand) (c .before .before .loop-test .taken) (sym (c .before .is-friend .ensures) ∙ w .0 .left)) (w .1) (w .2),
+      )
     ]
 
--- src/friends.rt:136:1
 same-length : tie.Need-same-length Inv-loop μ-loop
 same-length c =
     let l = c .before in
@@ -98,7 +83,6 @@ same-length c =
     let sixty-four = s .pre .1 .1 in
     front-length (l .loop .inv .2) (omega arith)
 
--- src/friends.rt:136:1
 returns : tie.Need-returns Inv-loop μ-loop
 returns c =
     let a = c .before .before .before .before .before .before .before .before .args in

@@ -1,27 +1,18 @@
 -- The test of an occupant meets its contract: its tests are those of the definition, in their order. Assumes nothing.
 use borrow.Author.Needs.{needs}
-use mathlib.Core.Bool.{not}
-use mathlib.Core.Path.{ap}
 use borrow.Author.Tests.{eq-eqb, ne-eqb, lt-ltb, le-ltb}
 use Rattle.sdc1d.proofs.states.is_stranger.Statement.{statement}
 use Rattle.sdc1d.proofs.states.is_stranger.Tie as tie
-use Rattle.sdc1d.proofs.states.is_stranger.Reads as reads
-use Rattle.sdc1d.proofs.states.is_stranger.Lts as lts
-use Rattle.sdc1d.proofs.friends.is_friend.Reads as is-friend-reads
 
--- src/states.rt:99:9
 returns : tie.Need-returns
 returns c = simp (eq-eqb _ _ (c .if1 .taken))
 
--- src/states.rt:103:9
 returns-2 : tie.Need-returns-2
 returns-2 c = simp (ne-eqb _ _ (c .before .if1 .left), le-ltb _ _ (c .if2 .taken))
 
--- src/states.rt:105:6
 is-friend-requires : tie.Need-is-friend-requires
 is-friend-requires c κs = search needs
 
--- src/states.rt:84:1
 returns-3 : tie.Need-returns-3
 returns-3 c = simp (ne-eqb _ _ (c .before .before .if1 .left), lt-ltb _ _ (c .before .if2 .left), ← c .is-friend .ensures)
 

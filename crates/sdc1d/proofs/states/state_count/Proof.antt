@@ -1,6 +1,6 @@
 -- The count of the states meets its contract. The invariant: what is counted, times the ways that are left, is the count, up to the limit.
 -- Assumes nothing.
-use mathlib.Core.Path.{_≡_, refl, sym, ap, _∙_}
+use mathlib.Core.Path.{_≡_, sym, ap, _∙_}
 use mathlib.Core.List.{List, []}
 use Prim.Native.Nat.{ℕ, _≤_, _+_, _*_, _-_, min}
 use native.Mathlib.Nat.{mul-le-mul, mul-one, one-mul, min-le-right}
@@ -14,35 +14,27 @@ use Rattle.model.proofs.Count.{ways, ways-none, ways-more, ways-pos, held-more}
 use Rattle.design.specs.Design.{Design, design, lent, friendsOf, modelOf}
 use Rattle.sdc1d.proofs.states.state_count.Statement.{statement}
 use Rattle.sdc1d.proofs.states.state_count.Tie as tie
-use Rattle.sdc1d.proofs.states.state_count.Reads as reads
-use Rattle.sdc1d.proofs.states.state_count.Lts as lts
-use Rattle.sdc1d.proofs.friends.friend_count.Reads as friend-count-reads
-use Rattle.sdc1d.proofs.states.held.Reads as held-reads
 
 abbrev Inv-loop : tie.InvT-loop
 Inv-loop scaffold glues dg ds potentials ambient states₀ position₀ states position =
     (position ≤ length scaffold)
     × (states ≤ 1048577)
     × (min (count (modelOf (design scaffold glues dg ds potentials ambient))) 1048577
-      ≡ min (states * ways (drop position (tabulate (length scaffold) (friendsOf (design scaffold glues dg ds potentials ambient))))) 1048577)
+    ≡ min (states * ways (drop position (tabulate (length scaffold) (friendsOf (design scaffold glues dg ds potentials ambient))))) 1048577)
 
 abbrev μ-loop : tie.MeasureT-loop
 μ-loop scaffold glues dg ds potentials ambient states₀ position₀ states position = length scaffold - position
 
--- src/states.rt:43:5
 loop-holds : tie.Need-loop-holds Inv-loop μ-loop
 unfolding modelOf count
 loop-holds c = (omega arith, omega arith, ap (λ (n : ℕ). min n 1048577) (sym (one-mul _)))
 
--- src/states.rt:44:13
 friend-count-requires : tie.Need-friend-count-requires Inv-loop μ-loop
 friend-count-requires c κs = search needs
 
--- src/states.rt:45:33
 add-held : tie.Need-add-held Inv-loop μ-loop
 add-held c = search needs
 
--- src/states.rt:45:23
 mul-held : tie.Need-mul-held Inv-loop μ-loop
 mul-held c =
     let l = c .before .before in
@@ -50,19 +42,15 @@ mul-held c =
     let few : c .friend-count .result + 1 ≤ 65 = omega (arith, c .friend-count .ensures .1) in
     omega (arith, mul-le-mul most few)
 
--- src/states.rt:45:9
 held-requires : tie.Need-held-requires Inv-loop μ-loop
 held-requires c κs = search needs
 
--- src/states.rt:46:9
 add-position : tie.Need-add-position Inv-loop μ-loop
 add-position c = search needs
 
--- src/states.rt:43:5
 loop-less : tie.Need-loop-less Inv-loop μ-loop
 loop-less c = search needs
 
--- src/states.rt:43:5
 loop-again : tie.Need-loop-again Inv-loop μ-loop
 loop-again c =
     let a = c .before .before .before .before .before .before .before .before .before .args in
@@ -72,18 +60,16 @@ loop-again c =
     let rest = drop (l .loop .position + 1) (tabulate n (friendsOf d)) in
     let friends = friendsOf d (l .loop .position) in
     let split = drop-tabulate n (friendsOf d) (l .loop .position) (c .before .before .loop-test .taken) in
-    let counted : c .held .result ≡ min (l .loop .states * (length friends + 1)) 1048577 = c .held .ensures ∙ ap (λ (k : ℕ). min (l .loop .states * (k + 1)) 1048577) (c .before .friend-count .ensures .0) in
-    (
+    let counted : c .held .result ≡ min (l .loop .states * (length friends + 1)) 1048577 = c .held .ensures ∙ ap (λ (k : ℕ). min (l .loop .states * (k + 1)) 1048577) (c .before .friend-count .ensures .0) in (
       omega arith,
       omega (arith, counted, min-le-right (l .loop .states * (length friends + 1)) 1048577),
       l .loop .inv .2
-      ∙ ap (λ (later : List (List ℕ)). min (l .loop .states * ways later) 1048577) split
-      ∙ ap (λ (k : ℕ). min (l .loop .states * k) 1048577) (ways-more friends rest)
-      ∙ held-more 1048577 (l .loop .states) (length friends + 1) (ways rest) (ways-pos rest)
-      ∙ ap (λ (k : ℕ). min (k * ways rest) 1048577) (sym counted),
+          ∙ ap (λ (later : List (List ℕ)). min (l .loop .states * ways later) 1048577) split
+          ∙ ap (λ (k : ℕ). min (l .loop .states * k) 1048577) (ways-more friends rest)
+          ∙ held-more 1048577 (l .loop .states) (length friends + 1) (ways rest) (ways-pos rest)
+          ∙ ap (λ (k : ℕ). min (k * ways rest) 1048577) (sym counted),
     )
 
--- src/states.rt:30:1
 returns : tie.Need-returns Inv-loop μ-loop
 returns c =
     let a = c .before .before .before .before .before .before .before .args in

@@ -1,10 +1,10 @@
 -- The writing of the state at a rank meets its contract. The invariant: the occupants of the positions passed stand in front, and those
 -- left are the state of the later positions at the rank left. Assumes nothing.
-use mathlib.Core.Path.{_≡_, refl, sym, ap, _∙_}
+use mathlib.Core.Path.{_≡_, refl}
 use mathlib.Core.List.{List, [], _∷_, map}
-use Prim.Native.Nat.{ℕ, _≤_, _<_, _+_, _*_, _-_, _/_, _%_}
+use Prim.Native.Nat.{ℕ, _≤_, _+_, _-_, _/_, _%_}
 use native.Mathlib.Omega.{arith}
-use lib.ListN.{length, drop, set, getD}
+use lib.ListN.{length, drop, getD}
 use borrow.Author.Needs.{needs}
 use Rattle.lists.specs.Build.{tabulate}
 use Rattle.lists.proofs.Build.{drop-tabulate, tabulate-past}
@@ -15,10 +15,6 @@ use Rattle.model.proofs.Count.{ways, ways-pos, ways-later, choiceAt-more}
 use Rattle.design.specs.Design.{Design, design, lent, friendsOf, modelOf}
 use Rattle.sdc1d.proofs.states.write_state.Statement.{statement}
 use Rattle.sdc1d.proofs.states.write_state.Tie as tie
-use Rattle.sdc1d.proofs.states.write_state.Reads as reads
-use Rattle.sdc1d.proofs.states.write_state.Lts as lts
-use Rattle.sdc1d.proofs.friends.friend_count.Reads as friend-count-reads
-use Rattle.sdc1d.proofs.friends.option_at.Reads as option-at-reads
 
 -- the friends of the positions from one on
 abbrev later-friends : Design → ℕ → ℕ → List (List ℕ)
@@ -30,7 +26,7 @@ next-ways here rest whole later k split e f = rw (f, e, split) (ways-later here 
 
 -- the occupants left, as the loop works them out
 next-choice : (here : List ℕ) (rest whole : List (List ℕ)) (rank later x : ℕ) → whole ≡ here ∷ rest → later ≡ ways rest → x ≡ getD here (rank / later) 0
-  → choiceAt (map optionsOf whole) rank ≡ x ∷ choiceAt (map optionsOf rest) (rank % later)
+    → choiceAt (map optionsOf whole) rank ≡ x ∷ choiceAt (map optionsOf rest) (rank % later)
 next-choice here rest whole rank later x split e f = rw (f, e, split) (choiceAt-more here rest rank)
 
 abbrev Inv-loop : tie.InvT-loop
@@ -38,29 +34,24 @@ Inv-loop scaffold glues dg ds potentials ambient states rank entries₀ later₀
     (position ≤ length scaffold)
     × (later ≡ ways (later-friends (design scaffold glues dg ds potentials ambient) (length scaffold) position))
     × Front entries₀ (stateAt (modelOf (design scaffold glues dg ds potentials ambient)) rank)
-      (choiceAt (map optionsOf (later-friends (design scaffold glues dg ds potentials ambient) (length scaffold) position)) left) position entries
+    (choiceAt (map optionsOf (later-friends (design scaffold glues dg ds potentials ambient) (length scaffold) position)) left) position entries
 
 abbrev μ-loop : tie.MeasureT-loop
 μ-loop scaffold glues dg ds potentials ambient states rank entries₀ later₀ left₀ position₀ entries later left position = length scaffold - position
 
--- src/states.rt:72:5
 loop-holds : tie.Need-loop-holds Inv-loop μ-loop
 unfolding modelOf count
 loop-holds c = (omega arith, c .before .before .before .before .before .before .pre .1 .0, front-none _ _)
 
--- src/states.rt:73:13
 friend-count-requires : tie.Need-friend-count-requires Inv-loop μ-loop
 friend-count-requires c κs = search needs
 
--- src/states.rt:74:26
 add-later : tie.Need-add-later Inv-loop μ-loop
 add-later c = search needs
 
--- src/states.rt:74:17
 div-later : tie.Need-div-later Inv-loop μ-loop
 div-later c = search needs
 
--- src/states.rt:76:69
 div-option-at : tie.Need-div-option-at Inv-loop μ-loop
 div-option-at c =
     let a = c .before .before .before .before .before .before .before .before .before .args in
@@ -73,11 +64,9 @@ div-option-at c =
     let e = next-ways here rest _ (l .loop .later) (c .friend-count .result) split (l .loop .inv .1) (c .friend-count .ensures .0) in
     omega (arith, e, ways-pos rest)
 
--- src/states.rt:75:29
 option-at-requires : tie.Need-option-at-requires Inv-loop μ-loop
 option-at-requires c κs = search needs
 
--- src/states.rt:75:9
 slice-write-entries : tie.Need-slice-write-entries Inv-loop μ-loop
 slice-write-entries c =
     let l = c .before .before .before in
@@ -85,7 +74,6 @@ slice-write-entries c =
     let e : length (l .loop .entries) ≡ length (s .args .entries .now) = front-length (l .loop .inv .2) (omega (arith, s .pre .1 .1)) in
     omega (arith, s .pre .1 .1, e)
 
--- src/states.rt:78:16
 rem-left : tie.Need-rem-left Inv-loop μ-loop
 rem-left c =
     let a = c .before .before .before .before .before .before .before .before .before .before .args in
@@ -98,15 +86,12 @@ rem-left c =
     let e = next-ways here rest _ (l .loop .later) (c .before .friend-count .result) split (l .loop .inv .1) (c .before .friend-count .ensures .0) in
     omega (arith, e, ways-pos rest)
 
--- src/states.rt:79:9
 add-position : tie.Need-add-position Inv-loop μ-loop
 add-position c = search needs
 
--- src/states.rt:72:5
 loop-less : tie.Need-loop-less Inv-loop μ-loop
 loop-less c = search needs
 
--- src/states.rt:72:5
 loop-again : tie.Need-loop-again Inv-loop μ-loop
 loop-again c =
     let s = c .before .before .before .before .before .before .before .before .before .before in
@@ -121,11 +106,9 @@ loop-again c =
     let choice = next-choice here rest _ (l .loop .left) (l .loop .later / (c .before .friend-count .result + 1)) (c .option-at .result) split e (c .option-at .ensures) in
     (omega arith, e, front-step (l .loop .inv .2) choice (omega (arith, s .pre .1 .1)) refl refl)
 
--- src/states.rt:52:1
 same-length : tie.Need-same-length Inv-loop μ-loop
 same-length c = front-length (c .before .loop .inv .2) (omega (arith, c .before .before .before .before .before .before .before .before .pre .1 .1))
 
--- src/states.rt:52:1
 returns : tie.Need-returns Inv-loop μ-loop
 unfolding choiceAt
 returns c =
