@@ -1,3 +1,5 @@
 pub mod Decimal
 pub mod Range
 pub mod Sum
+pub mod Size
+pub mod Order

@@ -2,3 +2,8 @@ pub mod Find
 pub mod Map
 pub mod Beginnings
 pub mod Over
+pub mod Build
+pub mod Any
+pub mod Keep
+pub mod Front
+pub mod Each

@@ -2,3 +2,6 @@ pub mod Find
 pub mod Fold
 pub mod Beginnings
 pub mod Over
+pub mod Build
+pub mod Order
+pub mod Each

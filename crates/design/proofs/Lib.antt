@@ -1,0 +1,4 @@
+pub mod Sizes
+pub mod FriendLaws
+pub mod BoundLaws
+pub mod Lowest

@@ -1,0 +1,47 @@
+-- A test that some element of a list passes, or none. Assumes nothing.
+use mathlib.Core.Path.{_≡_, refl}
+use mathlib.Core.Bool.{Bool, true, false, _||_}
+use mathlib.Core.List.{List, [], _∷_}
+use Prim.Native.Nat.{ℕ, zero, suc, _<_, _≤_}
+use native.Mathlib.Nat.{le-of-suc-le-suc, not-suc-le-zero}
+use native.Mathlib.Omega.{arith}
+use lib.ListN.{length, getD}
+use Rattle.lists.specs.Find.{any, firstIndex}
+use Rattle.lists.specs.Build.{upTo}
+use Rattle.lists.proofs.Find.{any-true, any-false}
+use Rattle.lists.proofs.Build.{length-tabulate, getD-tabulate}
+
+-- what a disjunction that fails tells
+pub neither : (a b : Bool) → (a || b) ≡ false → (a ≡ false) × (b ≡ false)
+neither true b e = absurd (let z : _≡_ {A = ℕ} 0 1 = cc in omega arith)
+neither false b e = (refl, e)
+
+module _ {A : Type 0} (p : A → Bool) where
+  -- where none passes, each fails
+  pub none-passes : (d : A) (xs : List A) → any p xs ≡ false → (k : ℕ) → k < length xs → p (getD xs k d) ≡ false
+  unfolding any
+  none-passes d [] e k h = absurd (not-suc-le-zero h)
+  none-passes d (x ∷ xs) e zero h = neither (p x) (any p xs) e .0
+  none-passes d (x ∷ xs) e (suc k) h = none-passes d xs (neither (p x) (any p xs) e .1) k (le-of-suc-le-suc h)
+
+  -- where each fails, none passes
+  pub all-fail : (d : A) (xs : List A) → ((k : ℕ) → k < length xs → p (getD xs k d) ≡ false) → any p xs ≡ false
+  unfolding any
+  all-fail d [] h = refl
+  all-fail d (x ∷ xs) h = simp (h 0 (omega arith), all-fail d xs (λ k l. h (suc k) (omega arith)))
+
+-- the same of the numbers below n
+module _ (p : ℕ → Bool) (n : ℕ) where
+  pub none-below : any p (upTo n) ≡ false → (k : ℕ) → k < n → p k ≡ false
+  none-below e k h = rw (getD-tabulate n (λ j. j) 0 k h) at (none-passes p 0 (upTo n) e k (rw (length-tabulate n (λ j. j)) h))
+
+  pub all-below : ((k : ℕ) → k < n → p k ≡ false) → any p (upTo n) ≡ false
+  all-below h = all-fail p 0 (upTo n) (λ k l. let m : k < n = rw (length-tabulate n (λ j. j)) at l in rw (getD-tabulate n (λ j. j) 0 k m) (h k m))
+
+-- a program that looked for the first that passes, and compares its place with the length
+module _ {A : Type 0} (p : A → Bool) (xs : List A) {r : ℕ} (e : r ≡ firstIndex p xs) where
+  pub found : r < length xs → any p xs ≡ true
+  found h = any-true p xs (rw e at h)
+
+  pub not-found : length xs ≤ r → any p xs ≡ false
+  not-found h = any-false p xs (rw e at h)

@@ -1,0 +1,5 @@
+pub mod Count
+pub mod Sums
+pub mod Choices
+pub mod Listing
+pub mod Bounds

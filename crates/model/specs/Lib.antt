@@ -1,0 +1,5 @@
+pub mod Model
+pub mod States
+pub mod Energy
+pub mod Listed
+pub mod Bounds

@@ -1,0 +1,4 @@
+pub mod Cells
+pub mod Options
+pub mod Replies
+pub mod Counted

@@ -1,0 +1,76 @@
+-- The search for a stranger meets its contract. The invariant: what is found from a position on, as many positions further, is what is
+-- found. Assumes nothing.
+use mathlib.Core.Path.{_≡_, sym, _∙_}
+use Prim.Native.Nat.{_≤_, _+_, _-_}
+use native.Mathlib.Omega.{arith}
+use lib.ListN.{length, drop}
+use borrow.Author.Needs.{needs}
+use Rattle.lists.specs.Build.{upTo}
+use Rattle.lists.specs.Find.{firstIndex}
+use Rattle.lists.proofs.Build.{first-here, first-later, first-past}
+use Rattle.design.specs.Design.{Design, design, lent}
+use Rattle.design.specs.Checks.{stranger}
+use Rattle.sdc1d.proofs.states.first_stranger.Statement.{statement}
+use Rattle.sdc1d.proofs.states.first_stranger.Tie as tie
+
+abbrev Inv-loop : tie.InvT-loop
+Inv-loop scaffold glues dg ds potentials ambient configuration position₀ position =
+    (position ≤ length scaffold)
+    × (firstIndex (stranger (design scaffold glues dg ds potentials ambient) configuration) (upTo (length scaffold))
+    ≡ position + firstIndex (stranger (design scaffold glues dg ds potentials ambient) configuration) (drop position (upTo (length scaffold))))
+
+abbrev μ-loop : tie.MeasureT-loop
+μ-loop scaffold glues dg ds potentials ambient configuration position₀ position = length scaffold - position
+
+loop-holds : tie.Need-loop-holds Inv-loop μ-loop
+loop-holds c = search needs
+
+shared-slice-read-is-stranger : tie.Need-shared-slice-read-is-stranger Inv-loop μ-loop
+shared-slice-read-is-stranger c = omega (arith, c .before .before .before .before .before .before .before .before .before .pre .1)
+
+is-stranger-requires : tie.Need-is-stranger-requires Inv-loop μ-loop
+is-stranger-requires c κs = search needs
+
+returns : tie.Need-returns Inv-loop μ-loop
+returns c =
+    let a = c .before .before .before .before .before .before .before .before .before .before .before .args in
+    let d : Design = lent (a .scaffold) (a .glues) (a .dg) (a .ds) (a .potentials) (a .ambient) in
+    let l = c .before .before .before .before in
+    omega (arith, first-here (stranger d (a .configuration .now)) (length (a .scaffold .now)) (l .loop .position) (c .before .before .before .loop-test .taken) (sym (c .before .is-stranger .ensures) ∙ c .if1 .taken), l .loop .inv .1)
+
+add-position : tie.Need-add-position Inv-loop μ-loop
+add-position c = search needs
+
+loop-less : tie.Need-loop-less Inv-loop μ-loop
+loop-less c = search needs
+
+loop-again : tie.Need-loop-again Inv-loop μ-loop
+loop-again c =
+    let a = c .before .before .before .before .before .before .before .before .before .before .before .args in
+    let d : Design = lent (a .scaffold) (a .glues) (a .dg) (a .ds) (a .potentials) (a .ambient) in
+    let l = c .before .before .before .before in (
+      omega arith,
+      omega (arith, first-later (stranger d (a .configuration .now)) (length (a .scaffold .now)) (l .loop .position) (c .before .before .before .loop-test .taken) (sym (c .before .is-stranger .ensures) ∙ c .if1 .left), l .loop .inv .1),
+    )
+
+returns-2 : tie.Need-returns-2 Inv-loop μ-loop
+returns-2 c =
+    let a = c .before .before .before .before .before .before .before .before .args in
+    let d : Design = lent (a .scaffold) (a .glues) (a .dg) (a .ds) (a .potentials) (a .ambient) in
+    let l = c .before in
+    omega (arith, first-past (stranger d (a .configuration .now)) (length (a .scaffold .now)) (l .loop .position) (c .loop-test .left), l .loop .inv .1)
+
+pub first-stranger-spec : {M : Type 1} → statement M
+first-stranger-spec =
+    tie.close
+    (tie.spec
+    Inv-loop
+    μ-loop
+    loop-holds
+    shared-slice-read-is-stranger
+    is-stranger-requires
+    returns
+    add-position
+    loop-less
+    loop-again
+    returns-2)

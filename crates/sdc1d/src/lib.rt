@@ -1,0 +1,314 @@
+// Designs of a scaffold and strands (sdc1d.rs): their checks, bonds, friends, states, and both energies.
+//
+// What the Rust reads off `self` is lent in six parameters, in one order: the scaffold's glues, three glues for each strand, the dG and the dS
+// table, a potential for each strand, and the ambient.
+pub mod bonds;
+pub mod checks;
+mod energies;
+mod friends;
+mod states;
+
+use reply::Place;
+use reply::Refusal;
+use reply::Reply;
+use states::MOST_STATES;
+use units::Ambient;
+use units::KcalPerMol;
+ghost use mathlib.Core.Path.{_≡_};
+ghost use Rattle.design.specs.Design.{lent};
+ghost use Rattle.design.specs.Answers.{strandBondAnswer, scaffoldBondAnswer, friendsAnswer, friendsEntries, countAnswer, rankAnswer, rankEntries, stateEnergyAnswer, chainEnergyAnswer};
+ghost use Rattle.sdc1d.specs.Figures.{bondFigures, friendsFigures, countFigures, stateFigures, energyFigures, chainFigures};
+
+// The entries that friends are written into: one for each strand that a design may have.
+const FRIENDS: usize = 64;
+
+// A bond is a plain number: an energy over RT.
+pub enum BondAnswer {
+    Bond(f64),
+    Refused(Refusal, Place),
+}
+
+pub enum FriendsAnswer {
+    // How many there are; they stand in the first lent entries.
+    Friends(usize),
+    Refused(Refusal, Place),
+}
+
+pub enum CountAnswer {
+    States(u64),
+    Refused(Refusal, Place),
+}
+
+pub enum StateAnswer {
+    // The state stands in the lent entries.
+    Written,
+    Refused(Refusal, Place),
+}
+
+pub enum EnergyAnswer {
+    Energy(KcalPerMol),
+    Refused(Refusal, Place),
+}
+
+pub enum ChainAnswer {
+    // The sum as it is, a plain number, and times RT.
+    Energy(f64, KcalPerMol),
+    Refused(Refusal, Place),
+}
+
+// The bond between strand x and strand y to the east of it.
+pub fn bond_between_strands(
+    scaffold: &[u8],
+    glues: &[u8],
+    dg: &[f64],
+    ds: &[f64],
+    potentials: &[f64],
+    ambient: Ambient,
+    x: usize,
+    y: usize,
+) -> BondAnswer
+    ensures { λ r. ⌜ bondFigures r ≡ strandBondAnswer (lent (scaffold .entry) (glues .entry) (dg .entry) (ds .entry) (potentials .entry) ambient) x y ⌝ }
+{
+    if potentials.len() <= x {
+        return BondAnswer::Refused(Refusal::WrongSize, Place::Nowhere);
+    }
+    if potentials.len() <= y {
+        return BondAnswer::Refused(Refusal::WrongSize, Place::Nowhere);
+    }
+    match checks::design_reply(scaffold, glues, dg, ds, potentials, ambient) {
+        Reply::Refused(refusal) => BondAnswer::Refused(refusal, Place::Nowhere),
+        Reply::Admitted => BondAnswer::Bond(bonds::strand_bond(
+            scaffold,
+            glues,
+            dg,
+            ds,
+            potentials,
+            ambient,
+            x,
+            y,
+        )),
+    }
+}
+
+// The bond between the scaffold at a position and a strand.
+pub fn bond_with_scaffold(
+    scaffold: &[u8],
+    glues: &[u8],
+    dg: &[f64],
+    ds: &[f64],
+    potentials: &[f64],
+    ambient: Ambient,
+    position: usize,
+    strand: usize,
+) -> BondAnswer
+    ensures { λ r. ⌜ bondFigures r ≡ scaffoldBondAnswer (lent (scaffold .entry) (glues .entry) (dg .entry) (ds .entry) (potentials .entry) ambient) position strand ⌝ }
+{
+    if scaffold.len() <= position {
+        return BondAnswer::Refused(Refusal::WrongSize, Place::Nowhere);
+    }
+    if potentials.len() <= strand {
+        return BondAnswer::Refused(Refusal::WrongSize, Place::Nowhere);
+    }
+    match checks::design_reply(scaffold, glues, dg, ds, potentials, ambient) {
+        Reply::Refused(refusal) => BondAnswer::Refused(refusal, Place::Nowhere),
+        Reply::Admitted => BondAnswer::Bond(bonds::scaffold_bond(
+            scaffold,
+            glues,
+            dg,
+            ds,
+            potentials,
+            ambient,
+            position,
+            strand,
+        )),
+    }
+}
+
+// The friends of a position, into 64 lent entries.
+pub fn friends_btm(
+    scaffold: &[u8],
+    glues: &[u8],
+    dg: &[f64],
+    ds: &[f64],
+    potentials: &[f64],
+    ambient: Ambient,
+    position: usize,
+    entries: &mut [u8],
+) -> FriendsAnswer
+    ensures { λ r. ⌜ friendsFigures r ≡ friendsAnswer (lent (scaffold .entry) (glues .entry) (dg .entry) (ds .entry) (potentials .entry) ambient) position (now (entries .entry)) ⌝ }
+    ensures { λ r. ⌜ now (entries .exit) ≡ friendsEntries (lent (scaffold .entry) (glues .entry) (dg .entry) (ds .entry) (potentials .entry) ambient) position (now (entries .entry)) ⌝ }
+{
+    if scaffold.len() <= position {
+        return FriendsAnswer::Refused(Refusal::WrongSize, Place::Nowhere);
+    }
+    if entries.len() != FRIENDS {
+        return FriendsAnswer::Refused(Refusal::WrongSize, Place::Nowhere);
+    }
+    match checks::design_reply(scaffold, glues, dg, ds, potentials, ambient) {
+        Reply::Refused(refusal) => FriendsAnswer::Refused(refusal, Place::Nowhere),
+        Reply::Admitted => FriendsAnswer::Friends(friends::write_friends(
+            scaffold,
+            glues,
+            dg,
+            ds,
+            potentials,
+            ambient,
+            position,
+            entries,
+        )),
+    }
+}
+
+// How many states there are: the product of friends plus one.
+pub fn number_of_states(
+    scaffold: &[u8],
+    glues: &[u8],
+    dg: &[f64],
+    ds: &[f64],
+    potentials: &[f64],
+    ambient: Ambient,
+) -> CountAnswer
+    ensures { λ r. ⌜ countFigures r ≡ countAnswer (lent (scaffold .entry) (glues .entry) (dg .entry) (ds .entry) (potentials .entry) ambient) ⌝ }
+{
+    match checks::design_reply(scaffold, glues, dg, ds, potentials, ambient) {
+        Reply::Refused(refusal) => CountAnswer::Refused(refusal, Place::Nowhere),
+        Reply::Admitted => {
+            let count = states::state_count(scaffold, glues, dg, ds, potentials, ambient);
+            if MOST_STATES < count {
+                return CountAnswer::Refused(Refusal::TooManyStates, Place::Nowhere);
+            }
+            CountAnswer::States(count)
+        }
+    }
+}
+
+// The state at a rank in the order of `system_states`, into one lent entry for each position.
+pub fn state_at_rank(
+    scaffold: &[u8],
+    glues: &[u8],
+    dg: &[f64],
+    ds: &[f64],
+    potentials: &[f64],
+    ambient: Ambient,
+    rank: u64,
+    entries: &mut [u8],
+) -> StateAnswer
+    ensures { λ r. ⌜ stateFigures r ≡ rankAnswer (lent (scaffold .entry) (glues .entry) (dg .entry) (ds .entry) (potentials .entry) ambient) rank (now (entries .entry)) ⌝ }
+    ensures { λ r. ⌜ now (entries .exit) ≡ rankEntries (lent (scaffold .entry) (glues .entry) (dg .entry) (ds .entry) (potentials .entry) ambient) rank (now (entries .entry)) ⌝ }
+{
+    if entries.len() != scaffold.len() {
+        return StateAnswer::Refused(Refusal::WrongSize, Place::Nowhere);
+    }
+    match checks::design_reply(scaffold, glues, dg, ds, potentials, ambient) {
+        Reply::Refused(refusal) => StateAnswer::Refused(refusal, Place::Nowhere),
+        Reply::Admitted => {
+            let count = states::state_count(scaffold, glues, dg, ds, potentials, ambient);
+            if MOST_STATES < count {
+                return StateAnswer::Refused(Refusal::TooManyStates, Place::Nowhere);
+            }
+            if count <= rank {
+                return StateAnswer::Refused(Refusal::RankTooHigh, Place::Nowhere);
+            }
+            states::write_state(
+                scaffold,
+                glues,
+                dg,
+                ds,
+                potentials,
+                ambient,
+                count,
+                rank,
+                entries,
+            );
+            StateAnswer::Written
+        }
+    }
+}
+
+// The state energy of a configuration: one occupant for each position, 0 for an empty place.
+pub fn g_system(
+    scaffold: &[u8],
+    glues: &[u8],
+    dg: &[f64],
+    ds: &[f64],
+    potentials: &[f64],
+    ambient: Ambient,
+    attachments: &[u8],
+) -> EnergyAnswer
+    ensures { λ r. ⌜ energyFigures r ≡ stateEnergyAnswer (lent (scaffold .entry) (glues .entry) (dg .entry) (ds .entry) (potentials .entry) ambient) (now (attachments .entry)) ⌝ }
+{
+    if attachments.len() != scaffold.len() {
+        return EnergyAnswer::Refused(Refusal::WrongSize, Place::Nowhere);
+    }
+    match checks::design_reply(scaffold, glues, dg, ds, potentials, ambient) {
+        Reply::Refused(refusal) => EnergyAnswer::Refused(refusal, Place::Nowhere),
+        Reply::Admitted => {
+            let stranger = states::first_stranger(
+                scaffold,
+                glues,
+                dg,
+                ds,
+                potentials,
+                ambient,
+                attachments,
+            );
+            if stranger < scaffold.len() {
+                return EnergyAnswer::Refused(Refusal::NotAFriend, Place::Nowhere);
+            }
+            let sumg = energies::state_sum(
+                scaffold,
+                glues,
+                dg,
+                ds,
+                potentials,
+                ambient,
+                attachments,
+            );
+            EnergyAnswer::Energy(KcalPerMol(sumg * ambient.rt.0))
+        }
+    }
+}
+
+// The chain energy of a configuration, as it is and times RT.
+pub fn chain_energy(
+    scaffold: &[u8],
+    glues: &[u8],
+    dg: &[f64],
+    ds: &[f64],
+    potentials: &[f64],
+    ambient: Ambient,
+    configuration: &[u8],
+) -> ChainAnswer
+    ensures { λ r. ⌜ chainFigures r ≡ chainEnergyAnswer (lent (scaffold .entry) (glues .entry) (dg .entry) (ds .entry) (potentials .entry) ambient) (now (configuration .entry)) ⌝ }
+{
+    if configuration.len() != scaffold.len() {
+        return ChainAnswer::Refused(Refusal::WrongSize, Place::Nowhere);
+    }
+    match checks::design_reply(scaffold, glues, dg, ds, potentials, ambient) {
+        Reply::Refused(refusal) => ChainAnswer::Refused(refusal, Place::Nowhere),
+        Reply::Admitted => {
+            let stranger = states::first_stranger(
+                scaffold,
+                glues,
+                dg,
+                ds,
+                potentials,
+                ambient,
+                configuration,
+            );
+            if stranger < scaffold.len() {
+                return ChainAnswer::Refused(Refusal::NotAFriend, Place::Nowhere);
+            }
+            let sum = energies::chain_sum(
+                scaffold,
+                glues,
+                dg,
+                ds,
+                potentials,
+                ambient,
+                configuration,
+            );
+            ChainAnswer::Energy(sum, KcalPerMol(sum * ambient.rt.0))
+        }
+    }
+}
