@@ -1,0 +1,16 @@
+-- `exports::mj_pair_strength_reply` meets its contract: the figure of the answer is that of its definition. Assumes nothing.
+use borrow.Author.Needs.{needs}
+use Rattle.exports.proofs.mj_pair_strength_reply.Statement.{statement}
+use Rattle.exports.proofs.mj_pair_strength_reply.Tie as tie
+
+pair-strength-requires : tie.Need-pair-strength-requires
+pair-strength-requires c κs = search needs
+
+dg-reply-requires : tie.Need-dg-reply-requires
+dg-reply-requires c κs = search needs
+
+returns : tie.Need-returns
+returns c = cc
+
+pub mj-pair-strength-reply-spec : {M : Type 1} → statement M
+mj-pair-strength-reply-spec = tie.close (tie.spec pair-strength-requires dg-reply-requires returns)

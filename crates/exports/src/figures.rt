@@ -1,0 +1,102 @@
+// One figure of an answer, as C takes it: the reply number, or a double as its 64 bits. A refusal has no figure, and its bits are 0.
+// A name says the kind of answer (dg_ds, dg, ambient), then the figure.
+ghost use mathlib.Core.Path.{_≡_};
+ghost use lib.Ieee as Ieee;
+ghost use lib.Ieee.{binary64};
+ghost use Rattle.units.specs.Ambient.{ambientFigures};
+ghost use Rattle.utils.specs.Answers.{dgDsFigures, dgFigures};
+use units::AmbientAnswer;
+use utils::DgAnswer;
+use utils::DgDsAnswer;
+
+// The bits of x; of a NaN, the one pattern that the logic has for it.
+fn bits(x: f64) -> u64
+    ensures { λ r. ⌜ r ≡ Ieee.toBits binary64 x ⌝ }
+{
+    if x == x {
+        f64::to_bits(x)
+    } else {
+        0x7ff8_0000_0000_0000
+    }
+}
+
+pub(crate) fn dg_ds_reply(answer: DgDsAnswer) -> u32
+    ensures { λ r. ⌜ r ≡ dgDsFigures answer .number ⌝ }
+{
+    match answer {
+        DgDsAnswer::Given(_, _) => 0,
+        DgDsAnswer::Refused(refusal) => refusal.number(),
+    }
+}
+
+pub(crate) fn dg_ds_dg(answer: DgDsAnswer) -> u64
+    ensures { λ r. ⌜ r ≡ Ieee.toBits binary64 (dgDsFigures answer .dg) ⌝ }
+{
+    match answer {
+        DgDsAnswer::Given(dg, _) => bits(dg.0),
+        DgDsAnswer::Refused(_) => 0,
+    }
+}
+
+pub(crate) fn dg_ds_ds(answer: DgDsAnswer) -> u64
+    ensures { λ r. ⌜ r ≡ Ieee.toBits binary64 (dgDsFigures answer .ds) ⌝ }
+{
+    match answer {
+        DgDsAnswer::Given(_, ds) => bits(ds.0),
+        DgDsAnswer::Refused(_) => 0,
+    }
+}
+
+pub(crate) fn dg_reply(answer: DgAnswer) -> u32
+    ensures { λ r. ⌜ r ≡ dgFigures answer .number ⌝ }
+{
+    match answer {
+        DgAnswer::Given(_) => 0,
+        DgAnswer::Refused(refusal) => refusal.number(),
+    }
+}
+
+pub(crate) fn dg_dg(answer: DgAnswer) -> u64
+    ensures { λ r. ⌜ r ≡ Ieee.toBits binary64 (dgFigures answer .dg) ⌝ }
+{
+    match answer {
+        DgAnswer::Given(dg) => bits(dg.0),
+        DgAnswer::Refused(_) => 0,
+    }
+}
+
+pub(crate) fn ambient_reply(answer: AmbientAnswer) -> u32
+    ensures { λ r. ⌜ r ≡ ambientFigures answer .number ⌝ }
+{
+    match answer {
+        AmbientAnswer::Given(_) => 0,
+        AmbientAnswer::Refused(refusal) => refusal.number(),
+    }
+}
+
+pub(crate) fn ambient_rt(answer: AmbientAnswer) -> u64
+    ensures { λ r. ⌜ r ≡ Ieee.toBits binary64 (ambientFigures answer .rt) ⌝ }
+{
+    match answer {
+        AmbientAnswer::Given(ambient) => bits(ambient.rt.0),
+        AmbientAnswer::Refused(_) => 0,
+    }
+}
+
+pub(crate) fn ambient_strand_excess(answer: AmbientAnswer) -> u64
+    ensures { λ r. ⌜ r ≡ Ieee.toBits binary64 (ambientFigures answer .strandExcess) ⌝ }
+{
+    match answer {
+        AmbientAnswer::Given(ambient) => bits(ambient.strand_excess.0),
+        AmbientAnswer::Refused(_) => 0,
+    }
+}
+
+pub(crate) fn ambient_scaffold_excess(answer: AmbientAnswer) -> u64
+    ensures { λ r. ⌜ r ≡ Ieee.toBits binary64 (ambientFigures answer .scaffoldExcess) ⌝ }
+{
+    match answer {
+        AmbientAnswer::Given(ambient) => bits(ambient.scaffold_excess.0),
+        AmbientAnswer::Refused(_) => 0,
+    }
+}

@@ -1,0 +1,108 @@
+// A function for each kind of line. It is given the words after the kind's own, reads the question, makes the call, and answers
+// whether the rest of the line says what the call answered.
+ghost use mathlib.Core.Path.{_≡_};
+ghost use mathlib.Core.Bool.{true};
+ghost use Rattle.replay.specs.Kinds.{letters as letters·of, SequenceLine, PairLine, LoopLine, StrengthLine, Strength2Line, AmbientLine};
+use crate::numbers::Number;
+use crate::numbers::decimal;
+use crate::numbers::double;
+use crate::numbers::hex;
+use crate::parts::past;
+use crate::parts::up_to;
+use crate::says::says;
+
+// The sequence that a word stands for; an empty one is written as `-`.
+fn letters(word: &[u8]) -> &[u8]
+    ensures { λ r. ⌜ now r ≡ letters·of (now (word .entry)) ⌝ }
+{
+    if word.len() == 1 {
+        if word[0] == b'-' {
+            return &word[..0];
+        }
+    }
+    word
+}
+
+pub(crate) fn sequence(words: &[u8]) -> bool
+    ensures { λ r. ⌜ (r ≡ true → SequenceLine (now (words .entry))) ⌝ }
+{
+    let s = letters(up_to(words, b' '));
+    let reply = exports::mj_sequence_reply(s);
+    let figures = [exports::mj_sequence_dg(s), exports::mj_sequence_ds(s)];
+    says(past(words, b' '), reply, &figures)
+}
+
+pub(crate) fn pair(words: &[u8]) -> bool
+    ensures { λ r. ⌜ (r ≡ true → PairLine (now (words .entry))) ⌝ }
+{
+    let rest = past(words, b' ');
+    let a = letters(up_to(words, b' '));
+    let b = letters(up_to(rest, b' '));
+    let reply = exports::mj_pair_reply(a, b);
+    let figures = [exports::mj_pair_dg(a, b), exports::mj_pair_ds(a, b)];
+    says(past(rest, b' '), reply, &figures)
+}
+
+pub(crate) fn loop_energy(words: &[u8]) -> bool
+    ensures { λ r. ⌜ (r ≡ true → LoopLine (now (words .entry))) ⌝ }
+{
+    let rest = past(words, b' ');
+    let Number::Is(length) = decimal(up_to(words, b' ')) else {
+        return false;
+    };
+    let Number::Is(kind) = decimal(up_to(rest, b' ')) else {
+        return false;
+    };
+    if 0xffff_ffff < kind {
+        return false;
+    }
+    let reply = exports::mj_loop_reply(length as usize, kind as u32);
+    let figures = [exports::mj_loop_dg(length as usize, kind as u32)];
+    says(past(rest, b' '), reply, &figures)
+}
+
+pub(crate) fn strength(words: &[u8]) -> bool
+    ensures { λ r. ⌜ (r ≡ true → StrengthLine (now (words .entry))) ⌝ }
+{
+    let rest = past(words, b' ');
+    let Number::Is(bits) = hex(up_to(words, b' ')) else {
+        return false;
+    };
+    let excess = double(bits);
+    let s = letters(up_to(rest, b' '));
+    let reply = exports::mj_sequence_strength_reply(s, excess);
+    let figures = [exports::mj_sequence_strength(s, excess)];
+    says(past(rest, b' '), reply, &figures)
+}
+
+pub(crate) fn strength2(words: &[u8]) -> bool
+    ensures { λ r. ⌜ (r ≡ true → Strength2Line (now (words .entry))) ⌝ }
+{
+    let rest = past(words, b' ');
+    let last = past(rest, b' ');
+    let Number::Is(bits) = hex(up_to(words, b' ')) else {
+        return false;
+    };
+    let excess = double(bits);
+    let a = letters(up_to(rest, b' '));
+    let b = letters(up_to(last, b' '));
+    let reply = exports::mj_pair_strength_reply(a, b, excess);
+    let figures = [exports::mj_pair_strength(a, b, excess)];
+    says(past(last, b' '), reply, &figures)
+}
+
+pub(crate) fn ambient(words: &[u8]) -> bool
+    ensures { λ r. ⌜ (r ≡ true → AmbientLine (now (words .entry))) ⌝ }
+{
+    let Number::Is(bits) = hex(up_to(words, b' ')) else {
+        return false;
+    };
+    let kelvin = double(bits);
+    let reply = exports::mj_ambient_reply(kelvin);
+    let figures = [
+        exports::mj_ambient_rt(kelvin),
+        exports::mj_ambient_strand_excess(kelvin),
+        exports::mj_ambient_scaffold_excess(kelvin),
+    ];
+    says(past(words, b' '), reply, &figures)
+}

@@ -1,0 +1,254 @@
+// Replays the list of the Rust's answers, data/answers, whose head says how a line is written and which command made it. Each
+// question is asked of the port again, and a line that does not say what the port answers, bit for bit, is a difference; so is a
+// line that is not written as the head says.
+mod kinds;
+mod numbers;
+mod parts;
+mod says;
+
+ghost use Prim.Native.Nat.{_<_};
+use libc::STDOUT_FILENO;
+
+enum Kind {
+    Sequence,
+    Pair,
+    Loop,
+    Strength,
+    Strength2,
+    Ambient,
+    Unknown,
+}
+
+// How many lines of each kind were compared, and how many of them differ.
+struct Tally {
+    compared: [u64; 7],
+    differ: [u64; 7],
+}
+
+// How far the list was replayed: what was counted, the number of the next line and the place where it starts.
+struct Progress {
+    tally: Tally,
+    number: u64,
+    at: usize,
+    ended: bool,
+}
+
+// A block of a line and what follows it has 4,096 bytes, so that a longer line could be cut short.
+const LONGEST_LINE: usize = 4095;
+
+impl Kind {
+    fn index(self) -> usize
+        ensures { λ r. ⌜ r < 7 ⌝ }
+    {
+        match self {
+            Kind::Sequence => 0,
+            Kind::Pair => 1,
+            Kind::Loop => 2,
+            Kind::Strength => 3,
+            Kind::Strength2 => 4,
+            Kind::Ambient => 5,
+            Kind::Unknown => 6,
+        }
+    }
+}
+
+fn kind_of(word: &[u8]) -> Kind {
+    if check::same(word, b"seq") {
+        return Kind::Sequence;
+    }
+    if check::same(word, b"pair") {
+        return Kind::Pair;
+    }
+    if check::same(word, b"loop") {
+        return Kind::Loop;
+    }
+    if check::same(word, b"strength") {
+        return Kind::Strength;
+    }
+    if check::same(word, b"strength2") {
+        return Kind::Strength2;
+    }
+    if check::same(word, b"ambient") {
+        return Kind::Ambient;
+    }
+    Kind::Unknown
+}
+
+fn print_name(kind: Kind) {
+    match kind {
+        Kind::Sequence => print(b"seq"),
+        Kind::Pair => print(b"pair"),
+        Kind::Loop => print(b"loop"),
+        Kind::Strength => print(b"strength"),
+        Kind::Strength2 => print(b"strength2"),
+        Kind::Ambient => print(b"ambient"),
+        Kind::Unknown => print(b"of no kind"),
+    }
+}
+
+// Whether a line says what the port answers.
+fn agrees(kind: Kind, words: &[u8]) -> bool {
+    match kind {
+        Kind::Sequence => kinds::sequence(words),
+        Kind::Pair => kinds::pair(words),
+        Kind::Loop => kinds::loop_energy(words),
+        Kind::Strength => kinds::strength(words),
+        Kind::Strength2 => kinds::strength2(words),
+        Kind::Ambient => kinds::ambient(words),
+        Kind::Unknown => false,
+    }
+}
+
+// Whether words are parted by single blanks, with none at either end.
+fn is_well_formed(line: &[u8]) -> bool {
+    let mut after_blank = true;
+    let mut i = 0;
+    while i < line.len() {
+        let here = line[i] == b' ';
+        if here && after_blank {
+            return false;
+        }
+        after_blank = here;
+        i += 1;
+    }
+    !after_blank
+}
+
+fn is_comment(line: &[u8]) -> bool {
+    if 0 < line.len() {
+        return line[0] == b'#';
+    }
+    false
+}
+
+fn print(text: &[u8]) {
+    io::write_all(STDOUT_FILENO, text);
+}
+
+fn print_difference(number: u64, line: &[u8]) {
+    print(b"line ");
+    io::print_decimal(STDOUT_FILENO, number);
+    print(b" differs: ");
+    print(line);
+    print(b"\n");
+}
+
+fn counted(mut tally: Tally, kind: Kind, agreed: bool) -> Tally {
+    let k = kind.index();
+    tally.compared[k] = std::num::wrapping_add_u64(tally.compared[k], 1);
+    if !agreed {
+        tally.differ[k] = std::num::wrapping_add_u64(tally.differ[k], 1);
+    }
+    tally
+}
+
+fn replay_line(tally: Tally, number: u64, line: &[u8]) -> Tally {
+    if is_comment(line) {
+        return tally;
+    }
+    let kind = kind_of(parts::up_to(line, b' '));
+    let words = parts::past(line, b' ');
+    let agreed = is_well_formed(line) && agrees(kind, words);
+    if !agreed {
+        print_difference(number, line);
+    }
+    counted(tally, kind, agreed)
+}
+
+// Where in the file the next line starts; no place that a file has stands for one that is too far.
+fn offset(at: usize) -> i64 {
+    if at < 0x7fff_ffff_ffff_ffff {
+        return at as i64;
+    }
+    -1
+}
+
+fn ended(progress: Progress, complaint: &[u8]) -> Progress {
+    print(complaint);
+    let tally = progress.tally;
+    Progress {
+        tally,
+        number: progress.number,
+        at: progress.at,
+        ended: true,
+    }
+}
+
+// One line, read out of a block that starts with it.
+fn replay_next(fd: i32, progress: Progress) -> Progress {
+    let mut block = io::buffer();
+    let got = libc::pread(fd, &mut block, offset(progress.at));
+    if got < 0 {
+        return ended(progress, b"the list can not be read\n");
+    }
+    if got == 0 {
+        return ended(progress, b"");
+    }
+    let n = io::count(got, &block);
+    let line = parts::up_to(&block[..n], b'\n');
+    if LONGEST_LINE < line.len() {
+        return ended(progress, b"a line of the list is too long\n");
+    }
+    let number = progress.number;
+    let next = std::num::wrapping_add_usize(progress.at, line.len());
+    Progress {
+        tally: replay_line(progress.tally, number, line),
+        number: std::num::wrapping_add_u64(number, 1),
+        at: std::num::wrapping_add_usize(next, 1),
+        ended: false,
+    }
+}
+
+// A proved loop has to end, and nothing says that a file does: it is given more turns than any list has lines.
+fn replay(fd: i32) -> Tally {
+    let mut progress = Progress {
+        tally: Tally {
+            compared: [0; 7],
+            differ: [0; 7],
+        },
+        number: 1,
+        at: 0,
+        ended: false,
+    };
+    let mut turns = u64::MAX;
+    while turns > 0 && !progress.ended {
+        progress = replay_next(fd, progress);
+        turns -= 1;
+    }
+    progress.tally
+}
+
+fn print_counts(compared: u64, differ: u64) {
+    print(b" ");
+    io::print_decimal(STDOUT_FILENO, compared);
+    print(b" compared, ");
+    io::print_decimal(STDOUT_FILENO, differ);
+    print(b" differ\n");
+}
+
+fn print_kind(tally: Tally, kind: Kind) {
+    let k = kind.index();
+    print_name(kind);
+    print_counts(tally.compared[k], tally.differ[k]);
+}
+
+fn summarize(tally: Tally) {
+    print_kind(tally, Kind::Sequence);
+    print_kind(tally, Kind::Pair);
+    print_kind(tally, Kind::Loop);
+    print_kind(tally, Kind::Strength);
+    print_kind(tally, Kind::Strength2);
+    print_kind(tally, Kind::Ambient);
+    print_kind(tally, Kind::Unknown);
+}
+
+fn main() {
+    let path = b"answers";
+    let fd = os::open_read(path);
+    if fd < 0 {
+        os::fail(path);
+        return;
+    }
+    summarize(replay(fd));
+    libc::close(fd);
+}

@@ -1,0 +1,93 @@
+// Numbers as the list writes them. A word is read without care, and then the number is written out and compared with it, so that
+// what is not such a number is told from what is.
+ghost use mathlib.Core.Path.{_≡_};
+ghost use mathlib.Core.Bool.{true};
+ghost use lib.Ieee as Ieee;
+ghost use lib.Ieee.{binary64};
+ghost use Rattle.replay.specs.Text.{hexText, Decimal, ReadHex, ReadDecimal};
+
+pub(crate) enum Number {
+    Is(u64),
+    Malformed,
+}
+
+fn wide(x: u8) -> u64 {
+    x as u64
+}
+
+// Whether a word is 16 hex digits, and those of x.
+pub(crate) fn is_hex(word: &[u8], x: u64) -> bool
+    ensures { λ r. ⌜ (r ≡ true → now (word .entry) ≡ hexText x) ⌝ }
+{
+    let mut text = [0u8; 16];
+    let n = io::hex(x, 16, &mut text);
+    check::same(word, &text[..n])
+}
+
+// Whether a word is x in decimal.
+pub(crate) fn is_decimal(word: &[u8], x: u64) -> bool
+    ensures { λ r. ⌜ (r ≡ true → Decimal (now (word .entry)) x) ⌝ }
+{
+    let mut text = [0u8; 20];
+    let n = io::decimal(x, &mut text);
+    check::same(word, &text[..n])
+}
+
+// The value of a hex digit, and some number for any other byte.
+fn hex_digit(letter: u8) -> u64 {
+    if letter < b'a' {
+        return wide(letter & 15);
+    }
+    std::num::wrapping_add_u64(wide(letter & 15), 9)
+}
+
+fn hex_value(word: &[u8]) -> u64 {
+    let mut x: u64 = 0;
+    let mut i = 0;
+    while i < word.len() {
+        x = (x << 4) | hex_digit(word[i]);
+        i += 1;
+    }
+    x
+}
+
+fn decimal_value(word: &[u8]) -> u64 {
+    let mut x: u64 = 0;
+    let mut i = 0;
+    while i < word.len() {
+        let ten = std::num::wrapping_add_u64(x << 3, x << 1);
+        x = std::num::wrapping_add_u64(ten, wide(word[i] & 15));
+        i += 1;
+    }
+    x
+}
+
+pub(crate) fn hex(word: &[u8]) -> Number
+    ensures { λ r. ⌜ ReadHex (now (word .entry)) r ⌝ }
+{
+    let x = hex_value(word);
+    if is_hex(word, x) {
+        return Number::Is(x);
+    }
+    Number::Malformed
+}
+
+pub(crate) fn decimal(word: &[u8]) -> Number
+    ensures { λ r. ⌜ ReadDecimal (now (word .entry)) r ⌝ }
+{
+    let x = decimal_value(word);
+    if is_decimal(word, x) {
+        return Number::Is(x);
+    }
+    Number::Malformed
+}
+
+// The double with these bits. Every pattern of a NaN gives the one NaN that calls are given.
+pub(crate) fn double(bits: u64) -> f64
+    ensures { λ r. ⌜ r ≡ Ieee.ofBits binary64 bits ⌝ }
+{
+    if 0x7ff0_0000_0000_0000 < bits % 0x8000_0000_0000_0000 {
+        return 0.0 / 0.0;
+    }
+    f64::from_bits(bits)
+}
