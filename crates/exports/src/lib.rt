@@ -1,6 +1,9 @@
 // The calls on sequences and temperatures as C functions, one for the reply number and one for each double, as its 64 bits.
 // include/mujplesten.h declares them; each works out its whole call.
+mod answers;
+mod designs;
 mod figures;
+mod stored;
 
 ghost use mathlib.Core.Path.{_≡_};
 ghost use lib.Ieee as Ieee;

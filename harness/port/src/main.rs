@@ -2,21 +2,26 @@
 //! Rattle crate `exports`, with `refused N` where it refuses. It works out nothing by itself.
 
 mod deck;
+mod design;
 mod sequences;
 mod temperature;
 
+use design::Lent;
 use protocol::{serve, Complaint, Reply, Words};
 
 fn main() -> std::io::Result<()> {
-    serve(|words| Some(answer(words).unwrap_or_else(Reply::Err)))
+    let mut lent = Lent::default();
+    serve(|words| answer(&mut lent, words).unwrap_or_else(|complaint| Some(Reply::Err(complaint))))
 }
 
-fn answer(words: Words) -> Result<Reply, Complaint> {
+/// `None` after a setter. What is neither about sequences, temperatures nor decks is about the
+/// design that lines have set so far.
+fn answer(lent: &mut Lent, words: Words) -> Result<Option<Reply>, Complaint> {
     match words[0] {
-        "seq" | "pair" | "loop" | "strengthx" => sequences::answer(words),
-        "ambient" => temperature::answer(words),
-        "deck.read" | "deck.write" => deck::answer(words),
-        other => Err(format!("no such line {other}")),
+        "seq" | "pair" | "loop" | "strengthx" => sequences::answer(words).map(Some),
+        "ambient" => temperature::answer(words).map(Some),
+        "deck.read" | "deck.write" => deck::answer(words).map(Some),
+        _ => lent.answer(words),
     }
 }
 

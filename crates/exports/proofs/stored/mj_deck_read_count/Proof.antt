@@ -1,0 +1,32 @@
+-- `exports::stored::mj_deck_read_count` meets its contract, from the contract of the call. Assumes nothing.
+use mathlib.Core.Path.{sym, ap, _∙_}
+use Rattle.deck.specs.Reading.{ReadFigures, readFiguresOf}
+use borrow.Author.Needs.{needs}
+use Rattle.exports.proofs.stored.mj_deck_read_count.Statement.{statement}
+use Rattle.exports.proofs.stored.mj_deck_read_count.Tie as tie
+
+read-requires : tie.Need-read-requires
+read-requires c κs = search needs
+
+enum-known-count : tie.Need-enum-known-count
+enum-known-count c = search needs
+
+enum-told : tie.Need-enum-told
+enum-told c = search needs
+
+same-length : tie.Need-same-length
+same-length c = search needs
+
+returns : tie.Need-returns
+returns c = (ap (λ (f : ReadFigures). f .count) (ap readFiguresOf (sym (c .before .count .given .1)) ∙ c .before .before .before .before .before .read .ensures .0), c .before .before .before .before .before .read .ensures .1)
+
+same-length-2 : tie.Need-same-length-2
+same-length-2 c = search needs
+
+returns-2 : tie.Need-returns-2
+returns-2 c = (ap (λ (f : ReadFigures). f .count) (ap readFiguresOf (sym (c .enum-told .given .1)) ∙ c .before .before .before .before .read .ensures .0), c .before .before .before .before .read .ensures .1)
+
+pub mj-deck-read-count-spec : {M : Type 1} → statement M
+mj-deck-read-count-spec =
+    tie.close
+    (tie.spec read-requires enum-known-count enum-told same-length returns same-length-2 returns-2)

@@ -1,0 +1,120 @@
+// One figure of a design's answer, as C takes it: the reply number, a count, or a double as its 64 bits. A refusal has no figure: 0.
+// A name says the kind of answer, then the figure.
+ghost use mathlib.Core.Path.{_≡_};
+ghost use lib.Ieee as Ieee;
+ghost use lib.Ieee.{binary64};
+ghost use Rattle.sdc1d.specs.Figures.{bondFigures, friendsFigures, countFigures, stateFigures, energyFigures, chainFigures};
+use sdc1d::BondAnswer;
+use sdc1d::ChainAnswer;
+use sdc1d::CountAnswer;
+use sdc1d::EnergyAnswer;
+use sdc1d::FriendsAnswer;
+use sdc1d::StateAnswer;
+
+pub(crate) fn bond_reply(answer: BondAnswer) -> u32
+    ensures { λ r. ⌜ r ≡ bondFigures answer .number ⌝ }
+{
+    match answer {
+        BondAnswer::Bond(_) => 0,
+        BondAnswer::Refused(refusal, _) => refusal.number(),
+    }
+}
+
+pub(crate) fn bond_bits(answer: BondAnswer) -> u64
+    ensures { λ r. ⌜ r ≡ Ieee.toBits binary64 (bondFigures answer .figure) ⌝ }
+{
+    match answer {
+        BondAnswer::Bond(bond) => doubles::bits(bond),
+        BondAnswer::Refused(_, _) => 0,
+    }
+}
+
+pub(crate) fn friends_reply(answer: FriendsAnswer) -> u32
+    ensures { λ r. ⌜ r ≡ friendsFigures answer .number ⌝ }
+{
+    match answer {
+        FriendsAnswer::Friends(_) => 0,
+        FriendsAnswer::Refused(refusal, _) => refusal.number(),
+    }
+}
+
+pub(crate) fn friends_count(answer: FriendsAnswer) -> usize
+    ensures { λ r. ⌜ r ≡ friendsFigures answer .figure ⌝ }
+{
+    match answer {
+        FriendsAnswer::Friends(count) => count,
+        FriendsAnswer::Refused(_, _) => 0,
+    }
+}
+
+pub(crate) fn count_reply(answer: CountAnswer) -> u32
+    ensures { λ r. ⌜ r ≡ countFigures answer .number ⌝ }
+{
+    match answer {
+        CountAnswer::States(_) => 0,
+        CountAnswer::Refused(refusal, _) => refusal.number(),
+    }
+}
+
+pub(crate) fn count_count(answer: CountAnswer) -> u64
+    ensures { λ r. ⌜ r ≡ countFigures answer .figure ⌝ }
+{
+    match answer {
+        CountAnswer::States(count) => count,
+        CountAnswer::Refused(_, _) => 0,
+    }
+}
+
+pub(crate) fn state_reply(answer: StateAnswer) -> u32
+    ensures { λ r. ⌜ r ≡ stateFigures answer .number ⌝ }
+{
+    match answer {
+        StateAnswer::Written => 0,
+        StateAnswer::Refused(refusal, _) => refusal.number(),
+    }
+}
+
+pub(crate) fn energy_reply(answer: EnergyAnswer) -> u32
+    ensures { λ r. ⌜ r ≡ energyFigures answer .number ⌝ }
+{
+    match answer {
+        EnergyAnswer::Energy(_) => 0,
+        EnergyAnswer::Refused(refusal, _) => refusal.number(),
+    }
+}
+
+pub(crate) fn energy_bits(answer: EnergyAnswer) -> u64
+    ensures { λ r. ⌜ r ≡ Ieee.toBits binary64 (energyFigures answer .figure) ⌝ }
+{
+    match answer {
+        EnergyAnswer::Energy(energy) => doubles::bits(energy.0),
+        EnergyAnswer::Refused(_, _) => 0,
+    }
+}
+
+pub(crate) fn chain_reply(answer: ChainAnswer) -> u32
+    ensures { λ r. ⌜ r ≡ chainFigures answer .number ⌝ }
+{
+    match answer {
+        ChainAnswer::Energy(_, _) => 0,
+        ChainAnswer::Refused(refusal, _) => refusal.number(),
+    }
+}
+
+pub(crate) fn chain_bits(answer: ChainAnswer) -> u64
+    ensures { λ r. ⌜ r ≡ Ieee.toBits binary64 (chainFigures answer .figure .timesRt) ⌝ }
+{
+    match answer {
+        ChainAnswer::Energy(_, energy) => doubles::bits(energy.0),
+        ChainAnswer::Refused(_, _) => 0,
+    }
+}
+
+pub(crate) fn chain_sum(answer: ChainAnswer) -> u64
+    ensures { λ r. ⌜ r ≡ Ieee.toBits binary64 (chainFigures answer .figure .bare) ⌝ }
+{
+    match answer {
+        ChainAnswer::Energy(sum, _) => doubles::bits(sum),
+        ChainAnswer::Refused(_, _) => 0,
+    }
+}

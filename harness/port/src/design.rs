@@ -1,0 +1,299 @@
+//! The lines `d.*`, questions about the design that they set, and the lines `raw.*`, which lend
+//! slices of any length and content.
+//!
+//! A concentration is the potential itself, as in the oracle's mode `id`. The setters make the
+//! design; `d.build` checks nothing, so that every question meets what was set.
+
+use crate::reply;
+use mujplesten as mj;
+use protocol::{double, expect_words, joined, whole, Complaint, Reply, Words};
+
+/// What a slice that is lent to be written holds before a call: no strand.
+const ENTRY: u8 = 0xa5;
+
+/// Entries that friends are written into.
+const FRIENDS: usize = 64;
+
+/// A table is this many rows of this many cells.
+const GLUES: usize = 64;
+
+#[derive(Default)]
+pub struct Lent {
+    scaffold: Vec<u8>,
+    glues: Vec<u8>,
+    dg: Vec<f64>,
+    ds: Vec<f64>,
+    potentials: Vec<f64>,
+    rt: f64,
+    strand_excess: f64,
+    scaffold_excess: f64,
+}
+
+impl Lent {
+    /// `None` after a setter.
+    pub fn answer(&mut self, words: Words) -> Result<Option<Reply>, Complaint> {
+        match words[0] {
+            "mode" if words[1..] == ["id"] => Ok(None),
+            "mode" => Err("the port's concentrations are potentials".to_string()),
+            "d.build" => Ok(Some(Reply::Ok("built".to_string()))),
+            "raw.len" | "raw.set" => self.set_raw(words).map(|()| None),
+            word if word.starts_with("d.") => self.set(words).map(|()| None),
+            _ => self.question(words).map(Some),
+        }
+    }
+
+    fn set(&mut self, words: Words) -> Result<(), Complaint> {
+        match words[0] {
+            "d.new" => {
+                expect_words(words, &[2])?;
+                let strands: usize = whole(words[1])?;
+                *self = Lent {
+                    glues: vec![0; 3 * strands],
+                    dg: vec![0.0; GLUES * GLUES],
+                    ds: vec![0.0; GLUES * GLUES],
+                    potentials: vec![0.0; strands],
+                    ..Lent::default()
+                };
+            }
+            "d.strand" => {
+                expect_words(words, &[5])?;
+                let strand: usize = whole(words[1])?;
+                for side in 0..3 {
+                    let glue = whole(words[2 + side])?;
+                    put(&mut self.glues, 3 * strand + side, glue)?;
+                }
+                put(&mut self.potentials, strand, double(words[5])?)?;
+            }
+            "d.scaffold" => {
+                for word in &words[1..] {
+                    self.scaffold.push(whole(word)?);
+                }
+            }
+            "d.dg" | "d.ds" => {
+                expect_words(words, &[3])?;
+                let (row, column): (usize, usize) = (whole(words[1])?, whole(words[2])?);
+                let table = if words[0] == "d.dg" {
+                    &mut self.dg
+                } else {
+                    &mut self.ds
+                };
+                put(table, row * GLUES + column, double(words[3])?)?;
+            }
+            "d.ambient" => {
+                expect_words(words, &[3])?;
+                self.rt = double(words[1])?;
+                self.strand_excess = double(words[2])?;
+                self.scaffold_excess = double(words[3])?;
+            }
+            other => return Err(format!("no such line {other}")),
+        }
+        Ok(())
+    }
+
+    /// `raw.len PART LENGTH` cuts a slice or fills it up with zeros; `raw.set PART INDEX VALUE`
+    /// sets one entry of it.
+    fn set_raw(&mut self, words: Words) -> Result<(), Complaint> {
+        let set = words[0] == "raw.set";
+        expect_words(words, if set { &[3] } else { &[2] })?;
+        let number: usize = whole(words[2])?;
+        let bytes = match words[1] {
+            "scaffold" => Some(&mut self.scaffold),
+            "glues" => Some(&mut self.glues),
+            _ => None,
+        };
+        if let Some(bytes) = bytes {
+            if set {
+                return put(bytes, number, whole(words[3])?);
+            }
+            bytes.resize(number, 0);
+            return Ok(());
+        }
+        let doubles = match words[1] {
+            "dg" => &mut self.dg,
+            "ds" => &mut self.ds,
+            "potentials" => &mut self.potentials,
+            other => return Err(format!("no such slice {other}")),
+        };
+        if set {
+            return put(doubles, number, double(words[3])?);
+        }
+        doubles.resize(number, 0.0);
+        Ok(())
+    }
+
+    fn design(&self) -> mj::Design<'_> {
+        mj::Design {
+            scaffold: &self.scaffold,
+            glues: &self.glues,
+            dg: &self.dg,
+            ds: &self.ds,
+            potentials: &self.potentials,
+            rt: self.rt,
+            strand_excess: self.strand_excess,
+            scaffold_excess: self.scaffold_excess,
+        }
+    }
+
+    fn question(&self, words: Words) -> Result<Reply, Complaint> {
+        let counts: &[usize] = match words[0] {
+            "sbond" | "cbond" | "raw.friends" | "raw.state" => &[2],
+            "gsys" | "chain" | "raw.chain" | "state" => &[1],
+            _ => &[0],
+        };
+        expect_words(words, counts)?;
+        let (positions, strands) = (self.scaffold.len(), self.potentials.len());
+        match words[0] {
+            "sbond" => Ok(self.strand_bond(whole(words[1])?, whole(words[2])?)),
+            "cbond" => Ok(self.scaffold_bond(whole(words[1])?, whole(words[2])?)),
+            "sbonds" => rows(strands, strands, |x, y| self.strand_bond(x, y)),
+            "cbonds" => rows(positions, strands, |i, x| self.scaffold_bond(i, x)),
+            "friends" => rows(positions, 1, |i, _| self.friends(i, FRIENDS, false)),
+            "raw.friends" => Ok(self.friends(whole(words[1])?, whole(words[2])?, true)),
+            "nstates" => Ok(self.count()),
+            "state" => Ok(self.state(whole(words[1])?, positions)),
+            "raw.state" => Ok(self.state(whole(words[1])?, whole(words[2])?)),
+            "states" => self.of_every_state(";", |_, state| Reply::Ok(joined(state, ","))),
+            "gsysall" => self.of_every_state(",", |lent, state| lent.state_energy(state)),
+            "gsys" => Ok(self.state_energy(&configuration(words[1])?)),
+            "chain" => Ok(self.chain(&configuration(words[1])?, false)),
+            "raw.chain" => Ok(self.chain(&configuration(words[1])?, true)),
+            other => Err(format!("no such line {other}")),
+        }
+    }
+
+    fn strand_bond(&self, x: usize, y: usize) -> Reply {
+        let design = self.design();
+        let figures = [mj::strand_bond(design, x, y)];
+        reply(mj::strand_bond_reply(design, x, y), &figures)
+    }
+
+    fn scaffold_bond(&self, position: usize, strand: usize) -> Reply {
+        let design = self.design();
+        let figures = [mj::scaffold_bond(design, position, strand)];
+        reply(mj::scaffold_bond_reply(design, position, strand), &figures)
+    }
+
+    /// The friends, as the oracle lists them; in `full`, their number and every lent entry.
+    fn friends(&self, position: usize, lent: usize, full: bool) -> Reply {
+        let mut after = [vec![ENTRY; lent], vec![ENTRY; lent]];
+        let number = mj::friends_reply(self.design(), position, &mut after[0]);
+        let count = mj::friends_count(self.design(), position, &mut after[1]);
+        if after[0] != after[1] {
+            return Reply::Err("the functions of one call leave different slices".to_string());
+        }
+        let [entries, _] = after;
+        if number != 0 {
+            return refused_kept(number, count as u64, &entries);
+        }
+        if full {
+            return Reply::Ok(format!("{count} {}", joined(entries, ",")));
+        }
+        match entries.get(..count) {
+            Some(friends) => Reply::Ok(joined(friends, ",")),
+            None => Reply::Err(format!("{count} friends")),
+        }
+    }
+
+    fn count(&self) -> Reply {
+        let count = mj::states_count(self.design());
+        match mj::states_reply(self.design()) {
+            0 => Reply::Ok(count.to_string()),
+            number => refused_kept(number, count, &[]),
+        }
+    }
+
+    fn state(&self, rank: u64, lent: usize) -> Reply {
+        let mut entries = vec![ENTRY; lent];
+        match mj::state_reply(self.design(), rank, &mut entries) {
+            0 => Reply::Ok(joined(entries, ",")),
+            number => refused_kept(number, 0, &entries),
+        }
+    }
+
+    fn state_energy(&self, configuration: &[u8]) -> Reply {
+        let design = self.design();
+        let figures = [mj::state_energy(design, configuration)];
+        reply(mj::state_energy_reply(design, configuration), &figures)
+    }
+
+    /// The bare sum, as the oracle gives it; in `full`, also times RT.
+    fn chain(&self, configuration: &[u8], full: bool) -> Reply {
+        let design = self.design();
+        let number = mj::chain_energy_reply(design, configuration);
+        let figures = [
+            mj::chain_sum(design, configuration),
+            mj::chain_energy(design, configuration),
+        ];
+        match reply(number, &figures) {
+            Reply::Ok(_) if !full => reply(0, &figures[..1]),
+            other => other,
+        }
+    }
+
+    /// One figure of every state, in the order of ranks.
+    fn of_every_state(
+        &self,
+        separator: &str,
+        one: impl Fn(&Lent, &[u8]) -> Reply,
+    ) -> Result<Reply, Complaint> {
+        let Reply::Ok(_) = self.count() else {
+            return Ok(self.count());
+        };
+        let mut figures = vec![];
+        for rank in 0..mj::states_count(self.design()) {
+            let mut state = vec![ENTRY; self.scaffold.len()];
+            if mj::state_reply(self.design(), rank, &mut state) != 0 {
+                return Err(format!("no state at the rank {rank}"));
+            }
+            match one(self, &state) {
+                Reply::Ok(figure) => figures.push(figure),
+                other => return Ok(other),
+            }
+        }
+        Ok(Reply::Ok(joined(figures, separator)))
+    }
+}
+
+/// A refusal carries no count and leaves what was lent as it was.
+fn refused_kept(number: u32, count: u64, entries: &[u8]) -> Reply {
+    if count != 0 {
+        Reply::Err(format!("refused {number} with the count {count}"))
+    } else if entries.iter().any(|entry| *entry != ENTRY) {
+        Reply::Err(format!("refused {number} after writing"))
+    } else {
+        Reply::refused(number)
+    }
+}
+
+/// A list of rows, or the first answer that is none.
+fn rows(
+    rows: usize,
+    columns: usize,
+    cell: impl Fn(usize, usize) -> Reply,
+) -> Result<Reply, Complaint> {
+    let mut list = vec![];
+    for row in 0..rows {
+        let mut cells = vec![];
+        for column in 0..columns {
+            match cell(row, column) {
+                Reply::Ok(figure) => cells.push(figure),
+                other => return Ok(other),
+            }
+        }
+        list.push(joined(cells, ","));
+    }
+    Ok(Reply::Ok(joined(list, ";")))
+}
+
+fn put<T>(slice: &mut [T], index: usize, value: T) -> Result<(), Complaint> {
+    let entry = slice.get_mut(index).ok_or("no such entry")?;
+    *entry = value;
+    Ok(())
+}
+
+fn configuration(word: &str) -> Result<Vec<u8>, Complaint> {
+    match word {
+        "-" => Ok(vec![]),
+        list => list.split(',').map(whole).collect(),
+    }
+}
