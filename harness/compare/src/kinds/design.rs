@@ -24,7 +24,7 @@ const MIDDLING: usize = 40;
 const FULL: usize = 15;
 
 /// A listing up to this long is asked for whole, with the state energy of each state.
-const WHOLE_LISTING: u128 = 40;
+const WHOLE_LISTING: u128 = 64;
 
 /// The Rust lists all states for each question about states, so it is asked only up to here;
 /// beyond, the judge's figures are held against the port's.
