@@ -36,6 +36,9 @@ need_port() {
     export PORT_LIB
 }
 
+# cargo links by cc; where that is missing, by the kit's linker.
+command -v cc >/dev/null || export CARGO_TARGET_X86_64_UNKNOWN_LINUX_GNU_LINKER="$harness/link"
+
 # As .cargo/config.toml says, whatever output folder the caller has set for cargo.
 in_harness() {
     (cd "$harness" && CARGO_TARGET_DIR="$repository/target/harness" "$@")

@@ -5,26 +5,17 @@ ghost use lib.Ieee as Ieee;
 ghost use lib.Ieee.{binary64};
 ghost use Rattle.units.specs.Ambient.{ambientFigures};
 ghost use Rattle.utils.specs.Answers.{dgDsFigures, dgFigures};
+use doubles::bits;
+use reply::Reply;
 use units::AmbientAnswer;
 use utils::DgAnswer;
 use utils::DgDsAnswer;
-
-// The bits of x; of a NaN, the one pattern that the logic has for it.
-fn bits(x: f64) -> u64
-    ensures { λ r. ⌜ r ≡ Ieee.toBits binary64 x ⌝ }
-{
-    if x == x {
-        f64::to_bits(x)
-    } else {
-        0x7ff8_0000_0000_0000
-    }
-}
 
 pub(crate) fn dg_ds_reply(answer: DgDsAnswer) -> u32
     ensures { λ r. ⌜ r ≡ dgDsFigures answer .number ⌝ }
 {
     match answer {
-        DgDsAnswer::Given(_, _) => 0,
+        DgDsAnswer::Given(_, _) => Reply::Admitted.number(),
         DgDsAnswer::Refused(refusal) => refusal.number(),
     }
 }
@@ -51,7 +42,7 @@ pub(crate) fn dg_reply(answer: DgAnswer) -> u32
     ensures { λ r. ⌜ r ≡ dgFigures answer .number ⌝ }
 {
     match answer {
-        DgAnswer::Given(_) => 0,
+        DgAnswer::Given(_) => Reply::Admitted.number(),
         DgAnswer::Refused(refusal) => refusal.number(),
     }
 }
@@ -69,7 +60,7 @@ pub(crate) fn ambient_reply(answer: AmbientAnswer) -> u32
     ensures { λ r. ⌜ r ≡ ambientFigures answer .number ⌝ }
 {
     match answer {
-        AmbientAnswer::Given(_) => 0,
+        AmbientAnswer::Given(_) => Reply::Admitted.number(),
         AmbientAnswer::Refused(refusal) => refusal.number(),
     }
 }

@@ -10,7 +10,7 @@ ambient-reply-requires : tie.Need-ambient-reply-requires
 ambient-reply-requires c κs = search needs
 
 returns : tie.Need-returns
-returns c = cc
+returns c = rw (c .before .ambient-at .ensures) at (c .ambient-reply .ensures)
 
 pub mj-ambient-reply-spec : {M : Type 1} → statement M
 mj-ambient-reply-spec = tie.close (tie.spec ambient-at-requires ambient-reply-requires returns)

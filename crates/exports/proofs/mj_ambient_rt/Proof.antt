@@ -10,7 +10,7 @@ ambient-rt-requires : tie.Need-ambient-rt-requires
 ambient-rt-requires c κs = search needs
 
 returns : tie.Need-returns
-returns c = cc
+returns c = rw (c .before .ambient-at .ensures) at (c .ambient-rt .ensures)
 
 pub mj-ambient-rt-spec : {M : Type 1} → statement M
 mj-ambient-rt-spec = tie.close (tie.spec ambient-at-requires ambient-rt-requires returns)

@@ -10,7 +10,7 @@ ambient-scaffold-excess-requires : tie.Need-ambient-scaffold-excess-requires
 ambient-scaffold-excess-requires c κs = search needs
 
 returns : tie.Need-returns
-returns c = cc
+returns c = rw (c .before .ambient-at .ensures) at (c .ambient-scaffold-excess .ensures)
 
 pub mj-ambient-scaffold-excess-spec : {M : Type 1} → statement M
 mj-ambient-scaffold-excess-spec =

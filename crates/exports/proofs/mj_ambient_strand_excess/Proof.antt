@@ -10,7 +10,7 @@ ambient-strand-excess-requires : tie.Need-ambient-strand-excess-requires
 ambient-strand-excess-requires c κs = search needs
 
 returns : tie.Need-returns
-returns c = cc
+returns c = rw (c .before .ambient-at .ensures) at (c .ambient-strand-excess .ensures)
 
 pub mj-ambient-strand-excess-spec : {M : Type 1} → statement M
 mj-ambient-strand-excess-spec =

@@ -10,7 +10,7 @@ dg-dg-requires : tie.Need-dg-dg-requires
 dg-dg-requires c κs = search needs
 
 returns : tie.Need-returns
-returns c = cc
+returns c = rw (c .before .loop-penalty .ensures) at (c .dg-dg .ensures)
 
 pub mj-loop-dg-spec : {M : Type 1} → statement M
 mj-loop-dg-spec = tie.close (tie.spec loop-penalty-requires dg-dg-requires returns)

@@ -10,7 +10,7 @@ dg-reply-requires : tie.Need-dg-reply-requires
 dg-reply-requires c κs = search needs
 
 returns : tie.Need-returns
-returns c = cc
+returns c = rw (c .before .loop-penalty .ensures) at (c .dg-reply .ensures)
 
 pub mj-loop-reply-spec : {M : Type 1} → statement M
 mj-loop-reply-spec = tie.close (tie.spec loop-penalty-requires dg-reply-requires returns)

@@ -10,7 +10,7 @@ dg-ds-reply-requires : tie.Need-dg-ds-reply-requires
 dg-ds-reply-requires c κs = search needs
 
 returns : tie.Need-returns
-returns c = cc
+returns c = rw (c .before .sequence-pair-dg-ds .ensures) at (c .dg-ds-reply .ensures)
 
 pub mj-pair-reply-spec : {M : Type 1} → statement M
 mj-pair-reply-spec = tie.close (tie.spec sequence-pair-dg-ds-requires dg-ds-reply-requires returns)

@@ -10,7 +10,7 @@ dg-dg-requires : tie.Need-dg-dg-requires
 dg-dg-requires c κs = search needs
 
 returns : tie.Need-returns
-returns c = cc
+returns c = rw (c .before .pair-strength .ensures) at (c .dg-dg .ensures)
 
 pub mj-pair-strength-spec : {M : Type 1} → statement M
 mj-pair-strength-spec = tie.close (tie.spec pair-strength-requires dg-dg-requires returns)

@@ -10,7 +10,7 @@ dg-ds-dg-requires : tie.Need-dg-ds-dg-requires
 dg-ds-dg-requires c κs = search needs
 
 returns : tie.Need-returns
-returns c = cc
+returns c = rw (c .before .string-dna-dg-ds .ensures) at (c .dg-ds-dg .ensures)
 
 pub mj-sequence-dg-spec : {M : Type 1} → statement M
 mj-sequence-dg-spec = tie.close (tie.spec string-dna-dg-ds-requires dg-ds-dg-requires returns)

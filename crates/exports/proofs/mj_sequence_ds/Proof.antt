@@ -10,7 +10,7 @@ dg-ds-ds-requires : tie.Need-dg-ds-ds-requires
 dg-ds-ds-requires c κs = search needs
 
 returns : tie.Need-returns
-returns c = cc
+returns c = rw (c .before .string-dna-dg-ds .ensures) at (c .dg-ds-ds .ensures)
 
 pub mj-sequence-ds-spec : {M : Type 1} → statement M
 mj-sequence-ds-spec = tie.close (tie.spec string-dna-dg-ds-requires dg-ds-ds-requires returns)

@@ -10,7 +10,7 @@ dg-ds-reply-requires : tie.Need-dg-ds-reply-requires
 dg-ds-reply-requires c κs = search needs
 
 returns : tie.Need-returns
-returns c = cc
+returns c = rw (c .before .string-dna-dg-ds .ensures) at (c .dg-ds-reply .ensures)
 
 pub mj-sequence-reply-spec : {M : Type 1} → statement M
 mj-sequence-reply-spec =

@@ -10,7 +10,7 @@ dg-dg-requires : tie.Need-dg-dg-requires
 dg-dg-requires c κs = search needs
 
 returns : tie.Need-returns
-returns c = cc
+returns c = rw (c .before .sequence-strength .ensures) at (c .dg-dg .ensures)
 
 pub mj-sequence-strength-spec : {M : Type 1} → statement M
 mj-sequence-strength-spec = tie.close (tie.spec sequence-strength-requires dg-dg-requires returns)

@@ -10,7 +10,7 @@ dg-reply-requires : tie.Need-dg-reply-requires
 dg-reply-requires c κs = search needs
 
 returns : tie.Need-returns
-returns c = cc
+returns c = rw (c .before .sequence-strength .ensures) at (c .dg-reply .ensures)
 
 pub mj-sequence-strength-reply-spec : {M : Type 1} → statement M
 mj-sequence-strength-reply-spec =
