@@ -34,8 +34,9 @@ const LISTED_BY_THE_RUST: u128 = 4096;
 const COLDEST: f64 = 63.0;
 const HOTTEST: f64 = 1334.0;
 
-/// RTs that are powers of two make sums that are exact; some kelvins have exactly these.
-const ROUND_RTS: [f64; 4] = [0.25, 0.5, 1.0, 2.0];
+/// RTs that are powers of two make sums that are exact; some kelvins have exactly these, the least
+/// that is admitted among them.
+const ROUND_RTS: [f64; 5] = [0.125, 0.25, 0.5, 1.0, 2.0];
 
 impl Kind for Designs {
     fn name(&self) -> &'static str {
@@ -66,10 +67,14 @@ impl Kind for Designs {
             oracle(&lines)?;
             ambients.push((kelvin, read_ambient(&oracle("here")?)?));
         }
-        Ok(())
+        let has = |rt| ambients.iter().any(|(_, ambient)| ambient.rt == rt);
+        match ROUND_RTS.into_iter().all(has) {
+            true => Ok(()),
+            false => Err("no temperature has a round RT".to_string()),
+        }
     }
 
-    /// The bench table's counts, and one design of each number of positions and of strands.
+    /// One design of each number of positions, and of strands.
     fn fixed(&self, ask: &mut Ask) {
         let random = &mut Random::new(1);
         let mut put = |positions, strands, glues, cells| {
@@ -104,8 +109,17 @@ impl Kind for Designs {
 }
 
 impl Designs {
+    /// Dyadic designs tie at round RTs alone.
+    fn ambient(&self, random: &mut Random, sort: Sort) -> (f64, Ambient) {
+        let mut ambients = self.ambients.borrow().clone();
+        if sort == Sort::Dyadic {
+            ambients.retain(|(_, ambient)| ROUND_RTS.contains(&ambient.rt));
+        }
+        random.pick(&ambients)
+    }
+
     fn about(&self, random: &mut Random, sort: Sort, shape: &Shape, ask: &mut Ask) {
-        let (kelvin, ambient) = random.pick(&self.ambients.borrow());
+        let (kelvin, ambient) = self.ambient(random, sort);
         let lent = design(random, sort, shape, ambient);
         let lines = lines_of_both(&lent, shape.glues);
         let sent: Rc<str> = format!("{lines}{}", ambient_line(&lent)).into();

@@ -91,59 +91,69 @@ impl Arguments {
 /// The slices go with the first question and hold for the rest.
 fn ask_every_call(lent: &Lent, arguments: &Arguments, ask: &mut Ask) {
     let lines: Rc<str> = raw_lines(lent).into();
-    let mut sent = false;
-    let mut put = |mut question: Question| {
-        match sent {
-            true => question.about = Some(lines.clone()),
-            false => question.port = format!("{lines}{}", question.port),
+    let questions = bonds(lent, arguments)
+        .into_iter()
+        .chain(friends_and_states(lent, arguments))
+        .chain(energies(lent, arguments));
+    for (index, mut question) in questions.enumerate() {
+        match index {
+            0 => question.port = format!("{lines}{}", question.port),
+            _ => question.about = Some(lines.clone()),
         }
-        sent = true;
         ask(question);
-    };
+    }
+}
+
+fn bonds(lent: &Lent, arguments: &Arguments) -> [Question; 2] {
     let (x, y) = arguments.pair;
-    let verdict = lent.strand_bond_verdict(x, y);
-    put(Question::of_port(format!("sbond {x} {y}"), verdict, || {
-        bits(lent.strand_bond(x, y))
-    }));
     let (position, strand) = arguments.site;
-    let verdict = lent.scaffold_bond_verdict(position, strand);
-    let line = format!("cbond {position} {strand}");
-    put(Question::of_port(line, verdict, || {
-        bits(lent.scaffold_bond(position, strand))
-    }));
-    let (position, entries) = arguments.friends;
-    let verdict = lent.friends_verdict(position, entries);
-    let line = format!("raw.friends {position} {entries}");
-    put(Question::of_port(line, verdict, || {
-        let mut friends = lent.friends(position);
-        let count = friends.len();
-        friends.resize(entries, KEPT);
-        format!("{count} {}", joined(friends, ","))
-    }));
-    let verdict = lent.count_verdict();
-    put(Question::of_port("nstates".to_string(), verdict, || {
-        lent.count().to_string()
-    }));
-    let (rank, entries) = arguments.state;
-    let verdict = lent.state_verdict(rank, entries);
-    let line = format!("raw.state {rank} {entries}");
-    put(Question::of_port(line, verdict, || {
-        joined(lent.state(rank), ",")
-    }));
+    let of_strands = format!("sbond {x} {y}");
+    let of_scaffold = format!("cbond {position} {strand}");
+    [
+        Question::of_port(of_strands, lent.strand_bond_verdict(x, y), || {
+            bits(lent.strand_bond(x, y))
+        }),
+        Question::of_port(
+            of_scaffold,
+            lent.scaffold_bond_verdict(position, strand),
+            || bits(lent.scaffold_bond(position, strand)),
+        ),
+    ]
+}
+
+fn friends_and_states(lent: &Lent, arguments: &Arguments) -> [Question; 3] {
+    let (position, for_friends) = arguments.friends;
+    let (rank, for_state) = arguments.state;
+    let friends = format!("raw.friends {position} {for_friends}");
+    let count = "nstates".to_string();
+    let state = format!("raw.state {rank} {for_state}");
+    [
+        Question::of_port(friends, lent.friends_verdict(position, for_friends), || {
+            let mut friends = lent.friends(position);
+            let count = friends.len();
+            friends.resize(for_friends, KEPT);
+            format!("{count} {}", joined(friends, ","))
+        }),
+        Question::of_port(count, lent.count_verdict(), || lent.count().to_string()),
+        Question::of_port(state, lent.state_verdict(rank, for_state), || {
+            joined(lent.state(rank), ",")
+        }),
+    ]
+}
+
+fn energies(lent: &Lent, arguments: &Arguments) -> [Question; 2] {
     let configuration = &arguments.configuration;
     let word = joined(configuration, ",");
     let verdict = lent.energy_verdict(configuration);
-    put(Question::of_port(format!("gsys {word}"), verdict, || {
-        bits(lent.state_energy(configuration))
-    }));
-    put(Question::of_port(
-        format!("raw.chain {word}"),
-        verdict,
-        || {
+    [
+        Question::of_port(format!("gsys {word}"), verdict, || {
+            bits(lent.state_energy(configuration))
+        }),
+        Question::of_port(format!("raw.chain {word}"), verdict, || {
             let sum = lent.chain_energy(configuration);
             format!("{} {}", bits(sum), bits(sum * lent.rt))
-        },
-    ));
+        }),
+    ]
 }
 
 /// Three positions and four strands: 1 and 2 are friends, 3 is nowhere one and has no potential.
