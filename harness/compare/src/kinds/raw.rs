@@ -6,6 +6,7 @@ use super::{Ask, Kind};
 use crate::designs::{design, raw_lines, Ambient, Shape, SORTS};
 use crate::doubles::{around, not_finite, of_any_size};
 use crate::judge::design::{Lent, CELLS, FRIENDS_LENT};
+use crate::judge::Verdict;
 use crate::question::Question;
 use crate::random::Random;
 use protocol::{bits, joined};
@@ -75,15 +76,22 @@ struct Arguments {
 }
 
 impl Arguments {
-    /// Refused only where the design is, or has no position.
+    /// Refused only where the design is, or has no position. Places are occupied where they can
+    /// be, so that every energy has terms.
     fn usual(lent: &Lent) -> Self {
         let last = lent.strands().saturating_sub(1);
+        let mut configuration = vec![0; lent.positions()];
+        if lent.energy_verdict(&configuration) == Verdict::Admitted {
+            for (position, place) in configuration.iter_mut().enumerate() {
+                *place = lent.friends(position).first().copied().unwrap_or(0);
+            }
+        }
         Arguments {
-            pair: (last, 0),
-            site: (0, last),
+            pair: (last.min(1), last.min(2)),
+            site: (0, last.min(1)),
             friends: (0, FRIENDS_LENT),
             state: (0, lent.positions()),
-            configuration: vec![0; lent.positions()],
+            configuration,
         }
     }
 }
@@ -289,7 +297,7 @@ fn every_argument(ask: &mut Ask) {
         for occupant in 0..=255 {
             put(&|it| it.configuration[position] = occupant);
             put(&|it| {
-                it.configuration = vec![1, 2, 1];
+                it.configuration = vec![0; 3];
                 it.configuration[position] = occupant;
             });
         }
