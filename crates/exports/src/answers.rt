@@ -4,6 +4,8 @@ ghost use mathlib.Core.Path.{_≡_};
 ghost use lib.Ieee as Ieee;
 ghost use lib.Ieee.{binary64};
 ghost use Rattle.sdc1d.specs.Figures.{bondFigures, friendsFigures, countFigures, stateFigures, energyFigures, chainFigures};
+use doubles::bits;
+use reply::Reply;
 use sdc1d::BondAnswer;
 use sdc1d::ChainAnswer;
 use sdc1d::CountAnswer;
@@ -15,7 +17,7 @@ pub(crate) fn bond_reply(answer: BondAnswer) -> u32
     ensures { λ r. ⌜ r ≡ bondFigures answer .number ⌝ }
 {
     match answer {
-        BondAnswer::Bond(_) => 0,
+        BondAnswer::Bond(_) => Reply::Admitted.number(),
         BondAnswer::Refused(refusal, _) => refusal.number(),
     }
 }
@@ -24,7 +26,7 @@ pub(crate) fn bond_bits(answer: BondAnswer) -> u64
     ensures { λ r. ⌜ r ≡ Ieee.toBits binary64 (bondFigures answer .figure) ⌝ }
 {
     match answer {
-        BondAnswer::Bond(bond) => doubles::bits(bond),
+        BondAnswer::Bond(bond) => bits(bond),
         BondAnswer::Refused(_, _) => 0,
     }
 }
@@ -33,7 +35,7 @@ pub(crate) fn friends_reply(answer: FriendsAnswer) -> u32
     ensures { λ r. ⌜ r ≡ friendsFigures answer .number ⌝ }
 {
     match answer {
-        FriendsAnswer::Friends(_) => 0,
+        FriendsAnswer::Friends(_) => Reply::Admitted.number(),
         FriendsAnswer::Refused(refusal, _) => refusal.number(),
     }
 }
@@ -51,7 +53,7 @@ pub(crate) fn count_reply(answer: CountAnswer) -> u32
     ensures { λ r. ⌜ r ≡ countFigures answer .number ⌝ }
 {
     match answer {
-        CountAnswer::States(_) => 0,
+        CountAnswer::States(_) => Reply::Admitted.number(),
         CountAnswer::Refused(refusal, _) => refusal.number(),
     }
 }
@@ -69,7 +71,7 @@ pub(crate) fn state_reply(answer: StateAnswer) -> u32
     ensures { λ r. ⌜ r ≡ stateFigures answer .number ⌝ }
 {
     match answer {
-        StateAnswer::Written => 0,
+        StateAnswer::Written => Reply::Admitted.number(),
         StateAnswer::Refused(refusal, _) => refusal.number(),
     }
 }
@@ -78,7 +80,7 @@ pub(crate) fn energy_reply(answer: EnergyAnswer) -> u32
     ensures { λ r. ⌜ r ≡ energyFigures answer .number ⌝ }
 {
     match answer {
-        EnergyAnswer::Energy(_) => 0,
+        EnergyAnswer::Energy(_) => Reply::Admitted.number(),
         EnergyAnswer::Refused(refusal, _) => refusal.number(),
     }
 }
@@ -87,7 +89,7 @@ pub(crate) fn energy_bits(answer: EnergyAnswer) -> u64
     ensures { λ r. ⌜ r ≡ Ieee.toBits binary64 (energyFigures answer .figure) ⌝ }
 {
     match answer {
-        EnergyAnswer::Energy(energy) => doubles::bits(energy.0),
+        EnergyAnswer::Energy(energy) => bits(energy.0),
         EnergyAnswer::Refused(_, _) => 0,
     }
 }
@@ -96,7 +98,7 @@ pub(crate) fn chain_reply(answer: ChainAnswer) -> u32
     ensures { λ r. ⌜ r ≡ chainFigures answer .number ⌝ }
 {
     match answer {
-        ChainAnswer::Energy(_, _) => 0,
+        ChainAnswer::Energy(_, _) => Reply::Admitted.number(),
         ChainAnswer::Refused(refusal, _) => refusal.number(),
     }
 }
@@ -105,7 +107,7 @@ pub(crate) fn chain_bits(answer: ChainAnswer) -> u64
     ensures { λ r. ⌜ r ≡ Ieee.toBits binary64 (chainFigures answer .figure .timesRt) ⌝ }
 {
     match answer {
-        ChainAnswer::Energy(_, energy) => doubles::bits(energy.0),
+        ChainAnswer::Energy(_, energy) => bits(energy.0),
         ChainAnswer::Refused(_, _) => 0,
     }
 }
@@ -114,7 +116,7 @@ pub(crate) fn chain_sum(answer: ChainAnswer) -> u64
     ensures { λ r. ⌜ r ≡ Ieee.toBits binary64 (chainFigures answer .figure .bare) ⌝ }
 {
     match answer {
-        ChainAnswer::Energy(sum, _) => doubles::bits(sum),
+        ChainAnswer::Energy(sum, _) => bits(sum),
         ChainAnswer::Refused(_, _) => 0,
     }
 }

@@ -1,13 +1,17 @@
 //! Port against Rust, in one process and on the same inputs: medians, and port time over Rust
 //! time. A new group of rows is a file of its own and an entry in `main`.
 
+mod designs;
 mod measure;
 mod sequences;
 
 use measure::{measure, Row};
 
 fn main() {
-    let rows: Vec<Row> = [sequences::rows()].into_iter().flatten().collect();
+    let rows: Vec<Row> = [sequences::rows(), designs::rows()]
+        .into_iter()
+        .flatten()
+        .collect();
     println!("ns for one input, median of {} samples", measure::SAMPLES);
     println!("{:44} {:>9} {:>9} {:>7}", "", "Rust", "port", "ratio");
     let mut cleared = "";

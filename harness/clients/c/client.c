@@ -169,6 +169,52 @@ static void decks(void)
     count("its deck", memcmp(words, deck, sizeof deck) == 0 && words[4] == 0xa5a5a5a5);
 }
 
+/* The bench table's two positions: strand 1 with dG -0.5, then strand 2 with dG -2, potentials -1,
+ * RT 0.5, strand bonds 0. */
+static uint8_t scaffold[2] = {1, 2};
+static uint8_t glues[9] = {0, 0, 0, 0, 1, 0, 0, 2, 0};
+static double dg[64][64], ds[64][64];
+static double potentials[3] = {0.0, -1.0, -1.0};
+
+#define DESIGN scaffold, 2, glues, 9, dg[0], 4096, ds[0], 4096, potentials, 3, 0.5, 0.0, 0.0
+
+static void designs(void)
+{
+    uint8_t both[2] = {1, 2}, stranger[2] = {2, 2}, entries[64], state[2] = {9, 9};
+    dg[1][1] = -0.5;
+    dg[2][2] = -2.0;
+    reply("a strand bond", mj_strand_bond_reply(DESIGN, 1, 2), 0);
+    figure("its bond", mj_strand_bond(DESIGN, 1, 2), 0.0);
+    reply("no such strand", mj_strand_bond_reply(DESIGN, 1, 3), 1);
+    reply("a scaffold bond", mj_scaffold_bond_reply(DESIGN, 1, 2), 0);
+    figure("its bond", mj_scaffold_bond(DESIGN, 1, 2), -4.0);
+    memset(entries, 0xa5, sizeof entries);
+    reply("too few entries", mj_friends_reply(DESIGN, 1, entries, 63), 1);
+    count("entries kept", entries[0] == 0xa5);
+    reply("friends", mj_friends_reply(DESIGN, 1, entries, 64), 0);
+    count("their count", mj_friends_count(DESIGN, 1, entries, 64) == 1);
+    count("friends written", entries[0] == 2 && entries[1] == 0xa5);
+    reply("states", mj_states_reply(DESIGN), 0);
+    count("their count", mj_states_count(DESIGN) == 4);
+    reply("rank 4", mj_state_reply(DESIGN, 4, state, 2), 13);
+    count("state kept", state[0] == 9 && state[1] == 9);
+    reply("rank 2", mj_state_reply(DESIGN, 2, state, 2), 0);
+    count("state written", state[0] == 0 && state[1] == 2);
+    reply("a state energy", mj_state_energy_reply(DESIGN, both, 2), 0);
+    figure("it", mj_state_energy(DESIGN, both, 2), -1.5);
+    reply("a stranger", mj_state_energy_reply(DESIGN, stranger, 2), 11);
+    figure("no energy", mj_state_energy(DESIGN, stranger, 2), 0.0);
+    reply("a chain energy", mj_chain_energy_reply(DESIGN, both, 2), 0);
+    figure("it", mj_chain_energy(DESIGN, both, 2), -1.5);
+    figure("its sum", mj_chain_sum(DESIGN, both, 2), -3.0);
+    potentials[2] = NAN;
+    reply("a potential", mj_states_reply(DESIGN), 9);
+    count("no count", mj_states_count(DESIGN) == 0);
+    potentials[2] = -1.0;
+    dg[0][7] = 1.0;
+    reply("a null cell", mj_states_reply(DESIGN), 10);
+}
+
 int main(void)
 {
     memset(many, 'g', sizeof many);
@@ -178,6 +224,7 @@ int main(void)
     strengths();
     ambients();
     decks();
+    designs();
     printf("client: %u passed, %u failed\n", passed, failed);
     return failed == 0 ? 0 : 1;
 }

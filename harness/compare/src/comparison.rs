@@ -39,6 +39,12 @@ impl Comparison {
         if self.lost.is_some() {
             return;
         }
+        let oracle = &mut self.oracle;
+        if let Err(how) = kind.prepare(&mut |lines| oracle.ask(lines)) {
+            self.tally.complain(&how);
+            self.lost = Some(how);
+            return;
+        }
         let mut asking = Asking {
             kind,
             comparison: self,
@@ -169,7 +175,7 @@ impl Asking<'_> {
     fn show(&mut self, question: &Question, why: &str, oracle: &str, port: &str) {
         self.comparison.tally.difference(Difference {
             why,
-            line: &question.port,
+            line: &question.lines().replace('\n', "\n         "),
             oracle,
             port,
             judge: &question.judge_says(),

@@ -2,15 +2,16 @@
 //!
 //! * `kinds`: one file for each kind of line; it makes the questions and says what of an answer
 //!   is compared.
-//! * `judge`: document 01's refusals, written from the document alone.
+//! * `judge`: document 01's refusals, and answers that the Rust lacks, from the document alone.
 //! * `question`: what is asked and expected, and when an answer differs.
 //! * `comparison`, `program`, `tally`: the run.
-//! * `random`, `bases`, `doubles`, `decks`: what the generators draw from.
+//! * `random`, `bases`, `doubles`, `decks`, `designs`: what the generators draw from.
 //! * `replay`: the fixed list of answers for the Rattle program of that name.
 
 pub mod bases;
 pub mod comparison;
 pub mod decks;
+pub mod designs;
 pub mod doubles;
 pub mod judge;
 pub mod kinds;

@@ -61,6 +61,12 @@ impl Program {
         let _ = self.lines.send(lines);
     }
 
+    /// Sends lines of which one is answered, while no other answer is on its way.
+    pub fn ask(&mut self, lines: &str) -> Result<String, String> {
+        self.send(format!("{lines}\n"));
+        self.answer()
+    }
+
     /// The next answer, or how the program was lost.
     pub fn answer(&mut self) -> Result<String, String> {
         match self.answers.recv_timeout(PATIENCE) {

@@ -3,6 +3,7 @@
 use crate::judge::Verdict;
 use crate::kinds::Kind;
 use protocol::Reply;
+use std::rc::Rc;
 
 /// Lines for both programs that each answer with exactly one line: any setters, then a question.
 #[derive(Debug, Clone)]
@@ -11,6 +12,8 @@ pub struct Question {
     /// None where the Rust has nothing to say: bytes that are no UTF-8, or a call it lacks.
     pub oracle: Option<String>,
     pub expected: Expected,
+    /// Lines that were sent to the port before and still hold, where the question leans on them.
+    pub about: Option<Rc<str>>,
 }
 
 #[derive(Debug, Clone)]
@@ -28,7 +31,26 @@ impl Question {
             oracle: Some(line.clone()),
             port: line,
             expected: Expected::Judged(verdict),
+            about: None,
         }
+    }
+
+    /// A line for the port alone; where the judge admits it, these are the figures.
+    pub fn of_port(port: String, verdict: Verdict, figures: impl FnOnce() -> String) -> Self {
+        Question {
+            port,
+            oracle: None,
+            expected: match verdict {
+                Verdict::Admitted => Expected::Figures(figures()),
+                refused => Expected::Judged(refused),
+            },
+            about: None,
+        }
+    }
+
+    /// The port's lines, those that still hold included.
+    pub fn lines(&self) -> String {
+        format!("{}{}", self.about.as_deref().unwrap_or(""), self.port)
     }
 
     /// The same line for both, where the oracle can take these sequences: the Rust's are UTF-8.
@@ -192,6 +214,7 @@ mod tests {
             port: "deck …".to_string(),
             oracle: None,
             expected: Expected::Figures("1,0,2".to_string()),
+            about: None,
         };
         assert!(!differs(&question, None, ok("1,0,2")));
         assert!(differs(&question, None, ok("1,0,1")));

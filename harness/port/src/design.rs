@@ -55,15 +55,7 @@ impl Lent {
                     ..Lent::default()
                 };
             }
-            "d.strand" => {
-                expect_words(words, &[5])?;
-                let strand: usize = whole(words[1])?;
-                for side in 0..3 {
-                    let glue = whole(words[2 + side])?;
-                    put(&mut self.glues, 3 * strand + side, glue)?;
-                }
-                put(&mut self.potentials, strand, double(words[5])?)?;
-            }
+            "d.strand" => self.set_strand(words)?,
             "d.scaffold" => {
                 for word in &words[1..] {
                     self.scaffold.push(whole(word)?);
@@ -90,7 +82,17 @@ impl Lent {
         Ok(())
     }
 
-    /// `raw.len PART LENGTH` cuts a slice or fills it up with zeros; `raw.set PART INDEX VALUE`
+    /// `d.strand I WEST BOTTOM EAST POTENTIAL`
+    fn set_strand(&mut self, words: Words) -> Result<(), Complaint> {
+        expect_words(words, &[5])?;
+        let strand: usize = whole(words[1])?;
+        for side in 0..3 {
+            put(&mut self.glues, 3 * strand + side, whole(words[2 + side])?)?;
+        }
+        put(&mut self.potentials, strand, double(words[5])?)
+    }
+
+    /// `raw.len SLICE LENGTH` cuts a slice or fills it up with zeros; `raw.set SLICE INDEX VALUE`
     /// sets one entry of it.
     fn set_raw(&mut self, words: Words) -> Result<(), Complaint> {
         let set = words[0] == "raw.set";

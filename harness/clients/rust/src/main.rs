@@ -40,6 +40,7 @@ fn main() -> ExitCode {
     strengths(&mut checks);
     ambients(&mut checks);
     decks(&mut checks);
+    designs(&mut checks);
     println!("client: {} passed, {} failed", checks.passed, checks.failed);
     if checks.failed == 0 {
         ExitCode::SUCCESS
@@ -175,4 +176,79 @@ fn decks(checks: &mut Checks) {
     checks.count("its count", count == 4, format!("{count}, not 4"));
     let written = words[..4] == deck && words[4] == u32::MAX;
     checks.count("its deck", written, format!("{:x?}", &words[..5]));
+}
+
+/// The bench table's two positions: strand 1 with dG −0.5, then strand 2 with dG −2, potentials −1,
+/// RT 0.5, strand bonds 0.
+fn designs(checks: &mut Checks) {
+    let mut dg = [0.0; 4096];
+    (dg[65], dg[130]) = (-0.5, -2.0);
+    let design = mj::Design {
+        scaffold: &[1, 2],
+        glues: &[0, 0, 0, 0, 1, 0, 0, 2, 0],
+        dg: &dg,
+        ds: &[0.0; 4096],
+        potentials: &[0.0, -1.0, -1.0],
+        rt: 0.5,
+        strand_excess: 0.0,
+        scaffold_excess: 0.0,
+    };
+    bonds_and_friends(checks, design);
+    states_and_energies(checks, design);
+    let potentials = [0.0, -1.0, f64::NAN];
+    let unfit = mj::Design {
+        potentials: &potentials,
+        ..design
+    };
+    checks.reply("a potential", mj::states_reply(unfit), 9);
+    let count = mj::states_count(unfit);
+    checks.count("its count", count == 0, format!("{count}, not 0"));
+    let glues = [0, 0, 7, 0, 1, 0, 0, 2, 0];
+    let glued = mj::Design {
+        glues: &glues,
+        ..design
+    };
+    checks.reply("strand 0 with a glue", mj::states_reply(glued), 10);
+}
+
+fn bonds_and_friends(checks: &mut Checks, design: mj::Design) {
+    let number = mj::strand_bond_reply(design, 1, 2);
+    checks.reply("a strand bond", number, 0);
+    checks.figure("it", mj::strand_bond(design, 1, 2), 0.0);
+    let number = mj::strand_bond_reply(design, 1, 3);
+    checks.reply("no such strand", number, 1);
+    let number = mj::scaffold_bond_reply(design, 1, 2);
+    checks.reply("a scaffold bond", number, 0);
+    checks.figure("it", mj::scaffold_bond(design, 1, 2), -4.0);
+    let mut entries = [0xa5; 64];
+    let number = mj::friends_reply(design, 2, &mut entries);
+    checks.reply("no such position", number, 1);
+    checks.count("entries", entries == [0xa5; 64], "not kept".to_string());
+    let number = mj::friends_reply(design, 1, &mut entries);
+    checks.reply("friends", number, 0);
+    let count = mj::friends_count(design, 1, &mut entries);
+    checks.count("their count", count == 1, format!("{count}, not 1"));
+    let written = entries[..2] == [2, 0xa5];
+    checks.count("friends", written, format!("{:?}", &entries[..2]));
+}
+
+fn states_and_energies(checks: &mut Checks, design: mj::Design) {
+    checks.reply("states", mj::states_reply(design), 0);
+    let count = mj::states_count(design);
+    checks.count("their count", count == 4, format!("{count}, not 4"));
+    let mut state = [9; 2];
+    checks.reply("rank 4", mj::state_reply(design, 4, &mut state), 13);
+    checks.count("entries", state == [9; 2], "not kept".to_string());
+    checks.reply("rank 2", mj::state_reply(design, 2, &mut state), 0);
+    checks.count("its state", state == [0, 2], format!("{state:?}"));
+    let number = mj::state_energy_reply(design, &[1, 2]);
+    checks.reply("a state energy", number, 0);
+    checks.figure("it", mj::state_energy(design, &[1, 2]), -1.5);
+    let number = mj::state_energy_reply(design, &[2, 2]);
+    checks.reply("a stranger", number, 11);
+    checks.figure("its energy", mj::state_energy(design, &[2, 2]), 0.0);
+    let number = mj::chain_energy_reply(design, &[1, 2]);
+    checks.reply("a chain energy", number, 0);
+    checks.figure("it", mj::chain_energy(design, &[1, 2]), -1.5);
+    checks.figure("its sum", mj::chain_sum(design, &[1, 2]), -3.0);
 }

@@ -4,8 +4,7 @@
 use super::{Ask, Kind};
 use crate::decks;
 use crate::judge::deck::{self, READING_LENDS, WRITING_LENDS};
-use crate::judge::Verdict;
-use crate::question::{Expected, Question};
+use crate::question::Question;
 use crate::random::Random;
 use protocol::joined;
 
@@ -66,7 +65,7 @@ impl Kind for Decks {
 
 fn reading(words: &[u32], lent: usize) -> Question {
     let port = format!("deck.read {lent} {}", hexadecimal(words));
-    expecting(port, deck::reading(words, lent), || {
+    Question::of_port(port, deck::reading(words, lent), || {
         let mut entries = deck::read(words).expect("the judge admits it");
         let count = entries.len();
         entries.resize(lent, KEPT_ENTRY);
@@ -76,23 +75,12 @@ fn reading(words: &[u32], lent: usize) -> Question {
 
 fn writing(config: &[u8], lent: usize) -> Question {
     let port = format!("deck.write {lent} {}", joined(config, ","));
-    expecting(port, deck::writing(config, lent), || {
+    Question::of_port(port, deck::writing(config, lent), || {
         let mut words = deck::write(config);
         let count = words.len();
         words.resize(lent, KEPT_WORD);
         format!("{count} {}", hexadecimal(&words))
     })
-}
-
-fn expecting(port: String, verdict: Verdict, figures: impl Fn() -> String) -> Question {
-    Question {
-        port,
-        oracle: None,
-        expected: match verdict {
-            Verdict::Admitted => Expected::Figures(figures()),
-            refused => Expected::Judged(refused),
-        },
-    }
 }
 
 fn hexadecimal(words: &[u32]) -> String {

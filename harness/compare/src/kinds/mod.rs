@@ -2,8 +2,10 @@
 
 pub mod ambient;
 pub mod deck;
+pub mod design;
 pub mod loops;
 pub mod pair;
+pub mod raw;
 pub mod sequence;
 pub mod strength;
 
@@ -13,6 +15,9 @@ use crate::random::Random;
 /// Takes the next question.
 pub type Ask<'a> = dyn FnMut(Question) + 'a;
 
+/// Sends lines to the oracle that it answers with one line, and gives that.
+pub type AskOracle<'a> = dyn FnMut(&str) -> Result<String, String> + 'a;
+
 pub trait Kind {
     /// As it stands in the last line of a run.
     fn name(&self) -> &'static str;
@@ -20,6 +25,11 @@ pub trait Kind {
     /// Every reply that the questions must bring about, 0 for an answer. A run that leaves one
     /// out has not compared what it claims, and fails.
     fn replies(&self) -> &'static [u32];
+
+    /// Asks the oracle for what the questions are made of, before the first of them.
+    fn prepare(&self, _oracle: &mut AskOracle) -> Result<(), String> {
+        Ok(())
+    }
 
     /// Questions that hang on no seed. They are asked once in a run.
     fn fixed(&self, ask: &mut Ask);
@@ -46,5 +56,7 @@ pub fn all() -> Vec<Box<dyn Kind>> {
         Box::new(strength::Strengths),
         Box::new(ambient::Ambients),
         Box::new(deck::Decks),
+        Box::new(design::Designs::default()),
+        Box::new(raw::RawDesigns),
     ]
 }

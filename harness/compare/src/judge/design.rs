@@ -1,0 +1,290 @@
+//! Document 01, "Bonds, friends, states", read once more: refusals and answers of every call that
+//! takes a design, from the documents alone.
+
+use super::{out_of_range, Verdict};
+
+const MOST_POSITIONS: usize = 128;
+const MOST_STRANDS: usize = 64;
+const GLUES: usize = 64;
+pub const CELLS: usize = GLUES * GLUES;
+pub const FRIENDS_LENT: usize = 64;
+pub const MOST_STATES: u128 = 1_048_576;
+
+/// What a call is lent: slices of any length and content, and the ambient.
+#[derive(Debug, Clone, Default)]
+pub struct Lent {
+    pub scaffold: Vec<u8>,
+    /// West, bottom, east of each strand.
+    pub glues: Vec<u8>,
+    pub dg: Vec<f64>,
+    pub ds: Vec<f64>,
+    pub potentials: Vec<f64>,
+    pub rt: f64,
+    pub strand_excess: f64,
+    pub scaffold_excess: f64,
+}
+
+/// Refusals. Each call has conditions of its own beside those of the design.
+impl Lent {
+    /// "Every call that takes a design checks all of it." Nothing else can be looked up while a
+    /// size is wrong, and 1 is the lowest number.
+    fn verdict(&self, own_size: bool, own: impl FnOnce() -> Vec<(u32, bool)>) -> Verdict {
+        if own_size || self.wrong_sizes() {
+            return Verdict::lowest(&[(1, true)]);
+        }
+        let mut conditions = vec![(9, self.numbers_out_of_range()), (10, self.null_binds())];
+        // A design that is refused has no states of which a call could ask more.
+        if conditions.iter().all(|(_, holds)| !holds) {
+            conditions.extend(own());
+        }
+        Verdict::lowest(&conditions)
+    }
+
+    pub fn strand_bond_verdict(&self, x: usize, y: usize) -> Verdict {
+        self.verdict(x.max(y) >= self.strands(), Vec::new)
+    }
+
+    pub fn scaffold_bond_verdict(&self, position: usize, strand: usize) -> Verdict {
+        let absent = position >= self.positions() || strand >= self.strands();
+        self.verdict(absent, Vec::new)
+    }
+
+    pub fn friends_verdict(&self, position: usize, lent: usize) -> Verdict {
+        let wrong = position >= self.positions() || lent != FRIENDS_LENT;
+        self.verdict(wrong, Vec::new)
+    }
+
+    pub fn count_verdict(&self) -> Verdict {
+        self.verdict(false, || vec![(12, self.count() > MOST_STATES)])
+    }
+
+    pub fn state_verdict(&self, rank: u64, lent: usize) -> Verdict {
+        self.verdict(lent != self.positions(), || {
+            let count = self.count();
+            vec![(12, count > MOST_STATES), (13, u128::from(rank) >= count)]
+        })
+    }
+
+    /// Of the state energy and of the chain energy.
+    pub fn energy_verdict(&self, configuration: &[u8]) -> Verdict {
+        self.verdict(configuration.len() != self.positions(), || {
+            let stranger = |(position, occupant): (usize, &u8)| {
+                *occupant != 0 && !self.friends(position).contains(occupant)
+            };
+            vec![(11, configuration.iter().enumerate().any(stranger))]
+        })
+    }
+
+    fn wrong_sizes(&self) -> bool {
+        let strands = self.strands();
+        let high = |glue: &u8| usize::from(*glue) >= GLUES;
+        self.positions() > MOST_POSITIONS
+            || !(1..=MOST_STRANDS).contains(&strands)
+            || self.glues.len() != 3 * strands
+            || self.dg.len() != CELLS
+            || self.ds.len() != CELLS
+            || self.scaffold.iter().any(high)
+            || self.glues.iter().any(high)
+    }
+
+    fn numbers_out_of_range(&self) -> bool {
+        let cells = self.dg.iter().any(|x| out_of_range(*x, -1024.0, 1024.0))
+            || self.ds.iter().any(|x| out_of_range(*x, -8.0, 8.0));
+        let ambient = out_of_range(self.rt, 0.125, 8.0)
+            || out_of_range(self.strand_excess, -1024.0, 1024.0)
+            || out_of_range(self.scaffold_excess, -1024.0, 1024.0);
+        cells || ambient || self.potentials_out_of_range()
+    }
+
+    /// "Only potentials of strands that are somewhere friends are read or checked", strand 0 among
+    /// them where a cell makes it one.
+    fn potentials_out_of_range(&self) -> bool {
+        let unfit = |strand: usize| out_of_range(self.potentials[strand], -1024.0, 1024.0);
+        (0..self.strands()).any(|strand| unfit(strand) && self.is_somewhere_friend(strand))
+    }
+
+    fn null_binds(&self) -> bool {
+        let glued = self.glues[..3].iter().any(|glue| *glue != 0);
+        glued || (0..GLUES).any(|glue| self.binds(0, glue) || self.binds(glue, 0))
+    }
+}
+
+/// Answers of a design that is not refused.
+impl Lent {
+    pub fn positions(&self) -> usize {
+        self.scaffold.len()
+    }
+
+    /// Strand 0 included.
+    pub fn strands(&self) -> usize {
+        self.potentials.len()
+    }
+
+    fn side(&self, strand: usize, side: usize) -> usize {
+        usize::from(self.glues[3 * strand + side])
+    }
+
+    /// "dG or dS at that cell is nonzero"; a zero of either sign is zero.
+    fn binds(&self, row: usize, column: usize) -> bool {
+        let cell = row * GLUES + column;
+        self.dg[cell] != 0.0 || self.ds[cell] != 0.0
+    }
+
+    fn is_friend(&self, position: usize, strand: usize) -> bool {
+        self.binds(usize::from(self.scaffold[position]), self.side(strand, 1))
+    }
+
+    pub fn is_somewhere_friend(&self, strand: usize) -> bool {
+        (0..self.positions()).any(|position| self.is_friend(position, strand))
+    }
+
+    fn bond(&self, row: usize, column: usize, excess: f64) -> f64 {
+        let cell = row * GLUES + column;
+        (self.dg[cell] - excess * self.ds[cell]) / self.rt
+    }
+
+    pub fn strand_bond(&self, x: usize, y: usize) -> f64 {
+        self.bond(self.side(x, 2), self.side(y, 0), self.strand_excess)
+    }
+
+    pub fn scaffold_bond(&self, position: usize, strand: usize) -> f64 {
+        let glue = usize::from(self.scaffold[position]);
+        self.bond(glue, self.side(strand, 1), self.scaffold_excess)
+    }
+
+    pub fn friends(&self, position: usize) -> Vec<u8> {
+        let strands = (0..self.strands()).filter(|strand| self.is_friend(position, *strand));
+        strands.map(|strand| strand as u8).collect()
+    }
+
+    /// A product of 128 numbers of at most 65 can leave any machine number, and then it is far
+    /// beyond the limit.
+    pub fn count(&self) -> u128 {
+        let options = (0..self.positions()).map(|position| self.friends(position).len() + 1);
+        options.fold(1, |count, options| count.saturating_mul(options as u128))
+    }
+
+    /// "Friends in order, then 0, last position fastest."
+    pub fn state(&self, rank: u64) -> Vec<u8> {
+        let mut state = vec![0; self.positions()];
+        let mut rest = rank as usize;
+        for position in (0..self.positions()).rev() {
+            let mut options = self.friends(position);
+            options.push(0);
+            state[position] = options[rest % options.len()];
+            rest /= options.len();
+        }
+        state
+    }
+
+    pub fn state_energy(&self, configuration: &[u8]) -> f64 {
+        let mut sum = 0.0;
+        for (position, strand) in occupied(configuration) {
+            sum += self.scaffold_bond(position, strand);
+            if let Some(right) = configuration.get(position + 1) {
+                sum += self.strand_bond(strand, usize::from(*right));
+            }
+            sum -= self.potentials[strand];
+        }
+        sum * self.rt
+    }
+
+    /// The bare sum.
+    pub fn chain_energy(&self, configuration: &[u8]) -> f64 {
+        let mut sum = 0.0;
+        for (position, strand) in occupied(configuration) {
+            if position > 0 {
+                sum += self.strand_bond(usize::from(configuration[position - 1]), strand);
+            }
+            sum += self.scaffold_bond(position, strand);
+            sum -= self.potentials[strand];
+        }
+        sum
+    }
+}
+
+/// The places that are not empty, with their occupants.
+fn occupied(configuration: &[u8]) -> impl Iterator<Item = (usize, usize)> + '_ {
+    let places = configuration.iter().map(|strand| usize::from(*strand));
+    places.enumerate().filter(|(_, strand)| *strand != 0)
+}
+
+#[cfg(test)]
+mod tests {
+    use super::*;
+
+    /// Positions with these scaffold glues; strand k has the bottom glue k, dG[k][k] is given and
+    /// every potential is −1; RT 0.5.
+    fn bench(scaffold: &[u8], dg: &[f64]) -> Lent {
+        let mut lent = Lent {
+            scaffold: scaffold.to_vec(),
+            glues: vec![0; 3],
+            dg: vec![0.0; CELLS],
+            ds: vec![0.0; CELLS],
+            potentials: vec![f64::NAN],
+            rt: 0.5,
+            ..Lent::default()
+        };
+        for (index, energy) in dg.iter().enumerate() {
+            let strand = index + 1;
+            lent.glues.extend([0, strand as u8, 0]);
+            lent.dg[strand * GLUES + strand] = *energy;
+            lent.potentials.push(-1.0);
+        }
+        lent
+    }
+
+    #[test]
+    fn the_bench_lines_hold() {
+        let lent = bench(&[1], &[-2.0]);
+        assert_eq!(lent.energy_verdict(&[1]), Verdict::Admitted);
+        assert_eq!(lent.state_energy(&[1]), -1.5);
+        assert_eq!(bench(&[1], &[-0.5]).chain_energy(&[1]), 0.0);
+        let two = bench(&[1, 2], &[-0.5, -2.0]);
+        assert_eq!(two.chain_energy(&[0, 2]) * two.rt, -1.5);
+        assert_eq!(two.state(0), [1, 2]);
+        assert_eq!(two.state(2), [0, 2]);
+        assert_eq!(two.state(3), [0, 0]);
+        assert_eq!(two.state_verdict(3, 2), Verdict::Admitted);
+        assert_eq!(two.state_verdict(4, 2).number(), 13);
+        assert_eq!(bench(&[1; 20], &[-2.0]).count(), MOST_STATES);
+        assert_eq!(bench(&[1; 20], &[-2.0]).count_verdict().number(), 0);
+        assert_eq!(bench(&[1; 21], &[-2.0]).count_verdict().number(), 12);
+        let empty = bench(&[], &[-2.0]);
+        assert_eq!((empty.count(), empty.state(0)), (1, vec![]));
+        assert_eq!(empty.state_verdict(1, 0).number(), 13);
+    }
+
+    #[test]
+    fn the_lowest_number_is_given() {
+        let mut lent = bench(&[1; 21], &[-2.0, -2.0]);
+        assert_eq!(lent.state_verdict(u64::MAX, 21).number(), 12);
+        assert_eq!(lent.energy_verdict(&[2; 21]).number(), 11);
+        assert_eq!(lent.energy_verdict(&[3; 21]).number(), 11);
+        assert_eq!(lent.energy_verdict(&[1; 20]).number(), 1);
+        lent.glues[2] = 1;
+        assert_eq!(lent.energy_verdict(&[2; 21]).number(), 10);
+        lent.potentials[2] = f64::NAN;
+        assert_eq!(lent.energy_verdict(&[2; 21]).number(), 10);
+        lent.potentials[1] = f64::NAN;
+        assert_eq!(lent.energy_verdict(&[2; 21]).number(), 9);
+        lent.scaffold[20] = 64;
+        assert_eq!(lent.energy_verdict(&[2; 21]).number(), 1);
+    }
+
+    /// Strand 0 is asked like any other: its potential is looked at where it is a friend.
+    #[test]
+    fn strand_0_can_be_a_friend_before_it_is_refused() {
+        let mut lent = bench(&[1], &[-2.0]);
+        assert_eq!(lent.count_verdict(), Verdict::Admitted);
+        lent.glues[1] = 1;
+        assert_eq!(lent.count_verdict().number(), 9);
+        lent.potentials[0] = 0.0;
+        assert_eq!(lent.count_verdict().number(), 10);
+        let mut lent = bench(&[1], &[-2.0]);
+        lent.dg[GLUES] = -0.0;
+        assert_eq!(lent.count_verdict(), Verdict::Admitted);
+        lent.ds[GLUES] = 5e-324;
+        assert_eq!(lent.count_verdict().number(), 9);
+    }
+}

@@ -1,0 +1,251 @@
+//! Questions about designs that both programs are given: friends, both bond tables, states and
+//! their count, state energies, chain energies. A design is sent once, with `d.build`; what is
+//! asked after it is about that design.
+
+use super::{Ask, AskOracle, Kind};
+use crate::designs::{ambient_line, design, lines_of_both, Ambient, Shape, Sort, SORTS};
+use crate::judge::design::{Lent, MOST_STATES};
+use crate::judge::Verdict;
+use crate::question::{Expected, Question};
+use crate::random::Random;
+use protocol::{bits, double, joined};
+use std::cell::RefCell;
+use std::rc::Rc;
+
+/// The ambients are the oracle's own, by temperature.
+#[derive(Default)]
+pub struct Designs {
+    ambients: RefCell<Vec<(f64, Ambient)>>,
+}
+
+/// Designs of each size in one round.
+const SMALL: usize = 1000;
+const MIDDLING: usize = 40;
+const FULL: usize = 15;
+
+/// A listing up to this long is asked for whole, with the state energy of each state.
+const WHOLE_LISTING: u128 = 64;
+
+/// The Rust lists all states for each question about states, so it is asked only up to here;
+/// beyond, the judge's figures are held against the port's.
+const LISTED_BY_THE_RUST: u128 = 4096;
+
+/// Between these document 01 admits the Rust's RT and both its excesses.
+const COLDEST: f64 = 63.0;
+const HOTTEST: f64 = 1334.0;
+
+/// RTs that are powers of two make sums that are exact; some kelvins have exactly these, the least
+/// that is admitted among them.
+const ROUND_RTS: [f64; 5] = [0.125, 0.25, 0.5, 1.0, 2.0];
+
+impl Kind for Designs {
+    fn name(&self) -> &'static str {
+        "design"
+    }
+
+    fn replies(&self) -> &'static [u32] {
+        &[0, 12]
+    }
+
+    fn prepare(&self, oracle: &mut AskOracle) -> Result<(), String> {
+        let mut kelvins = vec![
+            COLDEST, 255.3, 256.0, 273.15, 298.15, 310.15, 323.15, 353.15,
+        ];
+        kelvins.extend((0..100).map(|step| COLDEST + (HOTTEST - COLDEST) * f64::from(step) / 99.0));
+        for rt in ROUND_RTS {
+            let found = oracle(&format!("findT {rt}"))?;
+            kelvins.extend(
+                found
+                    .split(' ')
+                    .skip(1)
+                    .filter_map(|word| double(word).ok()),
+            );
+        }
+        let mut ambients = self.ambients.borrow_mut();
+        for kelvin in kelvins {
+            let lines = format!("d.new 1 1\nd.temp K {}\nd.build", bits(kelvin));
+            oracle(&lines)?;
+            ambients.push((kelvin, read_ambient(&oracle("here")?)?));
+        }
+        let has = |rt| ambients.iter().any(|(_, ambient)| ambient.rt == rt);
+        match ROUND_RTS.into_iter().all(has) {
+            true => Ok(()),
+            false => Err("no temperature has a round RT".to_string()),
+        }
+    }
+
+    /// One design of each number of positions, and of strands.
+    fn fixed(&self, ask: &mut Ask) {
+        let random = &mut Random::new(1);
+        let mut put = |positions, strands, glues, cells| {
+            let shape = Shape {
+                positions,
+                strands,
+                glues,
+                cells,
+            };
+            let sort = random.pick(&SORTS);
+            self.about(random, sort, &shape, ask);
+        };
+        for positions in 0..=128 {
+            put(positions, 4, 4, 2);
+        }
+        for strands in 1..=64 {
+            put(2, strands, 12, 20);
+        }
+    }
+
+    fn random(&self, random: &mut Random, ask: &mut Ask) {
+        for number in 0..SMALL + MIDDLING + FULL {
+            let shape = match number {
+                ..SMALL => Shape::small(random),
+                number if number < SMALL + MIDDLING => Shape::middling(random),
+                _ => Shape::full(random),
+            };
+            let sort = random.pick(&SORTS);
+            self.about(random, sort, &shape, ask);
+        }
+    }
+}
+
+impl Designs {
+    /// Dyadic designs tie at round RTs alone.
+    fn ambient(&self, random: &mut Random, sort: Sort) -> (f64, Ambient) {
+        let mut ambients = self.ambients.borrow().clone();
+        if sort == Sort::Dyadic {
+            ambients.retain(|(_, ambient)| ROUND_RTS.contains(&ambient.rt));
+        }
+        random.pick(&ambients)
+    }
+
+    fn about(&self, random: &mut Random, sort: Sort, shape: &Shape, ask: &mut Ask) {
+        let (kelvin, ambient) = self.ambient(random, sort);
+        let lent = design(random, sort, shape, ambient);
+        let lines = lines_of_both(&lent, shape.glues);
+        let sent: Rc<str> = format!("{lines}{}", ambient_line(&lent)).into();
+        ask(Question {
+            port: format!("{sent}d.build"),
+            oracle: Some(format!("{lines}d.temp K {}\nd.build", bits(kelvin))),
+            expected: Expected::Judged(Verdict::Admitted),
+            about: None,
+        });
+        let asked = Asked { lent, sent };
+        asked.bonds(random, ask);
+        asked.states(random, ask);
+        asked.energies(random, ask);
+    }
+}
+
+/// A design that both programs hold.
+struct Asked {
+    lent: Lent,
+    sent: Rc<str>,
+}
+
+impl Asked {
+    fn both(&self, line: String, verdict: Verdict) -> Question {
+        let mut question = Question::of_both(line, verdict);
+        question.about = Some(self.sent.clone());
+        question
+    }
+
+    /// To the port alone, with the judge's figures where it admits.
+    fn port(&self, line: String, verdict: Verdict, figures: impl FnOnce() -> String) -> Question {
+        let mut question = Question::of_port(line, verdict, figures);
+        question.about = Some(self.sent.clone());
+        question
+    }
+
+    /// Whole tables of small designs and now and then of large ones; of the rest some bonds.
+    fn bonds(&self, random: &mut Random, ask: &mut Ask) {
+        let (positions, strands) = (self.lent.positions(), self.lent.strands());
+        ask(self.both("friends".to_string(), Verdict::Admitted));
+        if strands * (strands + positions) <= 80 || random.once_in(20) {
+            ask(self.both("sbonds".to_string(), Verdict::Admitted));
+            ask(self.both("cbonds".to_string(), Verdict::Admitted));
+            return;
+        }
+        for _ in 0..16 {
+            let (x, y) = (random.below(strands), random.below(strands));
+            ask(self.both(format!("sbond {x} {y}"), Verdict::Admitted));
+            if positions > 0 {
+                let position = random.below(positions);
+                ask(self.both(format!("cbond {position} {x}"), Verdict::Admitted));
+            }
+        }
+    }
+
+    fn states(&self, random: &mut Random, ask: &mut Ask) {
+        let count = self.lent.count();
+        if count <= WHOLE_LISTING {
+            ask(self.both("states".to_string(), Verdict::Admitted));
+            ask(self.both("gsysall".to_string(), Verdict::Admitted));
+        }
+        let verdict = self.lent.count_verdict();
+        if count <= LISTED_BY_THE_RUST {
+            ask(self.both("nstates".to_string(), verdict));
+        } else {
+            ask(self.port("nstates".to_string(), verdict, || count.to_string()));
+        }
+        if count > MOST_STATES {
+            ask(self.port("state 0".to_string(), verdict, String::new));
+            return;
+        }
+        let rank = random.below(count as usize) as u64;
+        let last = count as u64 - 1;
+        for rank in [rank, last] {
+            let line = format!("state {rank}");
+            ask(match count <= LISTED_BY_THE_RUST {
+                true => self.both(line, Verdict::Admitted),
+                false => self.port(line, Verdict::Admitted, || {
+                    joined(self.lent.state(rank), ",")
+                }),
+            });
+        }
+    }
+
+    fn energies(&self, random: &mut Random, ask: &mut Ask) {
+        let times = if self.lent.positions() > 8 { 6 } else { 2 };
+        for _ in 0..times {
+            let state = self.any_state(random);
+            let word = joined(&state, ",");
+            ask(self.both(format!("gsys {word}"), Verdict::Admitted));
+            ask(self.both(format!("chain {word}"), Verdict::Admitted));
+            ask(
+                self.port(format!("raw.chain {word}"), Verdict::Admitted, || {
+                    let sum = self.lent.chain_energy(&state);
+                    format!("{} {}", bits(sum), bits(sum * self.lent.rt))
+                }),
+            );
+        }
+    }
+
+    /// Mostly occupied, so that sums are long.
+    fn any_state(&self, random: &mut Random) -> Vec<u8> {
+        let one = |position| {
+            let mut options = self.lent.friends(position);
+            if options.is_empty() || random.once_in(4) {
+                options.push(0);
+            }
+            random.pick(&options)
+        };
+        (0..self.lent.positions()).map(one).collect()
+    }
+}
+
+/// T, RT under a bond, rtval, strand excess, scaffold excess. "Equality is claimed where its RT
+/// under a bond and its `rtval` have the same bits."
+fn read_ambient(answer: &str) -> Result<Ambient, String> {
+    let words: Vec<&str> = answer.split(' ').collect();
+    let [_, _, rt, rtval, strand, scaffold] = words[..] else {
+        return Err(format!("no ambient: {answer}"));
+    };
+    if rt != rtval {
+        return Err(format!("two RTs: {answer}"));
+    }
+    Ok(Ambient {
+        rt: double(rt)?,
+        strand_excess: double(strand)?,
+        scaffold_excess: double(scaffold)?,
+    })
+}
