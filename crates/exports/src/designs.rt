@@ -12,7 +12,7 @@ use units::Ambient;
 use units::KcalPerMol;
 use units::Kelvin;
 
-fn ambient(rt: f64, strand_excess: f64, scaffold_excess: f64) -> Ambient
+pub(crate) fn ambient(rt: f64, strand_excess: f64, scaffold_excess: f64) -> Ambient
     ensures { λ r. ⌜ r ≡ ambientOf rt «strand_excess» «scaffold_excess» ⌝ }
 {
     Ambient {

@@ -3,6 +3,7 @@
 mod answers;
 mod designs;
 mod figures;
+mod search;
 mod stored;
 
 ghost use mathlib.Core.Path.{_≡_};

@@ -1,4 +1,4 @@
-//! Designs: bonds, friends, states and both energies.
+//! Designs: bonds, friends, states, both energies and the search.
 
 /// A design as a call takes it: slices of any length and content, and the ambient.
 #[derive(Debug, Clone, Copy)]
@@ -78,6 +78,8 @@ functions_of_a_design! {
     mj_chain_energy_reply(configuration: *const u8, n: usize) -> u32;
     mj_chain_energy(configuration: *const u8, n: usize) -> u64;
     mj_chain_sum(configuration: *const u8, n: usize) -> u64;
+    mj_search_reply(configuration: *mut u8, lent: usize) -> u32;
+    mj_search_energy(configuration: *mut u8, lent: usize) -> u64;
 }
 
 // SAFETY, for every call in this file: pointers and lengths are those of live slices; what is
@@ -139,4 +141,12 @@ pub fn chain_energy(design: Design, configuration: &[u8]) -> u64 {
 /// As it is.
 pub fn chain_sum(design: Design, configuration: &[u8]) -> u64 {
     unsafe { mj_chain_sum(design, configuration.as_ptr(), configuration.len()) }
+}
+
+pub fn search_reply(design: Design, configuration: &mut [u8]) -> u32 {
+    unsafe { mj_search_reply(design, configuration.as_mut_ptr(), configuration.len()) }
+}
+
+pub fn search_energy(design: Design, configuration: &mut [u8]) -> u64 {
+    unsafe { mj_search_energy(design, configuration.as_mut_ptr(), configuration.len()) }
 }

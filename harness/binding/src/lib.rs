@@ -15,8 +15,8 @@ pub use deck::{
 };
 pub use design::{
     chain_energy, chain_energy_reply, chain_sum, friends_count, friends_reply, scaffold_bond,
-    scaffold_bond_reply, state_energy, state_energy_reply, state_reply, states_count, states_reply,
-    strand_bond, strand_bond_reply, Design,
+    scaffold_bond_reply, search_energy, search_reply, state_energy, state_energy_reply,
+    state_reply, states_count, states_reply, strand_bond, strand_bond_reply, Design,
 };
 pub use sequences::{
     loop_dg, loop_reply, pair_dg, pair_ds, pair_reply, pair_strength, pair_strength_reply,

@@ -139,7 +139,7 @@ impl Lent {
     fn question(&self, words: Words) -> Result<Reply, Complaint> {
         let counts: &[usize] = match words[0] {
             "sbond" | "cbond" | "raw.friends" | "raw.state" => &[2],
-            "gsys" | "chain" | "raw.chain" | "state" => &[1],
+            "gsys" | "chain" | "raw.chain" | "raw.mfe" | "state" => &[1],
             _ => &[0],
         };
         expect_words(words, counts)?;
@@ -159,6 +159,9 @@ impl Lent {
             "gsys" => Ok(self.state_energy(&configuration(words[1])?)),
             "chain" => Ok(self.chain(&configuration(words[1])?, false)),
             "raw.chain" => Ok(self.chain(&configuration(words[1])?, true)),
+            "mfe" => Ok(self.search(positions)),
+            "raw.mfe" => Ok(self.search(whole(words[1])?)),
+            "mfe.level" => Ok(self.level()),
             other => Err(format!("no such line {other}")),
         }
     }
@@ -228,6 +231,32 @@ impl Lent {
         ];
         match reply(number, &figures) {
             Reply::Ok(_) if !full => reply(0, &figures[..1]),
+            other => other,
+        }
+    }
+
+    /// Energy and configuration, as the oracle gives them.
+    fn search(&self, lent: usize) -> Reply {
+        let mut after = [vec![ENTRY; lent], vec![ENTRY; lent]];
+        let number = mj::search_reply(self.design(), &mut after[0]);
+        let energy = mj::search_energy(self.design(), &mut after[1]);
+        if after[0] != after[1] {
+            return Reply::Err("the functions of one call leave different slices".to_string());
+        }
+        let [entries, _] = after;
+        match number {
+            0 => Reply::Ok(format!("{energy:016x} {}", joined(entries, ","))),
+            number => refused_kept(number, energy, &entries),
+        }
+    }
+
+    /// The search's energy with 0.0 for either zero, since the walk's is compared as a double.
+    fn level(&self) -> Reply {
+        match self.search(self.scaffold.len()) {
+            Reply::Ok(figures) => {
+                let energy = u64::from_str_radix(&figures[..16], 16).expect("16 digits");
+                reply(0, &[(f64::from_bits(energy) + 0.0).to_bits()])
+            }
             other => other,
         }
     }

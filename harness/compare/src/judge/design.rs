@@ -65,6 +65,11 @@ impl Lent {
         })
     }
 
+    /// Of the search: never 12.
+    pub fn search_verdict(&self, lent: usize) -> Verdict {
+        self.verdict(lent != self.positions(), Vec::new)
+    }
+
     /// Of the state energy and of the chain energy.
     pub fn energy_verdict(&self, configuration: &[u8]) -> Verdict {
         self.verdict(configuration.len() != self.positions(), || {
@@ -200,6 +205,17 @@ impl Lent {
             sum -= self.potentials[strand];
         }
         sum
+    }
+
+    /// "It starts at the state of rank 0, with RT times its chain energy as the least"; a product
+    /// that is smaller becomes the least.
+    pub fn walk(&self) -> f64 {
+        let product = |rank| self.chain_energy(&self.state(rank)) * self.rt;
+        let rest = (1..self.count() as u64).map(product);
+        rest.fold(
+            product(0),
+            |least, next| if next < least { next } else { least },
+        )
     }
 }
 

@@ -1,5 +1,5 @@
 //! Questions about designs that both programs are given: friends, both bond tables, states and
-//! their count, state energies, chain energies. A design is sent once, with `d.build`; what is
+//! their count, state energies, chain energies, and the search. A design is sent once, with `d.build`; what is
 //! asked after it is about that design.
 
 use super::{Ask, AskOracle, Kind};
@@ -29,6 +29,9 @@ const WHOLE_LISTING: u128 = 64;
 /// The Rust lists all states for each question about states, so it is asked only up to here;
 /// beyond, the judge's figures are held against the port's.
 const LISTED_BY_THE_RUST: u128 = 4096;
+
+/// A listing up to this long is walked through beside the search.
+pub const WALKED: u128 = 2000;
 
 /// Between these document 01 admits the Rust's RT and both its excesses.
 const COLDEST: f64 = 63.0;
@@ -133,6 +136,7 @@ impl Designs {
         asked.bonds(random, ask);
         asked.states(random, ask);
         asked.energies(random, ask);
+        asked.search(ask);
     }
 }
 
@@ -217,6 +221,15 @@ impl Asked {
                     format!("{} {}", bits(sum), bits(sum * self.lent.rt))
                 }),
             );
+        }
+    }
+
+    /// Beside a short listing, the walk through it: its least, compared as a double.
+    fn search(&self, ask: &mut Ask) {
+        ask(self.both("mfe".to_string(), Verdict::Admitted));
+        if self.lent.count() <= WALKED {
+            let level = "mfe.level".to_string();
+            ask(self.port(level, Verdict::Admitted, || bits(self.lent.walk() + 0.0)));
         }
     }
 

@@ -2,6 +2,7 @@
 //! well-formed design cannot reach, and for ambients that no temperature gives. The port alone is
 //! asked; the judge has refusals and figures.
 
+use super::design::WALKED;
 use super::{Ask, Kind};
 use crate::designs::{design, raw_lines, Ambient, Shape, SORTS};
 use crate::doubles::{around, not_finite, of_any_size};
@@ -102,7 +103,8 @@ fn ask_every_call(lent: &Lent, arguments: &Arguments, ask: &mut Ask) {
     let questions = bonds(lent, arguments)
         .into_iter()
         .chain(friends_and_states(lent, arguments))
-        .chain(energies(lent, arguments));
+        .chain(energies(lent, arguments))
+        .chain(search(lent, arguments));
     for (index, mut question) in questions.enumerate() {
         match index {
             0 => question.port = format!("{lines}{}", question.port),
@@ -162,6 +164,23 @@ fn energies(lent: &Lent, arguments: &Arguments) -> [Question; 2] {
             format!("{} {}", bits(sum), bits(sum * lent.rt))
         }),
     ]
+}
+
+/// Its refusals; where it is admitted, its energy beside the walk through a listing that is short.
+fn search(lent: &Lent, arguments: &Arguments) -> Option<Question> {
+    let entries = arguments.state.1;
+    match lent.search_verdict(entries) {
+        Verdict::Admitted if lent.count() > WALKED => None,
+        Verdict::Admitted => {
+            let least = || bits(lent.walk() + 0.0);
+            let level = "mfe.level".to_string();
+            Some(Question::of_port(level, Verdict::Admitted, least))
+        }
+        refused => {
+            let line = format!("raw.mfe {entries}");
+            Some(Question::of_port(line, refused, String::new))
+        }
+    }
 }
 
 /// Three positions and four strands: 1 and 2 are friends, 3 is nowhere one and has no potential.
