@@ -5,3 +5,4 @@ pub mod Over
 pub mod Build
 pub mod Order
 pub mod Each
+pub mod Grid

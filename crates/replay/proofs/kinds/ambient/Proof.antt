@@ -1,5 +1,4 @@
 -- `replay::kinds::ambient` meets its contract: the call has the definition's figures, and the rest of the line says them. Assumes nothing.
-use mathlib.Core.Path.{_≡_, ap, _∙_}
 use borrow.Author.Needs.{needs}
 use Rattle.replay.proofs.Words.{as-hex}
 use Rattle.replay.proofs.Tests.{never}

@@ -1,5 +1,4 @@
 -- `replay::kinds::letters` meets its contract. Assumes nothing.
-use mathlib.Core.Path.{_≡_}
 use borrow.Author.Tests.{eq-eqb, ne-eqb}
 use borrow.Author.Needs.{needs}
 use Rattle.replay.specs.Kinds.{letters}

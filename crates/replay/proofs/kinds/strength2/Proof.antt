@@ -1,5 +1,5 @@
 -- `replay::kinds::strength2` meets its contract: the call has the definition's figures, and the rest of the line says them. Assumes nothing.
-use mathlib.Core.Path.{_≡_, ap, _∙_}
+use mathlib.Core.Path.{ap, _∙_}
 use borrow.Author.Needs.{needs}
 use Rattle.replay.specs.Kinds.{word, later, letters}
 use Rattle.replay.proofs.Words.{as-hex}

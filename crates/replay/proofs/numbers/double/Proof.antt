@@ -1,8 +1,6 @@
 -- `replay::numbers::double` meets its contract: the patterns above that of infinity, the sign aside, are those of a NaN. Assumes nothing.
-use mathlib.Core.Path.{_≡_, refl, sym, subst, _∙_}
-use mathlib.Core.Bool.{Bool, true, false, not}
-use Prim.Native.Nat.{ℕ, _%_}
-use lib.Dec.{T, ltb}
+use mathlib.Core.Path.{_≡_, refl, sym, _∙_}
+use mathlib.Core.Bool.{true, false}
 use lib.Ieee.{Float, nan, inf, fin, binary64, isNan, nanBits, ofBits, div}
 use lib.Ieee.Bits.{nanBits-is, nanBits-above}
 use borrow.Author.Needs.{needs}

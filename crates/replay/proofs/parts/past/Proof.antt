@@ -1,15 +1,12 @@
 -- `replay::parts::past` meets its contract: with no mark, nothing is left on either side. Assumes nothing.
-use mathlib.Core.Path.{_≡_}
+use mathlib.Core.Path.{_≡_, sym, _∙_}
 use native.Mathlib.Omega.{arith}
-use lib.ListN.{length, drop, drop-of-length-le}
-use Prim.Native.Nat.{_+_, _≤_}
+use lib.ListN.{length, drop, drop-of-length-le, take, length-drop}
+use Prim.Native.Nat.{_+_, ℕ, _-_}
 use denote.Ref.{now}
 use lib.Dec.{eqb}
 use Rattle.lists.specs.Find.{firstIndex}
-use mathlib.Core.Path.{sym, _∙_}
-use mathlib.Core.List.{List, []}
-use Prim.Native.Nat.{ℕ, _-_}
-use lib.ListN.{take, length-drop}
+use mathlib.Core.List.{List}
 use lib.Seq.{take-all}
 use borrow.Author.Needs.{needs}
 use Rattle.replay.proofs.parts.past.Statement.{statement}

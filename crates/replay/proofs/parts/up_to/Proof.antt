@@ -1,13 +1,12 @@
 -- `replay::parts::up_to` meets its contract. Assumes nothing.
-use mathlib.Core.Path.{_≡_, sym, ap, _∙_}
+use mathlib.Core.Path.{sym}
 use native.Mathlib.Omega.{arith}
 use lib.Dec.{eqb}
-use lib.ListN.{length, take}
+use lib.ListN.{length}
 use lib.Seq.{length-take-le}
-use Prim.Native.Nat.{ℕ, _≤_}
+use Prim.Native.Nat.{_≤_}
 use denote.Ref.{now}
 use borrow.Author.Needs.{needs}
-use Rattle.lists.specs.Find.{firstIndex}
 use Rattle.lists.proofs.Find.{first-le}
 use Rattle.replay.proofs.parts.up_to.Statement.{statement}
 use Rattle.replay.proofs.parts.up_to.Tie as tie

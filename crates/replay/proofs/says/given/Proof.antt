@@ -1,15 +1,12 @@
 -- `replay::says::given` meets its contract: the loop has passed over the figures that are there. Assumes nothing.
-use mathlib.Core.Path.{_≡_}
+use mathlib.Core.Path.{_≡_, sym, _∙_}
 use mathlib.Core.List.{_++_}
 use Prim.Native.Nat.{_≤_, _-_}
 use native.Mathlib.Omega.{arith}
-use lib.ListN.{length, drop}
-use lib.ListN.{take, take-append-drop}
+use lib.ListN.{length, drop, take-append-drop}
 use lib.Seq.{length-take-le}
-use mathlib.Core.Path.{sym, _∙_}
-use mathlib.Core.Bool.{true}
 use denote.Ref.{now}
-use borrow.Author.Tests.{not-true, not-false, eqb-true}
+use borrow.Author.Tests.{not-false, eqb-true}
 use borrow.Author.Needs.{needs}
 use Rattle.replay.proofs.Tests.{never}
 use Rattle.replay.proofs.Figures.{figures-more, figures-done}
