@@ -117,7 +117,7 @@ fn admitted_difference(
 ) -> Option<&'static str> {
     match (oracle, port) {
         (Some(Reply::Ok(oracle)), Reply::Ok(port)) => {
-            if !port.split(' ').all(is_no_odd_double) {
+            if !port.split([' ', ',', ';']).all(is_no_odd_double) {
                 Some("a figure is not finite")
             } else if kind.agree(oracle, port) {
                 None
@@ -172,6 +172,8 @@ mod tests {
         assert!(differs(&question, Some(ok(zeros[0])), ok(zeros[1])));
         let nan = "7ff8000000000000";
         assert!(differs(&question, Some(ok(nan)), ok(nan)));
+        let row = format!("{ONE},{nan};{ONE}");
+        assert!(differs(&question, Some(ok(&row)), ok(&row)));
     }
 
     #[test]
