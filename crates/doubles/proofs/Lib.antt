@@ -5,3 +5,4 @@ pub mod Sums
 pub mod Products
 pub mod NegativeZero
 pub mod Bounds
+pub mod Least

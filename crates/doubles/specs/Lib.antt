@@ -3,3 +3,4 @@ pub mod Range
 pub mod Sum
 pub mod Size
 pub mod Order
+pub mod Least

@@ -3,3 +3,5 @@ pub mod States
 pub mod Energy
 pub mod Listed
 pub mod Bounds
+pub mod Search
+pub mod Lowest
