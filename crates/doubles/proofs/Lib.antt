@@ -6,3 +6,4 @@ pub mod Products
 pub mod NegativeZero
 pub mod Bounds
 pub mod Least
+pub mod Zero

@@ -3,3 +3,7 @@ pub mod Sums
 pub mod Choices
 pub mod Listing
 pub mod Bounds
+pub mod Traced
+pub mod Optimal
+pub mod Walk
+pub mod Search
