@@ -3,3 +3,4 @@ pub mod Fold
 pub mod Build
 pub mod Order
 pub mod Each
+pub mod Grid

@@ -1,0 +1,63 @@
+-- The friends of a position as the program lists them, with 0 behind them. Assumes nothing.
+use mathlib.Core.Path.{_≡_, refl, sym, ap, _∙_, subst}
+use mathlib.Core.Logic.{_⊎_, inl, inr}
+use mathlib.Core.Bool.{Bool, true, false}
+use mathlib.Core.List.{List, [], _∷_, _++_, List·Memᴰ, List·Memᴰ·head, List·Memᴰ·tail}
+use Prim.Native.Nat.{ℕ, zero, suc, _+_, _<_, _≤_}
+use native.Mathlib.Nat.{not-suc-le-zero, le-of-suc-le-suc, add-zero}
+use native.Mathlib.Omega.{arith}
+use lib.ListN.{length, getD, take, drop, replicate, length-replicate, getD-replicate, List·getD-append, length-append}
+use lib.Seq.{drop-cons, getD-take, take-append-add, getD-at}
+use Rattle.lists.specs.Build.{upTo, tabulate, keep}
+use Rattle.lists.proofs.Keep.{kept-below, kept-passes}
+use Rattle.model.specs.Model.{optionsOf}
+use Rattle.sdc1d.specs.Design.{Design, positions, strands, isFriend, friendsOf}
+use Rattle.mfe.specs.declared.friends.Friends.{Friends}
+use Rattle.mfe.specs.Tables.{Searchable}
+use Rattle.mfe.specs.Entries.{Occupied, FriendsHere}
+
+-- written over zeros
+pub options-front : (whole : List ℕ) (n count : ℕ) → count ≡ length whole → count < n → take (count + 1) (whole ++ drop (length whole) (replicate n 0)) ≡ optionsOf whole
+options-front whole n count e h =
+    let inside : length whole < length (replicate {A = ℕ} n 0) = rw (length-replicate {A = ℕ} n 0) (omega arith) in
+    let zero : getD (replicate {A = ℕ} n 0) (length whole) 0 ≡ 0 = getD-replicate n (length whole) 0 0 (omega arith) in
+    ap (λ (k : ℕ). take (k + 1) (whole ++ drop (length whole) (replicate n 0))) e
+    ∙ take-append-add whole (drop (length whole) (replicate n 0)) 1
+    ∙ ap (λ (ys : List ℕ). whole ++ take 1 ys) (drop-cons (replicate n 0) (length whole) 0 inside)
+    ∙ ap (λ (x : ℕ). whole ++ x ∷ []) zero
+
+member : (xs : List ℕ) (k : ℕ) → k < length xs → List·Memᴰ (getD xs k 0) xs
+member [] k h = absurd (not-suc-le-zero h)
+member (x ∷ xs) zero h = List·Memᴰ·head refl
+member (x ∷ xs) (suc k) h = List·Memᴰ·tail (member xs k (le-of-suc-le-suc h))
+
+module _ {d : Design} {i : ℕ} {r : Friends} (w : FriendsHere d i r) where
+  pub option-at : (k : ℕ) → k < r .count + 1 → getD (r .strands) k 0 ≡ getD (optionsOf (friendsOf d i)) k 0
+  option-at k h = sym (getD-take (r .count + 1) (r .strands) k 0 h) ∙ ap (λ (xs : List ℕ). getD xs k 0) (w .options)
+
+  pub friend-at : (k : ℕ) → k < r .count → getD (r .strands) k 0 ≡ getD (friendsOf d i) k 0
+  friend-at k h = option-at k (omega arith) ∙ List·getD-append (friendsOf d i) (0 ∷ []) 0 k (omega (arith, w .number))
+
+  -- behind the friends
+  pub empty-at : getD (r .strands) (r .count) 0 ≡ 0
+  empty-at = option-at (r .count) (omega arith) ∙ getD-at (friendsOf d i) 0 [] 0 (r .count) (sym (w .number))
+
+  pub options-length : length (optionsOf (friendsOf d i)) ≡ r .count + 1
+  options-length = length-append (friendsOf d i) (0 ∷ []) ∙ ap (λ (k : ℕ). k + 1) (sym (w .number))
+
+  module _ (s : Searchable d) (h : i < positions d) where
+    listed : (k : ℕ) → k < r .count → List·Memᴰ (getD (r .strands) k 0) (keep (isFriend d i) (upTo (strands d)))
+    unfolding friendsOf
+    listed k l = subst (λ (x : ℕ). List·Memᴰ x (friendsOf d i)) (sym (friend-at k l)) (member (friendsOf d i) k (omega (arith, w .number)))
+
+    clash : {t : Bool} → t ≡ false → t ≡ true → ⊥
+    clash p q = let z : _≡_ {A = ℕ} 0 1 = cc in omega arith
+
+    -- strand 0 is no friend
+    pub occupied : Occupied (strands d) r
+    occupied = record {
+      few = w .few;
+      known = λ k l. kept-below (isFriend d i) (strands d) (listed k l);
+      some = λ k l e. clash (ap (isFriend d i) e ∙ s .not-null i h) (kept-passes (isFriend d i) (strands d) (listed k l));
+      empty = empty-at;
+    }

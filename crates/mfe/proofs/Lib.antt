@@ -1,0 +1,6 @@
+pub mod Choosing
+pub mod Here
+pub mod Rest
+pub mod Vector
+pub mod Positions
+pub mod Shown

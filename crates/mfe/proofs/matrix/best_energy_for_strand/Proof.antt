@@ -1,0 +1,134 @@
+use mathlib.Core.Path.{_≡_, refl, sym, ap, _∙_, subst}
+use mathlib.Core.Logic.{_⊎_, inl, inr}
+use mathlib.Core.List.{List, [], _∷_}
+use Prim.Native.Nat.{ℕ, _≤_, _<_, _+_, _-_, _*_}
+use native.Mathlib.Omega.{arith}
+use lib.ListN.{length, getD, take, drop}
+use lib.Ieee.{Float, nan, binary64, add, mul, lt, ofBits}
+use borrow.Author.Needs.{needs}
+use Rattle.doubles.specs.Least.{orLater, orEarlier}
+use Rattle.mfe.specs.Entries.{Chosen, Row}
+use Rattle.mfe.proofs.Choosing.{Kept, kept-first, kept-more, kept-chosen, none-chosen, later-stays, later-moves, earlier-moves, earlier-stays}
+use Rattle.mfe.proofs.matrix.best_energy_for_strand.Statement.{statement}
+use Rattle.mfe.proofs.matrix.best_energy_for_strand.Tie as tie
+use Rattle.mfe.proofs.matrix.best_energy_for_strand.Reads as reads
+use Rattle.mfe.proofs.matrix.best_energy_for_strand.Lts as lts
+use Rattle.mfe.proofs.matrix.strand_bond_at.Reads as strand-bond-at-reads
+
+abbrev Inv-loop : tie.InvT-loop
+Inv-loop left energies count strand-bonds strands right strand₀ energy₀ k₀ strand energy k =
+    (1 ≤ k)
+    × (k ≤ count)
+    × Row strands count left
+    × (count ≤ length energies)
+    × (strand < strands)
+    × ((key : ℕ → Float) → ((j : ℕ) → j < count → add binary64 (getD energies j nan) (getD strand-bonds (getD left j 0 * strands + right) nan) ≡ key (getD left j 0)) → Kept (orLater key) key left count k strand energy)
+
+abbrev μ-loop : tie.MeasureT-loop
+μ-loop left energies count strand-bonds strands right strand₀ energy₀ k₀ strand energy k = count - k
+
+-- src/matrix.rt:60:9
+returns : tie.Need-returns Inv-loop μ-loop
+unfolding ofBits
+returns c = (λ key keys. none-chosen (orLater key) key _ _ (c .if1 .taken), omega arith)
+
+-- src/matrix.rt:62:22
+shared-slice-read-strand : tie.Need-shared-slice-read-strand Inv-loop μ-loop
+shared-slice-read-strand c = search needs
+
+-- src/matrix.rt:63:22
+shared-slice-read-energy : tie.Need-shared-slice-read-energy Inv-loop μ-loop
+shared-slice-read-energy c = search needs
+
+-- src/matrix.rt:63:36
+strand-bond-at-requires : tie.Need-strand-bond-at-requires Inv-loop μ-loop
+strand-bond-at-requires c κs =
+    let s = c .before .before .before .before .before .before in
+    (s .pre .0 .known 0 (omega arith), (s .pre .1 .1 .0, (s .pre .1 .1 .1 .0, s .pre .1 .1 .1 .1)))
+
+-- src/matrix.rt:65:5
+loop-holds : tie.Need-loop-holds Inv-loop μ-loop
+loop-holds c =
+    let a = c .before .before .before .before .before .before .before .args in
+    (
+      omega arith,
+      omega arith,
+      c .before .before .before .before .before .before .before .pre .0,
+      omega arith,
+      c .before .before .before .before .before .before .before .pre .0 .known 0 (omega arith),
+      λ key keys. kept-first (orLater key) key (a .left .now) (a .count) (omega arith) (c .before .before .before .before .before .before .before .pre .0 .few) (ap (add binary64 (getD (a .energies .now) 0 nan)) (c .strand-bond-at .ensures) ∙ keys 0 (omega arith)),
+    )
+
+-- src/matrix.rt:66:20
+shared-slice-read-next : tie.Need-shared-slice-read-next Inv-loop μ-loop
+shared-slice-read-next c = search needs
+
+-- src/matrix.rt:67:23
+mul-nenergy : tie.Need-mul-nenergy Inv-loop μ-loop
+mul-nenergy c = search needs
+
+-- src/matrix.rt:67:23
+shared-slice-read-nenergy : tie.Need-shared-slice-read-nenergy Inv-loop μ-loop
+shared-slice-read-nenergy c = search needs
+
+-- src/matrix.rt:67:37
+strand-bond-at-requires-2 : tie.Need-strand-bond-at-requires-2 Inv-loop μ-loop
+strand-bond-at-requires-2 c κs =
+    let s = c .before .before .before .before .before .before .before .before .before .before .before in
+    (s .pre .0 .known (c .before .before .before .loop .k) (omega arith), (s .pre .1 .1 .0, (s .pre .1 .1 .1 .0, s .pre .1 .1 .1 .1)))
+
+-- src/matrix.rt:73:9
+add-k : tie.Need-add-k Inv-loop μ-loop
+add-k c = search needs
+
+-- src/matrix.rt:65:5
+loop-less : tie.Need-loop-less Inv-loop μ-loop
+loop-less c = search needs
+
+-- src/matrix.rt:65:5
+loop-again : tie.Need-loop-again Inv-loop μ-loop
+loop-again c =
+    let l = c .before .before .before .before .before in
+    let a = c .before .before .before .before .before .before .before .before .before .before .before .before .before .args in
+    let inv = l .loop .inv in
+    let row = inv .2 in
+    (
+      omega arith,
+      omega arith,
+      inv .2,
+      inv .3,
+      elim (c .if2 .came) [ inl u ↦ rw (u .1) (inv .4) | inr u ↦ rw (u .1) (row .known (l .loop .k) (omega arith)) ],
+      λ key keys.
+        let w = inv .5 key keys in
+        let new = ap (add binary64 (getD (a .energies .now) (l .loop .k) nan)) (c .before .strand-bond-at2 .ensures) ∙ keys (l .loop .k) (omega arith) in
+        elim (c .if2 .came) [
+          | inl u ↦ kept-more w (omega arith) (inv .2 .few) (u .1 ∙ later-stays key (w .energy-is) new (u .0 .taken)) (u .2 ∙ w .energy-is ∙ ap key (sym (u .1)))
+          | inr u ↦ kept-more w (omega arith) (inv .2 .few) (u .1 ∙ later-moves key (w .energy-is) new (u .0 .left)) (u .2 ∙ new ∙ ap key (sym (u .1)))
+        ],
+    )
+
+-- src/matrix.rt:44:1
+returns-2 : tie.Need-returns-2 Inv-loop μ-loop
+returns-2 c =
+    let inv = c .before .loop .inv in
+    (λ key keys. kept-chosen (inv .5 key keys) (omega arith) (omega arith) (inv .2 .few), inv .4)
+
+pub best-energy-for-strand-spec : {M : Type 1} → statement M
+best-energy-for-strand-spec =
+    tie.close
+    (tie.spec
+    Inv-loop
+    μ-loop
+    returns
+    shared-slice-read-strand
+    shared-slice-read-energy
+    strand-bond-at-requires
+    loop-holds
+    shared-slice-read-next
+    mul-nenergy
+    shared-slice-read-nenergy
+    strand-bond-at-requires-2
+    add-k
+    loop-less
+    loop-again
+    returns-2)

@@ -1,0 +1,119 @@
+use mathlib.Core.Path.{_≡_, refl, sym, ap, _∙_, subst}
+use mathlib.Core.Logic.{_⊎_, inl, inr}
+use mathlib.Core.List.{List, [], _∷_}
+use Prim.Native.Nat.{ℕ, _≤_, _<_, _+_, _-_, _*_}
+use native.Mathlib.Omega.{arith}
+use lib.ListN.{length, getD, take, drop}
+use lib.Ieee.{Float, nan, binary64, add, mul, lt, ofBits}
+use borrow.Author.Needs.{needs}
+use Rattle.doubles.specs.Least.{orLater, orEarlier}
+use Rattle.mfe.specs.Entries.{Chosen, Row}
+use Rattle.mfe.proofs.Choosing.{Kept, kept-first, kept-more, kept-chosen, none-chosen, later-stays, later-moves, earlier-moves, earlier-stays}
+use Rattle.mfe.proofs.matrix.lowest_product.Statement.{statement}
+use Rattle.mfe.proofs.matrix.lowest_product.Tie as tie
+use Rattle.mfe.proofs.matrix.lowest_product.Reads as reads
+use Rattle.mfe.proofs.matrix.lowest_product.Lts as lts
+
+abbrev Inv-loop : tie.InvT-loop
+Inv-loop last energies count rt strand₀ energy₀ k₀ strand energy k =
+    (1 ≤ k)
+    × (k ≤ count)
+    × Row 64 count last
+    × (count ≤ length energies)
+    × (strand < 64)
+    × ((key : ℕ → Float) → ((j : ℕ) → j < count → mul binary64 (getD energies j nan) (rt .0) ≡ key (getD last j 0)) → Kept (orEarlier key) key last count k strand energy)
+
+abbrev μ-loop : tie.MeasureT-loop
+μ-loop last energies count rt strand₀ energy₀ k₀ strand energy k = count - k
+
+-- src/matrix.rt:110:9
+returns : tie.Need-returns Inv-loop μ-loop
+unfolding ofBits
+returns c = (λ key keys. none-chosen (orEarlier key) key _ _ (c .if1 .taken), omega arith)
+
+-- src/matrix.rt:112:22
+shared-slice-read-strand : tie.Need-shared-slice-read-strand Inv-loop μ-loop
+shared-slice-read-strand c = search needs
+
+-- src/matrix.rt:113:22
+shared-slice-read-energy : tie.Need-shared-slice-read-energy Inv-loop μ-loop
+shared-slice-read-energy c = search needs
+
+-- src/matrix.rt:115:5
+loop-holds : tie.Need-loop-holds Inv-loop μ-loop
+loop-holds c =
+    let a = c .before .before .before .before .args in
+    (
+      omega arith,
+      omega arith,
+      c .before .before .before .before .pre .0,
+      omega arith,
+      c .before .before .before .before .pre .0 .known 0 (omega arith),
+      λ key keys. kept-first (orEarlier key) key (a .last .now) (a .count) (omega arith) (c .before .before .before .before .pre .0 .few) (keys 0 (omega arith)),
+    )
+
+-- src/matrix.rt:116:20
+shared-slice-read-next : tie.Need-shared-slice-read-next Inv-loop μ-loop
+shared-slice-read-next c = search needs
+
+-- src/matrix.rt:117:23
+mul-product : tie.Need-mul-product Inv-loop μ-loop
+mul-product c = search needs
+
+-- src/matrix.rt:117:23
+shared-slice-read-product : tie.Need-shared-slice-read-product Inv-loop μ-loop
+shared-slice-read-product c = search needs
+
+-- src/matrix.rt:122:9
+add-k : tie.Need-add-k Inv-loop μ-loop
+add-k c = search needs
+
+-- src/matrix.rt:115:5
+loop-less : tie.Need-loop-less Inv-loop μ-loop
+loop-less c = search needs
+
+-- src/matrix.rt:115:5
+loop-again : tie.Need-loop-again Inv-loop μ-loop
+loop-again c =
+    let l = c .before .before .before .before .before in
+    let a = c .before .before .before .before .before .before .before .before .before .before .args in
+    let inv = l .loop .inv in
+    let row = inv .2 in
+    (
+      omega arith,
+      omega arith,
+      inv .2,
+      inv .3,
+      elim (c .if2 .came) [ inl u ↦ rw (u .1) (row .known (l .loop .k) (omega arith)) | inr u ↦ rw (u .1) (inv .4) ],
+      λ key keys.
+        let w = inv .5 key keys in
+        let new = keys (l .loop .k) (omega arith) in
+        elim (c .if2 .came) [
+          | inl u ↦ kept-more w (omega arith) (inv .2 .few) (u .1 ∙ earlier-moves key (w .energy-is) new (u .0 .taken)) (u .2 ∙ new ∙ ap key (sym (u .1)))
+          | inr u ↦ kept-more w (omega arith) (inv .2 .few) (u .1 ∙ earlier-stays key (w .energy-is) new (u .0 .left)) (u .2 ∙ w .energy-is ∙ ap key (sym (u .1)))
+        ],
+    )
+
+-- src/matrix.rt:104:1
+returns-2 : tie.Need-returns-2 Inv-loop μ-loop
+returns-2 c =
+    let inv = c .before .loop .inv in
+    (λ key keys. kept-chosen (inv .5 key keys) (omega arith) (omega arith) (inv .2 .few), inv .4)
+
+pub lowest-product-spec : {M : Type 1} → statement M
+lowest-product-spec =
+    tie.close
+    (tie.spec
+    Inv-loop
+    μ-loop
+    returns
+    shared-slice-read-strand
+    shared-slice-read-energy
+    loop-holds
+    shared-slice-read-next
+    mul-product
+    shared-slice-read-product
+    add-k
+    loop-less
+    loop-again
+    returns-2)

@@ -1,0 +1,66 @@
+use mathlib.Core.Path.{_≡_, ap}
+use Prim.Native.Nat.{ℕ, _+_, _*_, _<_}
+use lib.ListN.{getD}
+use lib.Ieee.{nan}
+use native.Mathlib.Nat.{mul-le-mul}
+use native.Mathlib.Omega.{arith}
+use borrow.Author.Needs.{needs}
+use Rattle.lists.proofs.Grid.{cell-in}
+use Rattle.mfe.proofs.matrix.strand_bond_at.Statement.{statement}
+use Rattle.mfe.proofs.matrix.strand_bond_at.Tie as tie
+use Rattle.mfe.proofs.matrix.strand_bond_at.Reads as reads
+use Rattle.mfe.proofs.matrix.strand_bond_at.Lts as lts
+use Rattle.mfe.proofs.friends.wide.Reads as wide-reads
+
+-- src/matrix.rt:39:18
+wide-requires : tie.Need-wide-requires
+wide-requires c κs = search needs
+
+-- src/matrix.rt:39:18
+mul-result : tie.Need-mul-result
+mul-result c =
+    let s = c .before .before in
+    let a = s .args in
+    let low : c .wide .result < a .strands = omega arith in
+    let inside = cell-in {row = c .wide .result} {rows = a .strands} {column = a .right} (a .strands) low (s .pre .1 .0) in
+    let room = mul-le-mul (s .pre .1 .1 .0) (s .pre .1 .1 .0) in
+    omega arith
+
+-- src/matrix.rt:39:18
+add-result : tie.Need-add-result
+add-result c =
+    let s = c .before .before in
+    let a = s .args in
+    let low : c .wide .result < a .strands = omega arith in
+    let inside = cell-in {row = c .wide .result} {rows = a .strands} {column = a .right} (a .strands) low (s .pre .1 .0) in
+    let room = mul-le-mul (s .pre .1 .1 .0) (s .pre .1 .1 .0) in
+    omega arith
+
+-- src/matrix.rt:39:5
+mul-result-2 : tie.Need-mul-result-2
+mul-result-2 c =
+    let s = c .before .before in
+    let a = s .args in
+    let low : c .wide .result < a .strands = omega arith in
+    let inside = cell-in {row = c .wide .result} {rows = a .strands} {column = a .right} (a .strands) low (s .pre .1 .0) in
+    let room = mul-le-mul (s .pre .1 .1 .0) (s .pre .1 .1 .0) in
+    omega arith
+
+-- src/matrix.rt:39:5
+shared-slice-read-result : tie.Need-shared-slice-read-result
+shared-slice-read-result c =
+    let s = c .before .before .before in
+    let a = s .args in
+    let low : c .before .wide .result < a .strands = omega arith in
+    let inside = cell-in {row = c .before .wide .result} {rows = a .strands} {column = a .right} (a .strands) low (s .pre .1 .0) in
+    let room = mul-le-mul (s .pre .1 .1 .0) (s .pre .1 .1 .0) in
+    omega arith
+
+-- src/matrix.rt:32:1
+returns : tie.Need-returns
+returns c = let a = c .before .before .before .args in ap (λ (x : ℕ). getD (a .strand-bonds .now) (x * a .strands + a .right) nan) (c .before .wide .ensures)
+
+pub strand-bond-at-spec : {M : Type 1} → statement M
+strand-bond-at-spec =
+    tie.close
+    (tie.spec wide-requires mul-result add-result mul-result-2 shared-slice-read-result returns)

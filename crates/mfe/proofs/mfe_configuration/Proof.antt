@@ -1,0 +1,149 @@
+use mathlib.Core.Path.{_≡_, refl, sym, ap, _∙_}
+use mathlib.Core.Bool.{Bool, true, false, not}
+use mathlib.Core.List.{List, [], _∷_}
+use Prim.Native.Nat.{ℕ}
+use lib.Dec.{T, eqb}
+use lib.ListN.{length, getD}
+use lib.Ieee.{binary64, nan, fits}
+use borrow.Author.Needs.{needs}
+use borrow.Author.Tests.{eq-eqb, ne-eqb}
+use Rattle.doubles.specs.Decimal.{zero}
+use Rattle.reply.specs.First.{firstOf}
+use Rattle.reply.specs.declared.Refusal.the-variants.{WrongSize}
+use Rattle.model.specs.Search as Search
+use Rattle.sdc1d.specs.Design.{Design, lent, positions, modelOf}
+use Rattle.sdc1d.specs.Checks.{Admitted}
+use Rattle.sdc1d.specs.Answers.{given}
+use Rattle.sdc1d.specs.Laws.{Doubles}
+use Rattle.sdc1d.proofs.Sizes.{sized}
+use Rattle.sdc1d.proofs.Replies.{admitted, own-size, design-refused, design-admitted, answered, turned-down, entries-written, entries-kept}
+use Rattle.mfe.proofs.Shown.{not-admitted, searchable, roomy, tabled, lowest-shown}
+use Rattle.mfe.proofs.mfe_configuration.Statement.{statement}
+use Rattle.mfe.proofs.mfe_configuration.Tie as tie
+use Rattle.mfe.proofs.mfe_configuration.Reads as reads
+use Rattle.mfe.proofs.mfe_configuration.Lts as lts
+use Rattle.mfe.proofs.bonds.scaffold_bonds.Reads as scaffold-bonds-reads
+use Rattle.mfe.proofs.bonds.strand_bonds.Reads as strand-bonds-reads
+use Rattle.mfe.proofs.matrix.lowest.Reads as lowest-reads
+use Rattle.sdc1d.proofs.checks.design_reply.Reads as design-reply-reads
+
+-- whether its own size is wrong
+abbrev ownSize : Design → List ℕ → Bool
+ownSize d entries = not (eqb (length entries) (positions d))
+
+-- src/lib.rt:34:9
+returns : tie.Need-returns
+returns c =
+    let a = c .before .before .before .before .before .before .before .args in
+    let d : Design = lent (a .scaffold) (a .glues) (a .dg) (a .ds) (a .potentials) (a .ambient) in
+    let e = a .configuration .now in
+    let wrong : ownSize d e ≡ true = ap not (ne-eqb _ _ (c .if1 .taken)) in
+    let reply = own-size d (ownSize d e) [] wrong in
+    (
+      turned-down zero (Search.search (modelOf d) .energy) WrongSize reply,
+      (entries-kept e (Search.search (modelOf d) .configuration) WrongSize reply, λ _ same. absurd (c .if1 .taken same)),
+    )
+
+-- src/lib.rt:36:11
+design-reply-requires : tie.Need-design-reply-requires
+design-reply-requires c κs = search needs
+
+-- src/lib.rt:37:24
+enum-known-refusal : tie.Need-enum-known-refusal
+enum-known-refusal c = search needs
+
+-- src/lib.rt:39:32
+enum-told : tie.Need-enum-told
+enum-told c = search needs
+
+-- src/lib.rt:39:32
+strand-bonds-requires : tie.Need-strand-bonds-requires
+strand-bonds-requires c κs =
+    let a = c .before .before .before .before .before .before .before .before .before .before .args in
+    let d : Design = lent (a .scaffold) (a .glues) (a .dg) (a .ds) (a .potentials) (a .ambient) in
+    sized d (admitted d (sym (c .before .before .design-reply .ensures) ∙ c .enum-told .given .1) .sizes)
+
+-- src/lib.rt:40:34
+scaffold-bonds-requires : tie.Need-scaffold-bonds-requires
+scaffold-bonds-requires c κs =
+    let a = c .before .before .before .before .before .before .before .before .before .before .before .args in
+    let d : Design = lent (a .scaffold) (a .glues) (a .dg) (a .ds) (a .potentials) (a .ambient) in
+    sized d (admitted d (sym (c .before .before .before .design-reply .ensures) ∙ c .before .enum-told .given .1) .sizes)
+
+-- src/lib.rt:42:63
+slice-aggregate-lowest : tie.Need-slice-aggregate-lowest
+slice-aggregate-lowest c = search needs
+
+-- src/lib.rt:42:78
+slice-aggregate-lowest-2 : tie.Need-slice-aggregate-lowest-2
+slice-aggregate-lowest-2 c = search needs
+
+-- src/lib.rt:41:29
+lowest-requires : tie.Need-lowest-requires
+lowest-requires c κs =
+    let a = c .before .before .before .before .before .before .before .before .before .before .before .before .before .before .before .args in
+    let d : Design = lent (a .scaffold) (a .glues) (a .dg) (a .ds) (a .potentials) (a .ambient) in
+    let w = admitted d (sym (c .before .before .before .before .before .before .before .design-reply .ensures) ∙ c .before .before .before .before .before .enum-told .given .1) in
+    (searchable d w, (roomy d w (c .before .before .before .before .strand-bonds .ensures) (c .before .before .before .scaffold-bonds .ensures), c .before .before .before .before .before .before .before .before .if1 .left))
+
+-- src/lib.rt:20:1
+returns-2 : tie.Need-returns-2
+returns-2 c =
+    let a = c .before .before .before .before .before .before .before .before .before .before .before .args in
+    let d : Design = lent (a .scaffold) (a .glues) (a .dg) (a .ds) (a .potentials) (a .ambient) in
+    let e = a .configuration .now in
+    let refused = sym (c .before .before .before .design-reply .ensures) ∙ c .before .refusal .given .1 in
+    let reply = design-refused d (ownSize d e) [] (ap not (eq-eqb _ _ (c .before .before .before .before .if1 .left))) refused in
+    (
+      turned-down zero (Search.search (modelOf d) .energy) _ reply,
+      (entries-kept e (Search.search (modelOf d) .configuration) _ reply, λ w _. absurd (not-admitted d refused w)),
+    )
+
+-- src/lib.rt:20:1
+same-length : tie.Need-same-length
+same-length c = search needs
+
+-- src/lib.rt:20:1
+returns-3 : tie.Need-returns-3
+returns-3 c =
+    let a = c .before .before .before .before .before .before .before .before .before .before .before .before .before .before .before .before .before .before .args in
+    let d : Design = lent (a .scaffold) (a .glues) (a .dg) (a .ds) (a .potentials) (a .ambient) in
+    let e = a .configuration .now in
+    let known = c .before .before .before .before .before .before .before .before .before .before .before .before .before in
+    let field = c .before .before .before .before .before .before .before .before .before .before .before .before .before .before .before .before .before .before .good .1 .1 .1 .1 .1 .0 .1 .1 in
+    let rt : fits binary64 (a .ambient .rt .0) ≡ true = field .0 .1 .1 .0 .1 in
+    let strand : fits binary64 (a .ambient .«strand_excess» .0) ≡ true = field .1 .0 .1 .1 .0 .1 in
+    let scaffold : fits binary64 (a .ambient .«scaffold_excess» .0) ≡ true = field .1 .1 .0 .1 .1 .0 .1 in
+    let doubles : Doubles d =
+      record {
+        dg = λ k _. known .before .before .shared-slice-known3 .given k;
+        ds = λ k _. known .before .shared-slice-known4 .given k;
+        potentials = λ k _. known .shared-slice-known5 .given k;
+        rt = rw rt tt;
+        strand-excess = rw strand tt;
+        scaffold-excess = rw scaffold tt;
+      } in
+    let w : Admitted d = admitted d (sym (c .before .before .before .before .before .before .before .before .before .before .design-reply .ensures) ∙ c .before .before .before .before .before .before .before .before .enum-told .given .1) in
+    let reply = design-admitted d (ownSize d e) [] (ap not (eq-eqb _ _ (c .before .before .before .before .before .before .before .before .before .before .before .if1 .left))) w in
+    let found = c .before .before .lowest .ensures (modelOf d) (tabled d w (c .before .before .before .before .before .before .before .strand-bonds .ensures) (c .before .before .before .before .before .before .scaffold-bonds .ensures)) in
+    (
+      ap given (found .least) ∙ answered zero (Search.search (modelOf d) .energy) reply,
+      (found .shown ∙ entries-written e (Search.search (modelOf d) .configuration) reply, λ _ _. lowest-shown d w doubles found),
+    )
+
+pub mfe-configuration-spec : {M : Type 1} → statement M
+mfe-configuration-spec =
+    tie.close
+    (tie.spec
+    returns
+    design-reply-requires
+    enum-known-refusal
+    enum-told
+    strand-bonds-requires
+    scaffold-bonds-requires
+    slice-aggregate-lowest
+    slice-aggregate-lowest-2
+    lowest-requires
+    returns-2
+    same-length
+    returns-3)

@@ -1,0 +1,46 @@
+// The search for the lowest configuration of a design (sdc1d.rs, `mfe_configuration`).
+mod bonds;
+mod friends;
+mod matrix;
+
+use reply::{Place, Refusal, Reply};
+use units::{Ambient, KcalPerMol};
+
+ghost use mathlib.Core.Path.{_≡_};
+ghost use Rattle.sdc1d.specs.Design.{lent};
+ghost use Rattle.mfe.specs.Answers.{settledFigures, searchAnswer, searchEntries, LowestShown};
+
+pub enum Settled {
+    // The configuration stands in the lent entries.
+    Energy(KcalPerMol),
+    Refused(Refusal, Place),
+}
+
+// The lowest configuration, into one lent entry for each position, 0 for an empty place; and its energy.
+pub fn mfe_configuration(
+    scaffold: &[u8],
+    glues: &[u8],
+    dg: &[f64],
+    ds: &[f64],
+    potentials: &[f64],
+    ambient: Ambient,
+    configuration: &mut [u8],
+) -> Settled
+    ensures { λ r. ⌜ settledFigures r ≡ searchAnswer (lent (scaffold .entry) (glues .entry) (dg .entry) (ds .entry) (potentials .entry) ambient) (now (configuration .entry)) ⌝ }
+    ensures { λ r. ⌜ now (configuration .exit) ≡ searchEntries (lent (scaffold .entry) (glues .entry) (dg .entry) (ds .entry) (potentials .entry) ambient) (now (configuration .entry)) ⌝ }
+    ensures { λ r. ⌜ LowestShown (lent (scaffold .entry) (glues .entry) (dg .entry) (ds .entry) (potentials .entry) ambient) (now (configuration .entry)) (now (configuration .exit)) r ⌝ }
+{
+    if configuration.len() != scaffold.len() {
+        return Settled::Refused(Refusal::WrongSize, Place::Nowhere);
+    }
+    match sdc1d::checks::design_reply(scaffold, glues, dg, ds, potentials, ambient) {
+        Reply::Refused(refusal) => Settled::Refused(refusal, Place::Nowhere),
+        Reply::Admitted => {
+            let strand_bonds = bonds::strand_bonds(scaffold, glues, dg, ds, potentials, ambient);
+            let scaffold_bonds = bonds::scaffold_bonds(scaffold, glues, dg, ds, potentials, ambient);
+            Settled::Energy(matrix::lowest(
+                scaffold, glues, dg, ds, potentials, ambient, &strand_bonds, &scaffold_bonds, configuration,
+            ))
+        }
+    }
+}
