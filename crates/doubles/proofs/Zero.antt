@@ -1,16 +1,15 @@
 -- 0.0 times a finite value above zero is 0.0, to the last bit. Assumes nothing.
-use mathlib.Core.Path.{_≡_, refl, sym, ap, _∙_}
+use mathlib.Core.Path.{_≡_, refl, ap, _∙_}
 use mathlib.Core.Bool.{Bool, true, false}
-use Prim.Native.Nat.{ℕ, zero, suc, _+_, _-_, _*_, _/_, _%_, _^_, _<_, _≤_, compare, compare·zero-suc}
-use native.Mathlib.Nat.{zero-mul, zero-div, zero-mod, lt-irrefl, mul-pos, not-suc-le-zero, mul-zero}
+use Prim.Native.Nat.{ℕ, zero, suc, _-_, _*_, _/_, _%_, _^_, _<_, compare, compare·zero-suc}
+use native.Mathlib.Nat.{zero-mul, zero-div, zero-mod, lt-irrefl, mul-pos, not-suc-le-zero}
 use native.Mathlib.Omega.{arith}
 use lib.IntN.{ℤ, pos}
-use lib.Dec.{T}
 use lib.Pow.{pow-pos}
-use lib.Ieee.{Float, fin, inf, nan, Format, binary64, prec, low, up, down, size, units, odd, round, nearest, mul}
+use lib.Ieee.{Float, fin, inf, nan, binary64, prec, low, up, down, size, units, odd, round, nearest, mul}
 use lib.Ieee.Fits.{round-is, core, down-pos}
 use Rattle.doubles.specs.Decimal as Decimal
-use Rattle.doubles.specs.Size.{Real, mag, sgn}
+use Rattle.doubles.specs.Size.{Real, sgn}
 use Rattle.doubles.specs.Order.{over}
 
 nearest-zero : (u : ℕ) → 0 < u → nearest 0 (compare 0 u) ≡ 0

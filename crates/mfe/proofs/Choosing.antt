@@ -1,19 +1,16 @@
 -- A loop over the first so many of a row of strands that keeps one of them, with what it is compared as. Assumes nothing.
 use mathlib.Core.Path.{_≡_, refl, sym, ap, _∙_}
-use mathlib.Core.Logic.{_⊎_, inl, inr}
-use mathlib.Core.Bool.{Bool, true, false, cond}
+use mathlib.Core.Bool.{true, false}
 use mathlib.Core.List.{List, [], _∷_}
 use Prim.Native.Nat.{ℕ, zero, suc, _+_, _<_, _≤_}
 use native.Mathlib.Nat.{not-suc-le-zero}
 use native.Mathlib.Numerals.{add-one}
-use native.Mathlib.Omega.{arith}
 use lib.ListN.{length, getD, take, drop, drop-of-length-le}
 use lib.Seq.{drop-cons, getD-take, length-take-le}
 use lib.Ieee.{Float, lt}
 use Rattle.lists.specs.Fold.{foldl}
 use Rattle.doubles.specs.Decimal as Decimal
 use Rattle.doubles.specs.Least.{orLater, orEarlier, pick}
-use Rattle.mfe.specs.declared.matrix.Attached.{Attached}
 use Rattle.mfe.specs.Entries.{keyOf, Chosen}
 
 -- of the strands before k, the one kept

@@ -1,14 +1,13 @@
 -- The friends of a position as the program lists them, with 0 behind them. Assumes nothing.
 use mathlib.Core.Path.{_≡_, refl, sym, ap, _∙_, subst}
-use mathlib.Core.Logic.{_⊎_, inl, inr}
 use mathlib.Core.Bool.{Bool, true, false}
 use mathlib.Core.List.{List, [], _∷_, _++_, List·Memᴰ, List·Memᴰ·head, List·Memᴰ·tail}
-use Prim.Native.Nat.{ℕ, zero, suc, _+_, _<_, _≤_}
-use native.Mathlib.Nat.{not-suc-le-zero, le-of-suc-le-suc, add-zero}
+use Prim.Native.Nat.{ℕ, zero, suc, _+_, _<_}
+use native.Mathlib.Nat.{not-suc-le-zero, le-of-suc-le-suc}
 use native.Mathlib.Omega.{arith}
 use lib.ListN.{length, getD, take, drop, replicate, length-replicate, getD-replicate, List·getD-append, length-append}
 use lib.Seq.{drop-cons, getD-take, take-append-add, getD-at}
-use Rattle.lists.specs.Build.{upTo, tabulate, keep}
+use Rattle.lists.specs.Build.{upTo, keep}
 use Rattle.lists.proofs.Keep.{kept-below, kept-passes}
 use Rattle.model.specs.Model.{optionsOf}
 use Rattle.sdc1d.specs.Design.{Design, positions, strands, isFriend, friendsOf}

@@ -1,26 +1,24 @@
 -- The loop over the positions: what is kept of the entries of the last one passed and of all left choices, and what is found at the end.
 -- Assumes nothing.
-use mathlib.Core.Path.{_≡_, refl, sym, ap, _∙_, subst}
+use mathlib.Core.Path.{_≡_, refl, sym, ap, _∙_}
 use mathlib.Core.Logic.{_⊎_, inl, inr}
 use mathlib.Core.Bool.{Bool, true, false, cond}
-use mathlib.Core.List.{List, [], _∷_, _++_, List·Memᴰ, List·Memᴰ·head, List·Memᴰ·tail, List·Memᴰ·cases-cons, List·Memᴰ·append-cases, List·Memᴰ·eq-of-singleton, List·Memᴰ·not-nil}
+use mathlib.Core.List.{List, [], _∷_, _++_, List·Memᴰ, List·Memᴰ·head, List·Memᴰ·tail, List·Memᴰ·cases-cons, List·Memᴰ·append-cases, List·Memᴰ·eq-of-singleton}
 use Prim.Native.Nat.{ℕ, zero, suc, _+_, _<_, _≤_}
-use native.Mathlib.Nat.{not-suc-le-zero, le-refl, ne-of-lt}
+use native.Mathlib.Nat.{le-refl, ne-of-lt}
 use native.Mathlib.Numerals.{add-one}
 use native.Mathlib.Decide.{ℕ-discrete}
 use native.Mathlib.Omega.{arith}
-use lib.Dec.{eqb}
 use lib.ListN.{length, getD, take, set, replicate}
 use lib.Seq.{getD-set-same, getD-set-other, length-take-le}
 use lib.Ieee.{Float, nan, binary64, mul, lt}
 use borrow.Author.Count.{below-more}
-use borrow.Author.Tests.{eq-eqb, ne-eqb}
+use borrow.Author.Tests.{ne-eqb}
 use Rattle.lists.specs.Fold.{foldl}
-use Rattle.lists.specs.Build.{tabulate}
 use Rattle.lists.proofs.Build.{length-tabulate, getD-tabulate}
 use Rattle.doubles.specs.Decimal as Decimal
-use Rattle.doubles.specs.Least.{orLater, orEarlier, pick, lastLeast, firstLeast}
-use Rattle.model.specs.Model.{Model, friendsAt, optionsOf, occupant}
+use Rattle.doubles.specs.Least.{orLater, orEarlier, pick, firstLeast}
+use Rattle.model.specs.Model.{Model, friendsAt, optionsOf}
 use Rattle.model.specs.Model as Model
 use Rattle.model.specs.Search.{entry, compared, leftChoice, traced, product, optionsAt, timesRt, searchOver, search}
 use Rattle.model.proofs.Traced.{traced-same}
@@ -29,7 +27,7 @@ use Rattle.mfe.specs.declared.friends.Friends.{Friends}
 use Rattle.mfe.specs.declared.matrix.Attached.{Attached}
 use Rattle.mfe.specs.declared.matrix.MfeValues.{MfeValues}
 use Rattle.mfe.specs.Tables.{Searchable, Cells, Tabled}
-use Rattle.mfe.specs.Entries.{keyOf, Chosen, Row, Occupied, FriendsHere, Left, Values, LowValues, choiceIn, Low, tracedBack, Found}
+use Rattle.mfe.specs.Entries.{keyOf, Chosen, Row, FriendsHere, Left, Values, LowValues, choiceIn, Low, tracedBack, Found}
 use Rattle.mfe.proofs.Here.{friend-at, occupied}
 use Rattle.mfe.proofs.Vector.{some-options, low-none}
 

@@ -1,11 +1,11 @@
 -- A loop that traces a configuration back, from its last place to its first. Assumes nothing.
-use mathlib.Core.Path.{_≡_, refl, sym, ap, _∙_}
+use mathlib.Core.Path.{_≡_, refl, ap, _∙_}
 use mathlib.Core.List.{List, [], _∷_}
-use Prim.Native.Nat.{ℕ, zero, suc, _+_, _-_, _<_, _≤_}
-use native.Mathlib.Nat.{not-suc-le-zero, lt-irrefl}
+use Prim.Native.Nat.{ℕ, zero, suc, _-_, _<_, _≤_}
+use native.Mathlib.Nat.{lt-irrefl}
 use native.Mathlib.Numerals.{sub-one}
 use native.Mathlib.Omega.{arith}
-use lib.ListN.{length, getD, drop, set, length-set, drop-of-length-le}
+use lib.ListN.{length, drop, set, drop-of-length-le}
 use lib.Seq.{drop-cons, drop-set-lt, getD-set-same, lt-length-set}
 use Rattle.model.specs.Search.{traced}
 use Rattle.mfe.specs.Entries.{tracedBack}

@@ -1,21 +1,19 @@
 -- The model of an admitted design is what the search runs over, and within the bounds of the theorem. Assumes nothing.
-use mathlib.Core.Path.{_≡_, refl, sym, _∙_, subst}
+use mathlib.Core.Path.{_≡_, refl, sym, _∙_}
 use mathlib.Core.Bool.{Bool, true, false}
 use mathlib.Core.List.{List, []}
-use Prim.Native.Nat.{ℕ, _*_, _<_, _≤_}
+use Prim.Native.Nat.{ℕ, _<_}
 use native.Mathlib.Nat.{mul-le-mul}
 use native.Mathlib.Omega.{arith}
-use lib.ListN.{length}
 use lib.Ieee.{Float, nan}
 use Rattle.lists.specs.Grid.{Grid}
-use Rattle.lists.specs.Build.{tabulate}
 use Rattle.reply.specs.First.{firstOf}
 use Rattle.reply.specs.declared.Refusal.{Refusal}
 use Rattle.reply.specs.declared.Reply.the-variants as Reply
 use Rattle.model.specs.Search.{search}
 use Rattle.model.specs.Lowest.{LowestConfiguration}
 use Rattle.model.proofs.Search.{search-lowest}
-use Rattle.sdc1d.specs.Design.{Design, positions, strands, isFriend, strandBond, scaffoldBond, friendsOf, modelOf}
+use Rattle.sdc1d.specs.Design.{Design, positions, strands, isFriend, strandBond, scaffoldBond, modelOf}
 use Rattle.sdc1d.specs.Checks.{Admitted, designChecks}
 use Rattle.sdc1d.specs.Laws.{Doubles}
 use Rattle.sdc1d.proofs.Sizes.{sized}

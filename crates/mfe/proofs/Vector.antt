@@ -1,13 +1,9 @@
 -- The entries of a position, as a program works them out from those to its left. Assumes nothing.
-use mathlib.Core.Path.{_≡_, refl, sym, ap, ap₂, _∙_, subst}
-use mathlib.Core.Logic.{_⊎_, inl, inr}
-use mathlib.Core.Bool.{Bool, true, false, cond}
+use mathlib.Core.Path.{_≡_, refl, sym, ap, ap₂, _∙_}
 use mathlib.Core.List.{List, [], _∷_, _++_}
 use Prim.Native.Nat.{ℕ, zero, suc, _+_, _<_, _≤_}
-use native.Mathlib.Nat.{not-suc-le-zero}
 use native.Mathlib.Decide.{ℕ-discrete}
 use native.Mathlib.Omega.{arith}
-use lib.Dec.{eqb}
 use lib.ListN.{length, getD, take, set, replicate}
 use lib.Seq.{length-take-le, getD-set-same, getD-set-other}
 use lib.Ieee.{Float, nan, binary64, add, sub}
@@ -16,7 +12,7 @@ use borrow.Author.Tests.{ne-eqb}
 use Rattle.doubles.specs.Decimal as Decimal
 use Rattle.doubles.specs.Least.{pick, lastLeast}
 use Rattle.model.specs.Model.{Model, friendsAt}
-use Rattle.model.specs.Search.{settled, reached, entry, compared, leftChoice, optionsAt}
+use Rattle.model.specs.Search.{reached, entry, compared, leftChoice, optionsAt}
 use Rattle.mfe.specs.declared.matrix.Attached.{Attached}
 use Rattle.mfe.specs.Entries.{keyOf, Chosen, Left}
 

@@ -3,7 +3,7 @@
 use mathlib.Core.Path.{_≡_, refl, sym, ap, _∙_}
 use mathlib.Core.Logic.{_⊎_, inl, inr}
 use mathlib.Core.Bool.{Bool, true, false, cond}
-use mathlib.Core.List.{List, [], _∷_, List·Memᴰ}
+use mathlib.Core.List.{List, [], List·Memᴰ}
 use Prim.Native.Nat.{ℕ, zero, suc, _+_, _*_, _^_, _<_, _≤_, zero-le}
 use native.Mathlib.Nat.{le-trans, le-refl}
 use native.Mathlib.Omega.{arith}
@@ -19,7 +19,7 @@ use Rattle.doubles.proofs.Order.{Le-refl, Le-trans}
 use Rattle.doubles.proofs.Sums.{weaken, add-mono, add-within, sub-mono, sub-within}
 use Rattle.doubles.proofs.Bounds.{zero-within}
 use Rattle.doubles.proofs.Least.{Least, pick-least, later-better, earlier-better}
-use Rattle.model.specs.Model.{Model, Friend, occupant, positions}
+use Rattle.model.specs.Model.{Model, Friend, occupant}
 use Rattle.model.specs.Bounds.{Bounded}
 use Rattle.model.specs.Search.{joined, settled, reached, entry, compared, leftChoice, traced, Settled, product, lastStrand, searchOver}
 use Rattle.model.proofs.Traced.{traced-at, traced-left, traced-options}

@@ -6,41 +6,37 @@
 use mathlib.Core.Path.{_≡_, refl, sym, ap, _∙_, subst}
 use mathlib.Core.Logic.{_⊎_, inl, inr}
 use mathlib.Core.Bool.{Bool, true, false, not, cond}
-use mathlib.Core.List.{List, [], _∷_, _++_, List·Memᴰ, List·Memᴰ·head, List·Memᴰ·append-cases, List·Memᴰ·eq-of-singleton, Memᴰ·append-left, Memᴰ·append-right}
+use mathlib.Core.List.{List, [], _∷_, List·Memᴰ, List·Memᴰ·head, List·Memᴰ·append-cases, List·Memᴰ·eq-of-singleton, Memᴰ·append-left, Memᴰ·append-right}
 use mathlib.Core.Option.{none, some}
-use Prim.Native.Nat.{ℕ, zero, suc, _+_, _*_, _^_, _<_, _≤_}
-use native.Mathlib.Nat.{le-refl, le-of-suc-le-suc, suc-inj, zero-lt-suc, le-trans}
+use Prim.Native.Nat.{ℕ, zero, suc, _*_, _^_, _<_, _≤_}
+use native.Mathlib.Nat.{le-refl, le-trans}
 use native.Mathlib.Numerals.{add-one}
 use native.Mathlib.Omega.{arith}
 use lib.Dec.{T, eqb, lit≤}
 use lib.Pow.{pow-pos}
-use lib.ListN.{length, getD, drop, take, length-append}
+use lib.ListN.{length, getD, drop, length-append}
 use lib.Seq.{take-all}
-use lib.IntN.{pos}
-use lib.Ieee.{Float, fin, inf, nan, binary64, prec, low, fits, add, sub, neg, mul, round, lt, eq}
-use Rattle.lists.specs.Fold.{foldl}
+use lib.Ieee.{Float, binary64, low, add, sub, neg, mul, round, lt, eq}
 use Rattle.doubles.specs.Decimal as Decimal
 use Rattle.doubles.specs.Sum.{sumFrom}
-use Rattle.doubles.specs.Size.{Real, Within, sgn, mag}
-use Rattle.doubles.specs.Order.{Le, over, under}
+use Rattle.doubles.specs.Size.{Real}
+use Rattle.doubles.specs.Order.{Le, over}
 use Rattle.doubles.proofs.Sum.{sub-is}
 use Rattle.doubles.proofs.Order.{Le-refl, Le-antisymm, Le→nlt}
-use Rattle.doubles.proofs.Sums.{weaken}
 use Rattle.doubles.proofs.Products.{mul-mono, mul-within}
 use Rattle.doubles.proofs.Bounds.{Rt, rt-range}
 use Rattle.doubles.proofs.Zero.{zero-times}
-use Rattle.model.specs.Model.{Model, State, Friend, occupant, positions, friendsAt, optionsOf}
+use Rattle.model.specs.Model.{Model, State, Friend, occupant, positions, friendsAt}
 use Rattle.model.specs.States.{states, stateAt, count}
-use Rattle.model.specs.Energy.{chainPlace, chainTerms, chainEnergy, chainProduct, lesser, leftOf, walk}
-use Rattle.model.specs.Listed.{Listed}
-use Rattle.model.specs.Bounds.{Bounded, Finite}
+use Rattle.model.specs.Energy.{chainPlace, chainTerms, chainEnergy, chainProduct, walk}
+use Rattle.model.specs.Bounds.{Bounded}
 use Rattle.model.specs.Search.{joined, settled, leftChoice, lastStrand, Settled, optionsAt, timesRt, searchOver, search}
 use Rattle.model.specs.Lowest.{LowestConfiguration}
 use Rattle.model.proofs.Sums.{chain-more, chain-done}
 use Rattle.model.proofs.Bounds.{chain-finite}
 use Rattle.model.proofs.Listing.{listed}
-use Rattle.model.proofs.Count.{count-choices, ways-pos}
-use Rattle.model.proofs.Optimal.{score, score-sum, Inside, Optimal, search-optimal}
+use Rattle.model.proofs.Count.{ways-pos}
+use Rattle.model.proofs.Optimal.{score, Optimal, search-optimal}
 use Rattle.model.proofs.Traced.{traced-length}
 use Rattle.model.proofs.Walk.{Ends, walk-ends}
 

@@ -1,7 +1,7 @@
 -- A configuration that is traced back: its length, its last place, and each place by the next one. Assumes nothing.
 use mathlib.Core.Path.{_≡_, refl, sym, ap, _∙_, subst}
 use mathlib.Core.Logic.{_⊎_, inl, inr}
-use mathlib.Core.List.{List, [], _∷_, List·Memᴰ}
+use mathlib.Core.List.{List, _∷_, List·Memᴰ}
 use Prim.Native.Nat.{ℕ, zero, suc, _+_, _<_, _≤_}
 use native.Mathlib.Nat.{not-suc-le-zero, le-suc-iff, suc-inj, add-suc, suc-add, add-zero}
 use native.Mathlib.Omega.{arith}

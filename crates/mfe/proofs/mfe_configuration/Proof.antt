@@ -1,14 +1,15 @@
-use mathlib.Core.Path.{_≡_, refl, sym, ap, _∙_}
-use mathlib.Core.Bool.{Bool, true, false, not}
-use mathlib.Core.List.{List, [], _∷_}
+-- `mfe_configuration` meets its contract: each return's reply is that of the first check that holds, only the last writes, and what it
+-- writes and answers is the lowest configuration with its energy. Assumes nothing.
+use mathlib.Core.Path.{_≡_, sym, ap, _∙_}
+use mathlib.Core.Bool.{Bool, true, not}
+use mathlib.Core.List.{List, []}
 use Prim.Native.Nat.{ℕ}
-use lib.Dec.{T, eqb}
-use lib.ListN.{length, getD}
-use lib.Ieee.{binary64, nan, fits}
+use lib.Dec.{eqb}
+use lib.ListN.{length}
+use lib.Ieee.{binary64, fits}
 use borrow.Author.Needs.{needs}
 use borrow.Author.Tests.{eq-eqb, ne-eqb}
 use Rattle.doubles.specs.Decimal.{zero}
-use Rattle.reply.specs.First.{firstOf}
 use Rattle.reply.specs.declared.Refusal.the-variants.{WrongSize}
 use Rattle.model.specs.Search as Search
 use Rattle.sdc1d.specs.Design.{Design, lent, positions, modelOf}
@@ -20,18 +21,11 @@ use Rattle.sdc1d.proofs.Replies.{admitted, own-size, design-refused, design-adm
 use Rattle.mfe.proofs.Shown.{not-admitted, searchable, roomy, tabled, lowest-shown}
 use Rattle.mfe.proofs.mfe_configuration.Statement.{statement}
 use Rattle.mfe.proofs.mfe_configuration.Tie as tie
-use Rattle.mfe.proofs.mfe_configuration.Reads as reads
-use Rattle.mfe.proofs.mfe_configuration.Lts as lts
-use Rattle.mfe.proofs.bonds.scaffold_bonds.Reads as scaffold-bonds-reads
-use Rattle.mfe.proofs.bonds.strand_bonds.Reads as strand-bonds-reads
-use Rattle.mfe.proofs.matrix.lowest.Reads as lowest-reads
-use Rattle.sdc1d.proofs.checks.design_reply.Reads as design-reply-reads
 
 -- whether its own size is wrong
 abbrev ownSize : Design → List ℕ → Bool
 ownSize d entries = not (eqb (length entries) (positions d))
 
--- src/lib.rt:34:9
 returns : tie.Need-returns
 returns c =
     let a = c .before .before .before .before .before .before .before .args in
@@ -44,41 +38,33 @@ returns c =
       (entries-kept e (Search.search (modelOf d) .configuration) WrongSize reply, λ _ same. absurd (c .if1 .taken same)),
     )
 
--- src/lib.rt:36:11
 design-reply-requires : tie.Need-design-reply-requires
 design-reply-requires c κs = search needs
 
--- src/lib.rt:37:24
 enum-known-refusal : tie.Need-enum-known-refusal
 enum-known-refusal c = search needs
 
--- src/lib.rt:39:32
 enum-told : tie.Need-enum-told
 enum-told c = search needs
 
--- src/lib.rt:39:32
 strand-bonds-requires : tie.Need-strand-bonds-requires
 strand-bonds-requires c κs =
     let a = c .before .before .before .before .before .before .before .before .before .before .args in
     let d : Design = lent (a .scaffold) (a .glues) (a .dg) (a .ds) (a .potentials) (a .ambient) in
     sized d (admitted d (sym (c .before .before .design-reply .ensures) ∙ c .enum-told .given .1) .sizes)
 
--- src/lib.rt:40:34
 scaffold-bonds-requires : tie.Need-scaffold-bonds-requires
 scaffold-bonds-requires c κs =
     let a = c .before .before .before .before .before .before .before .before .before .before .before .args in
     let d : Design = lent (a .scaffold) (a .glues) (a .dg) (a .ds) (a .potentials) (a .ambient) in
     sized d (admitted d (sym (c .before .before .before .design-reply .ensures) ∙ c .before .enum-told .given .1) .sizes)
 
--- src/lib.rt:42:63
 slice-aggregate-lowest : tie.Need-slice-aggregate-lowest
 slice-aggregate-lowest c = search needs
 
--- src/lib.rt:42:78
 slice-aggregate-lowest-2 : tie.Need-slice-aggregate-lowest-2
 slice-aggregate-lowest-2 c = search needs
 
--- src/lib.rt:41:29
 lowest-requires : tie.Need-lowest-requires
 lowest-requires c κs =
     let a = c .before .before .before .before .before .before .before .before .before .before .before .before .before .before .before .args in
@@ -86,7 +72,6 @@ lowest-requires c κs =
     let w = admitted d (sym (c .before .before .before .before .before .before .before .design-reply .ensures) ∙ c .before .before .before .before .before .enum-told .given .1) in
     (searchable d w, (roomy d w (c .before .before .before .before .strand-bonds .ensures) (c .before .before .before .scaffold-bonds .ensures), c .before .before .before .before .before .before .before .before .if1 .left))
 
--- src/lib.rt:20:1
 returns-2 : tie.Need-returns-2
 returns-2 c =
     let a = c .before .before .before .before .before .before .before .before .before .before .before .args in
@@ -99,11 +84,9 @@ returns-2 c =
       (entries-kept e (Search.search (modelOf d) .configuration) _ reply, λ w _. absurd (not-admitted d refused w)),
     )
 
--- src/lib.rt:20:1
 same-length : tie.Need-same-length
 same-length c = search needs
 
--- src/lib.rt:20:1
 returns-3 : tie.Need-returns-3
 returns-3 c =
     let a = c .before .before .before .before .before .before .before .before .before .before .before .before .before .before .before .before .before .before .args in

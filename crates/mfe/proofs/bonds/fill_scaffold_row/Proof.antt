@@ -1,5 +1,6 @@
-use mathlib.Core.Path.{_≡_, refl, sym, ap, _∙_}
-use Prim.Native.Nat.{ℕ, _≤_, _<_, _+_, _-_, _*_}
+-- One row of scaffold bonds meets its contract. The invariant: the rows before it are filled, and its cells up to the strand. Assumes nothing.
+use mathlib.Core.Path.{sym, ap, _∙_}
+use Prim.Native.Nat.{ℕ, _≤_, _-_}
 use native.Mathlib.Nat.{mul-le-mul}
 use native.Mathlib.Omega.{arith}
 use lib.ListN.{length, getD}
@@ -7,14 +8,9 @@ use lib.Ieee.{Float, nan}
 use borrow.Author.Needs.{needs}
 use Rattle.lists.specs.Grid.{Grid}
 use Rattle.lists.proofs.Grid.{cell-in, grid-more, grid-next}
-use Rattle.sdc1d.specs.Design.{Design, design, lent, bondOf, strandBond, scaffoldBond}
-use Rattle.sdc1d.specs.Sized.{Sized}
+use Rattle.sdc1d.specs.Design.{design, bondOf, scaffoldBond}
 use Rattle.mfe.proofs.bonds.fill_scaffold_row.Statement.{statement}
 use Rattle.mfe.proofs.bonds.fill_scaffold_row.Tie as tie
-use Rattle.mfe.proofs.bonds.fill_scaffold_row.Reads as reads
-use Rattle.mfe.proofs.bonds.fill_scaffold_row.Lts as lts
-use Rattle.mfe.proofs.friends.cell_index.Reads as cell-index-reads
-use Rattle.sdc1d.proofs.bonds.bond.Reads as bond-reads
 
 abbrev Inv-loop : tie.InvT-loop
 Inv-loop scaffold glues dg ds potentials ambient position cells₀ strands scaffold-glue strand₀ cells strand =
@@ -23,54 +19,42 @@ Inv-loop scaffold glues dg ds potentials ambient position cells₀ strands scaff
 abbrev μ-loop : tie.MeasureT-loop
 μ-loop scaffold glues dg ds potentials ambient position cells₀ strands scaffold-glue strand₀ cells strand = length potentials - strand
 
--- src/bonds.rt:78:25
 shared-slice-read-scaffold-glue : tie.Need-shared-slice-read-scaffold-glue Inv-loop μ-loop
 shared-slice-read-scaffold-glue c = search needs
 
--- src/bonds.rt:80:5
 loop-holds : tie.Need-loop-holds Inv-loop μ-loop
 loop-holds c = (omega arith, c .before .before .before .before .before .before .before .pre .1 .1)
 
--- src/bonds.rt:81:50
 mul-cell-index : tie.Need-mul-cell-index Inv-loop μ-loop
 mul-cell-index c = search needs
 
--- src/bonds.rt:81:50
 add-cell-index : tie.Need-add-cell-index Inv-loop μ-loop
 add-cell-index c = search needs
 
--- src/bonds.rt:81:44
 shared-slice-read-cell-index : tie.Need-shared-slice-read-cell-index Inv-loop μ-loop
 shared-slice-read-cell-index c = search needs
 
--- src/bonds.rt:81:13
 cell-index-requires : tie.Need-cell-index-requires Inv-loop μ-loop
 cell-index-requires c κs =
     let s = c .before .before .before .before .before .before .before .before .before .before in
     let z = s .pre .0 in
     (z .scaffold-low _ (s .pre .1 .0), z .glues-low _ (omega arith))
 
--- src/bonds.rt:83:24
 mul-t16 : tie.Need-mul-t16 Inv-loop μ-loop
 mul-t16 c = search needs
 
--- src/bonds.rt:83:24
 shared-slice-read-t22 : tie.Need-shared-slice-read-t22 Inv-loop μ-loop
 shared-slice-read-t22 c = search needs
 
--- src/bonds.rt:83:50
 mul-t17 : tie.Need-mul-t17 Inv-loop μ-loop
 mul-t17 c = search needs
 
--- src/bonds.rt:83:50
 shared-slice-read-t25 : tie.Need-shared-slice-read-t25 Inv-loop μ-loop
 shared-slice-read-t25 c = search needs
 
--- src/bonds.rt:82:46
 bond-requires : tie.Need-bond-requires Inv-loop μ-loop
 bond-requires c κs = search needs
 
--- src/bonds.rt:82:15
 mul-cells : tie.Need-mul-cells Inv-loop μ-loop
 mul-cells c =
     let l = c .before .before .before .before .before .before in
@@ -82,7 +66,6 @@ mul-cells c =
     let sized = l .loop .inv .1 .sized in
     omega arith
 
--- src/bonds.rt:82:15
 add-cells : tie.Need-add-cells Inv-loop μ-loop
 add-cells c =
     let l = c .before .before .before .before .before .before in
@@ -94,7 +77,6 @@ add-cells c =
     let sized = l .loop .inv .1 .sized in
     omega arith
 
--- src/bonds.rt:82:9
 mul-cells-2 : tie.Need-mul-cells-2 Inv-loop μ-loop
 mul-cells-2 c =
     let l = c .before .before .before .before .before .before in
@@ -106,7 +88,6 @@ mul-cells-2 c =
     let sized = l .loop .inv .1 .sized in
     omega arith
 
--- src/bonds.rt:82:9
 slice-write-cells : tie.Need-slice-write-cells Inv-loop μ-loop
 slice-write-cells c =
     let l = c .before .before .before .before .before .before in
@@ -118,15 +99,12 @@ slice-write-cells c =
     let sized = l .loop .inv .1 .sized in
     omega arith
 
--- src/bonds.rt:85:9
 add-strand : tie.Need-add-strand Inv-loop μ-loop
 add-strand c = search needs
 
--- src/bonds.rt:80:5
 loop-less : tie.Need-loop-less Inv-loop μ-loop
 loop-less c = search needs
 
--- src/bonds.rt:80:5
 loop-again : tie.Need-loop-again Inv-loop μ-loop
 unfolding scaffoldBond
 loop-again c =
@@ -141,11 +119,9 @@ loop-again c =
     let bond : ℕ → Float = λ at. bondOf (getD (a .dg .now) at nan) (getD (a .ds .now) at nan) (a .ambient .«scaffold_excess» .0) (a .ambient .rt .0) in
     (omega arith, grid-more (l .loop .inv .1) (omega arith) (c .bond .ensures ∙ ap bond (c .before .before .before .cell-index .ensures .0)))
 
--- src/bonds.rt:62:1
 same-length : tie.Need-same-length Inv-loop μ-loop
 same-length c = c .before .loop .inv .1 .sized ∙ sym (c .before .before .before .before .before .before .before .before .before .pre .1 .1 .sized)
 
--- src/bonds.rt:62:1
 returns : tie.Need-returns Inv-loop μ-loop
 returns c = grid-next (c .before .loop .inv .1) (c .loop-test .left)
 

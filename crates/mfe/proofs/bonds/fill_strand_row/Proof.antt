@@ -1,5 +1,6 @@
-use mathlib.Core.Path.{_≡_, refl, sym, ap, _∙_}
-use Prim.Native.Nat.{ℕ, _≤_, _<_, _+_, _-_, _*_}
+-- One row of strand bonds meets its contract. The invariant: the rows before it are filled, and its cells up to y. Assumes nothing.
+use mathlib.Core.Path.{sym, ap, _∙_}
+use Prim.Native.Nat.{ℕ, _≤_, _-_}
 use native.Mathlib.Nat.{mul-le-mul}
 use native.Mathlib.Omega.{arith}
 use lib.ListN.{length, getD}
@@ -7,14 +8,9 @@ use lib.Ieee.{Float, nan}
 use borrow.Author.Needs.{needs}
 use Rattle.lists.specs.Grid.{Grid}
 use Rattle.lists.proofs.Grid.{cell-in, grid-more, grid-next}
-use Rattle.sdc1d.specs.Design.{Design, design, lent, bondOf, strandBond, scaffoldBond}
-use Rattle.sdc1d.specs.Sized.{Sized}
+use Rattle.sdc1d.specs.Design.{design, bondOf, strandBond}
 use Rattle.mfe.proofs.bonds.fill_strand_row.Statement.{statement}
 use Rattle.mfe.proofs.bonds.fill_strand_row.Tie as tie
-use Rattle.mfe.proofs.bonds.fill_strand_row.Reads as reads
-use Rattle.mfe.proofs.bonds.fill_strand_row.Lts as lts
-use Rattle.mfe.proofs.friends.cell_index.Reads as cell-index-reads
-use Rattle.sdc1d.proofs.bonds.bond.Reads as bond-reads
 
 abbrev Inv-loop : tie.InvT-loop
 Inv-loop scaffold glues dg ds potentials ambient x cells₀ strands x-east-glue y₀ cells y =
@@ -23,62 +19,48 @@ Inv-loop scaffold glues dg ds potentials ambient x cells₀ strands x-east-glue 
 abbrev μ-loop : tie.MeasureT-loop
 μ-loop scaffold glues dg ds potentials ambient x cells₀ strands x-east-glue y₀ cells y = length potentials - y
 
--- src/bonds.rt:30:29
 mul-x-east-glue : tie.Need-mul-x-east-glue Inv-loop μ-loop
 mul-x-east-glue c = search needs
 
--- src/bonds.rt:30:29
 add-x-east-glue : tie.Need-add-x-east-glue Inv-loop μ-loop
 add-x-east-glue c = search needs
 
--- src/bonds.rt:30:23
 shared-slice-read-x-east-glue : tie.Need-shared-slice-read-x-east-glue Inv-loop μ-loop
 shared-slice-read-x-east-glue c = search needs
 
--- src/bonds.rt:32:5
 loop-holds : tie.Need-loop-holds Inv-loop μ-loop
 loop-holds c = (omega arith, c .before .before .before .before .before .before .before .pre .1 .1)
 
--- src/bonds.rt:33:48
 mul-cell-index : tie.Need-mul-cell-index Inv-loop μ-loop
 mul-cell-index c = search needs
 
--- src/bonds.rt:33:48
 add-cell-index : tie.Need-add-cell-index Inv-loop μ-loop
 add-cell-index c = search needs
 
--- src/bonds.rt:33:42
 shared-slice-read-cell-index : tie.Need-shared-slice-read-cell-index Inv-loop μ-loop
 shared-slice-read-cell-index c = search needs
 
--- src/bonds.rt:33:13
 cell-index-requires : tie.Need-cell-index-requires Inv-loop μ-loop
 cell-index-requires c κs =
     let s = c .before .before .before .before .before .before .before .before .before .before in
     let z = s .pre .0 in
     (z .glues-low _ (omega arith), z .glues-low _ (omega arith))
 
--- src/bonds.rt:35:24
 mul-t18 : tie.Need-mul-t18 Inv-loop μ-loop
 mul-t18 c = search needs
 
--- src/bonds.rt:35:24
 shared-slice-read-t24 : tie.Need-shared-slice-read-t24 Inv-loop μ-loop
 shared-slice-read-t24 c = search needs
 
--- src/bonds.rt:35:50
 mul-t19 : tie.Need-mul-t19 Inv-loop μ-loop
 mul-t19 c = search needs
 
--- src/bonds.rt:35:50
 shared-slice-read-t27 : tie.Need-shared-slice-read-t27 Inv-loop μ-loop
 shared-slice-read-t27 c = search needs
 
--- src/bonds.rt:34:34
 bond-requires : tie.Need-bond-requires Inv-loop μ-loop
 bond-requires c κs = search needs
 
--- src/bonds.rt:34:15
 mul-cells : tie.Need-mul-cells Inv-loop μ-loop
 mul-cells c =
     let l = c .before .before .before .before .before .before in
@@ -90,7 +72,6 @@ mul-cells c =
     let sized = l .loop .inv .1 .sized in
     omega arith
 
--- src/bonds.rt:34:15
 add-cells : tie.Need-add-cells Inv-loop μ-loop
 add-cells c =
     let l = c .before .before .before .before .before .before in
@@ -102,7 +83,6 @@ add-cells c =
     let sized = l .loop .inv .1 .sized in
     omega arith
 
--- src/bonds.rt:34:9
 mul-cells-2 : tie.Need-mul-cells-2 Inv-loop μ-loop
 mul-cells-2 c =
     let l = c .before .before .before .before .before .before in
@@ -114,7 +94,6 @@ mul-cells-2 c =
     let sized = l .loop .inv .1 .sized in
     omega arith
 
--- src/bonds.rt:34:9
 slice-write-cells : tie.Need-slice-write-cells Inv-loop μ-loop
 slice-write-cells c =
     let l = c .before .before .before .before .before .before in
@@ -126,15 +105,12 @@ slice-write-cells c =
     let sized = l .loop .inv .1 .sized in
     omega arith
 
--- src/bonds.rt:37:9
 add-y : tie.Need-add-y Inv-loop μ-loop
 add-y c = search needs
 
--- src/bonds.rt:32:5
 loop-less : tie.Need-loop-less Inv-loop μ-loop
 loop-less c = search needs
 
--- src/bonds.rt:32:5
 loop-again : tie.Need-loop-again Inv-loop μ-loop
 unfolding strandBond
 loop-again c =
@@ -149,11 +125,9 @@ loop-again c =
     let bond : ℕ → Float = λ at. bondOf (getD (a .dg .now) at nan) (getD (a .ds .now) at nan) (a .ambient .«strand_excess» .0) (a .ambient .rt .0) in
     (omega arith, grid-more (l .loop .inv .1) (omega arith) (c .bond .ensures ∙ ap bond (c .before .before .before .cell-index .ensures .0)))
 
--- src/bonds.rt:14:1
 same-length : tie.Need-same-length Inv-loop μ-loop
 same-length c = c .before .loop .inv .1 .sized ∙ sym (c .before .before .before .before .before .before .before .before .before .pre .1 .1 .sized)
 
--- src/bonds.rt:14:1
 returns : tie.Need-returns Inv-loop μ-loop
 returns c = grid-next (c .before .loop .inv .1) (c .loop-test .left)
 

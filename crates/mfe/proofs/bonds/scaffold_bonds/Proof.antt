@@ -1,18 +1,15 @@
-use mathlib.Core.Path.{_≡_, refl, sym, ap, _∙_}
-use Prim.Native.Nat.{ℕ, _≤_, _<_, _+_, _-_, _*_}
+-- The table of scaffold bonds meets its contract. The invariant: the rows before the position are filled. Assumes nothing.
+use mathlib.Core.Path.{_≡_}
+use Prim.Native.Nat.{_≤_, _-_}
 use native.Mathlib.Omega.{arith}
 use lib.ListN.{length, length-replicate}
 use lib.Ieee.{Float, binary64, nan, ofBits}
 use borrow.Author.Needs.{needs}
 use Rattle.lists.specs.Grid.{Grid}
 use Rattle.lists.proofs.Grid.{grid-none}
-use Rattle.sdc1d.specs.Design.{Design, design, lent, strandBond, scaffoldBond}
-use Rattle.sdc1d.specs.Sized.{Sized}
+use Rattle.sdc1d.specs.Design.{design, scaffoldBond}
 use Rattle.mfe.proofs.bonds.scaffold_bonds.Statement.{statement}
 use Rattle.mfe.proofs.bonds.scaffold_bonds.Tie as tie
-use Rattle.mfe.proofs.bonds.scaffold_bonds.Reads as reads
-use Rattle.mfe.proofs.bonds.scaffold_bonds.Lts as lts
-use Rattle.mfe.proofs.bonds.fill_scaffold_row.Reads as fill-scaffold-row-reads
 
 abbrev Inv-loop : tie.InvT-loop
 Inv-loop scaffold glues dg ds potentials ambient cells₀ position₀ cells position =
@@ -21,31 +18,24 @@ Inv-loop scaffold glues dg ds potentials ambient cells₀ position₀ cells posi
 abbrev μ-loop : tie.MeasureT-loop
 μ-loop scaffold glues dg ds potentials ambient cells₀ position₀ cells position = length scaffold - position
 
--- src/bonds.rt:102:5
 loop-holds : tie.Need-loop-holds Inv-loop μ-loop
 loop-holds c = (omega arith, grid-none (length-replicate {A = Float} 8192 (ofBits binary64 0)))
 
--- src/bonds.rt:103:83
 slice-aggregate-fill-scaffold-row : tie.Need-slice-aggregate-fill-scaffold-row Inv-loop μ-loop
 slice-aggregate-fill-scaffold-row c = search needs
 
--- src/bonds.rt:103:9
 fill-scaffold-row-requires : tie.Need-fill-scaffold-row-requires Inv-loop μ-loop
 fill-scaffold-row-requires c κs = (c .before .before .before .before .before .before .before .before .pre, (c .before .loop-test .taken, c .before .before .loop .inv .1))
 
--- src/bonds.rt:104:9
 add-position : tie.Need-add-position Inv-loop μ-loop
 add-position c = search needs
 
--- src/bonds.rt:102:5
 loop-less : tie.Need-loop-less Inv-loop μ-loop
 loop-less c = search needs
 
--- src/bonds.rt:102:5
 loop-again : tie.Need-loop-again Inv-loop μ-loop
 loop-again c = (omega arith, c .before .fill-scaffold-row .ensures)
 
--- src/bonds.rt:89:1
 returns : tie.Need-returns Inv-loop μ-loop
 returns c =
     let l = c .before in

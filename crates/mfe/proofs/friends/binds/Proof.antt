@@ -1,41 +1,32 @@
+-- Whether a cell binds, by its dG and then its dS. Assumes nothing.
 use borrow.Author.Needs.{needs}
 use lib.Ieee.{ofBits}
 use Rattle.sdc1d.proofs.Cells.{binds-by-dg, binds-by-ds}
-use mathlib.Core.Path.{_≡_, _∙_}
+use mathlib.Core.Path.{_∙_}
 use Rattle.mfe.proofs.friends.binds.Statement.{statement}
 use Rattle.mfe.proofs.friends.binds.Tie as tie
-use Rattle.mfe.proofs.friends.binds.Reads as reads
-use Rattle.mfe.proofs.friends.binds.Lts as lts
-use Rattle.mfe.proofs.friends.cell_index.Reads as cell-index-reads
 
--- src/friends.rt:33:9
 cell-index-requires : tie.Need-cell-index-requires
 cell-index-requires c κs = search needs
 
--- src/friends.rt:34:5
 mul-if1 : tie.Need-mul-if1
 mul-if1 c = search needs
 
--- src/friends.rt:34:5
 shared-slice-read-if1 : tie.Need-shared-slice-read-if1
 shared-slice-read-if1 c = search needs
 
--- src/friends.rt:34:22
 mul-result : tie.Need-mul-result
 mul-result c = search needs
 
--- src/friends.rt:34:22
 shared-slice-read-result : tie.Need-shared-slice-read-result
 shared-slice-read-result c = search needs
 
--- src/friends.rt:26:1
 returns : tie.Need-returns
 unfolding ofBits
 returns c =
     let k = c .before .before .before .before .before in
     c .if1 .taken ∙ binds-by-dg (k .args .dg .now) (k .args .ds .now) _ _ _ (c .before .before .cell-index .ensures .0) (c .if1 .taken)
 
--- src/friends.rt:26:1
 returns-2 : tie.Need-returns-2
 unfolding ofBits
 returns-2 c =

@@ -1,24 +1,21 @@
-use mathlib.Core.Path.{_≡_, refl, sym, ap, _∙_}
-use mathlib.Core.Logic.{_⊎_, inl, inr}
-use mathlib.Core.Bool.{Bool, true, false, _||_}
-use mathlib.Core.List.{List, [], _∷_, _++_}
+-- The listing of a position's friends meets its contract. The invariant: those among the strands passed stand in front, and behind them
+-- zeros. Assumes nothing.
+use mathlib.Core.Path.{refl, sym, ap, _∙_}
+use mathlib.Core.Logic.{inl, inr}
+use mathlib.Core.Bool.{Bool}
+use mathlib.Core.List.{List}
 use Prim.Native.Nat.{ℕ, _≤_, _<_, _+_, _-_, _*_}
 use native.Mathlib.Omega.{arith}
-use lib.ListN.{length, getD, drop, take, replicate}
-use lib.Ieee.{Float, nan, ne}
+use lib.ListN.{length, getD, drop, take}
+use lib.Ieee.{Float}
 use borrow.Author.Needs.{needs}
 use Rattle.lists.specs.Build.{upTo, keep}
 use Rattle.lists.proofs.Build.{keep-here, keep-later, keep-past}
 use Rattle.lists.proofs.Front.{Front, front-none, front-length, front-step, front-same, front-whole, front-count}
-use Rattle.sdc1d.specs.Design.{Design, lent, binding, isFriend, friendsOf}
-use Rattle.mfe.specs.Tables.{Searchable}
-use Rattle.mfe.specs.Entries.{FriendsHere}
+use Rattle.sdc1d.specs.Design.{binding, isFriend, friendsOf}
 use Rattle.mfe.proofs.Here.{options-front}
 use Rattle.mfe.proofs.friends.friends_btm.Statement.{statement}
 use Rattle.mfe.proofs.friends.friends_btm.Tie as tie
-use Rattle.mfe.proofs.friends.friends_btm.Reads as reads
-use Rattle.mfe.proofs.friends.friends_btm.Lts as lts
-use Rattle.mfe.proofs.friends.binds.Reads as binds-reads
 
 -- the test of a friend
 abbrev test : List ℕ → List ℕ → List Float → List Float → ℕ → ℕ → Bool
@@ -33,11 +30,9 @@ Inv-loop scaffold glues dg ds potentials position scaffold-glue strands₀ count
 abbrev μ-loop : tie.MeasureT-loop
 μ-loop scaffold glues dg ds potentials position scaffold-glue strands₀ count₀ strand₀ strands count strand = length potentials - strand
 
--- src/friends.rt:67:25
 shared-slice-read-scaffold-glue : tie.Need-shared-slice-read-scaffold-glue Inv-loop μ-loop
 shared-slice-read-scaffold-glue c = search needs
 
--- src/friends.rt:71:5
 loop-holds : tie.Need-loop-holds Inv-loop μ-loop
 unfolding isFriend
 loop-holds c =
@@ -49,46 +44,36 @@ loop-holds c =
     let some : 0 < n = w .size .null in
     (omega arith, omega arith, front-same (front-none _ (keep t (upTo n))) (keep-later t n 0 some (w .not-null (a .position) (s .pre .1))) refl refl)
 
--- src/friends.rt:72:47
 mul-binds : tie.Need-mul-binds Inv-loop μ-loop
 mul-binds c = search needs
 
--- src/friends.rt:72:47
 add-binds : tie.Need-add-binds Inv-loop μ-loop
 add-binds c = search needs
 
--- src/friends.rt:72:41
 shared-slice-read-binds : tie.Need-shared-slice-read-binds Inv-loop μ-loop
 shared-slice-read-binds c = search needs
 
--- src/friends.rt:72:12
 binds-requires : tie.Need-binds-requires Inv-loop μ-loop
 binds-requires c κs =
     let s = c .before .before .before .before .before .before .before .before .before in
     let z = s .pre .0 .size in
     (z .dg-cells, (z .ds-cells, (z .scaffold-low (s .args .position) (s .pre .1), z .glues-low _ (omega arith))))
 
--- src/friends.rt:73:30
 cast-strands : tie.Need-cast-strands Inv-loop μ-loop
 cast-strands c = search needs
 
--- src/friends.rt:73:13
 array-write-strands : tie.Need-array-write-strands Inv-loop μ-loop
 array-write-strands c = search needs
 
--- src/friends.rt:74:13
 add-count : tie.Need-add-count Inv-loop μ-loop
 add-count c = search needs
 
--- src/friends.rt:76:9
 add-strand : tie.Need-add-strand Inv-loop μ-loop
 add-strand c = search needs
 
--- src/friends.rt:71:5
 loop-less : tie.Need-loop-less Inv-loop μ-loop
 loop-less c = search needs
 
--- src/friends.rt:71:5
 loop-again : tie.Need-loop-again Inv-loop μ-loop
 loop-again c =
     let s = c .before .before .before .before .before .before .before .before .before .before .before in
@@ -113,7 +98,6 @@ loop-again c =
         )
     ]
 
--- src/friends.rt:54:1
 returns : tie.Need-returns Inv-loop μ-loop
 unfolding friendsOf isFriend
 returns c =

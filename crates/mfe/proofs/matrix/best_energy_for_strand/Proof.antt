@@ -1,19 +1,16 @@
-use mathlib.Core.Path.{_≡_, refl, sym, ap, _∙_, subst}
-use mathlib.Core.Logic.{_⊎_, inl, inr}
-use mathlib.Core.List.{List, [], _∷_}
+-- A friend's left choice meets its contract. The invariant: of the strands before k, the one kept, with what it is compared as. Assumes nothing.
+use mathlib.Core.Path.{_≡_, sym, ap, _∙_}
+use mathlib.Core.Logic.{inl, inr}
 use Prim.Native.Nat.{ℕ, _≤_, _<_, _+_, _-_, _*_}
 use native.Mathlib.Omega.{arith}
-use lib.ListN.{length, getD, take, drop}
-use lib.Ieee.{Float, nan, binary64, add, mul, lt, ofBits}
+use lib.ListN.{length, getD}
+use lib.Ieee.{Float, nan, binary64, add, ofBits}
 use borrow.Author.Needs.{needs}
-use Rattle.doubles.specs.Least.{orLater, orEarlier}
-use Rattle.mfe.specs.Entries.{Chosen, Row}
-use Rattle.mfe.proofs.Choosing.{Kept, kept-first, kept-more, kept-chosen, none-chosen, later-stays, later-moves, earlier-moves, earlier-stays}
+use Rattle.doubles.specs.Least.{orLater}
+use Rattle.mfe.specs.Entries.{Row}
+use Rattle.mfe.proofs.Choosing.{Kept, kept-first, kept-more, kept-chosen, none-chosen, later-stays, later-moves}
 use Rattle.mfe.proofs.matrix.best_energy_for_strand.Statement.{statement}
 use Rattle.mfe.proofs.matrix.best_energy_for_strand.Tie as tie
-use Rattle.mfe.proofs.matrix.best_energy_for_strand.Reads as reads
-use Rattle.mfe.proofs.matrix.best_energy_for_strand.Lts as lts
-use Rattle.mfe.proofs.matrix.strand_bond_at.Reads as strand-bond-at-reads
 
 abbrev Inv-loop : tie.InvT-loop
 Inv-loop left energies count strand-bonds strands right strand₀ energy₀ k₀ strand energy k =
@@ -27,26 +24,21 @@ Inv-loop left energies count strand-bonds strands right strand₀ energy₀ k₀
 abbrev μ-loop : tie.MeasureT-loop
 μ-loop left energies count strand-bonds strands right strand₀ energy₀ k₀ strand energy k = count - k
 
--- src/matrix.rt:60:9
 returns : tie.Need-returns Inv-loop μ-loop
 unfolding ofBits
 returns c = (λ key keys. none-chosen (orLater key) key _ _ (c .if1 .taken), omega arith)
 
--- src/matrix.rt:62:22
 shared-slice-read-strand : tie.Need-shared-slice-read-strand Inv-loop μ-loop
 shared-slice-read-strand c = search needs
 
--- src/matrix.rt:63:22
 shared-slice-read-energy : tie.Need-shared-slice-read-energy Inv-loop μ-loop
 shared-slice-read-energy c = search needs
 
--- src/matrix.rt:63:36
 strand-bond-at-requires : tie.Need-strand-bond-at-requires Inv-loop μ-loop
 strand-bond-at-requires c κs =
     let s = c .before .before .before .before .before .before in
     (s .pre .0 .known 0 (omega arith), (s .pre .1 .1 .0, (s .pre .1 .1 .1 .0, s .pre .1 .1 .1 .1)))
 
--- src/matrix.rt:65:5
 loop-holds : tie.Need-loop-holds Inv-loop μ-loop
 loop-holds c =
     let a = c .before .before .before .before .before .before .before .args in
@@ -59,33 +51,26 @@ loop-holds c =
       λ key keys. kept-first (orLater key) key (a .left .now) (a .count) (omega arith) (c .before .before .before .before .before .before .before .pre .0 .few) (ap (add binary64 (getD (a .energies .now) 0 nan)) (c .strand-bond-at .ensures) ∙ keys 0 (omega arith)),
     )
 
--- src/matrix.rt:66:20
 shared-slice-read-next : tie.Need-shared-slice-read-next Inv-loop μ-loop
 shared-slice-read-next c = search needs
 
--- src/matrix.rt:67:23
 mul-nenergy : tie.Need-mul-nenergy Inv-loop μ-loop
 mul-nenergy c = search needs
 
--- src/matrix.rt:67:23
 shared-slice-read-nenergy : tie.Need-shared-slice-read-nenergy Inv-loop μ-loop
 shared-slice-read-nenergy c = search needs
 
--- src/matrix.rt:67:37
 strand-bond-at-requires-2 : tie.Need-strand-bond-at-requires-2 Inv-loop μ-loop
 strand-bond-at-requires-2 c κs =
     let s = c .before .before .before .before .before .before .before .before .before .before .before in
     (s .pre .0 .known (c .before .before .before .loop .k) (omega arith), (s .pre .1 .1 .0, (s .pre .1 .1 .1 .0, s .pre .1 .1 .1 .1)))
 
--- src/matrix.rt:73:9
 add-k : tie.Need-add-k Inv-loop μ-loop
 add-k c = search needs
 
--- src/matrix.rt:65:5
 loop-less : tie.Need-loop-less Inv-loop μ-loop
 loop-less c = search needs
 
--- src/matrix.rt:65:5
 loop-again : tie.Need-loop-again Inv-loop μ-loop
 loop-again c =
     let l = c .before .before .before .before .before in
@@ -107,7 +92,6 @@ loop-again c =
         ],
     )
 
--- src/matrix.rt:44:1
 returns-2 : tie.Need-returns-2 Inv-loop μ-loop
 returns-2 c =
     let inv = c .before .loop .inv in

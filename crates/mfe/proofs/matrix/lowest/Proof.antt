@@ -1,26 +1,19 @@
+-- The search over lent bonds meets its contract. The invariant: the entries of the last position passed, and the left choices of all. Assumes nothing.
 use mathlib.Core.Path.{_≡_, refl, sym, ap, _∙_}
-use mathlib.Core.List.{List, [], _∷_}
-use Prim.Native.Nat.{ℕ, _≤_, _<_, _+_, _-_, _*_}
+use Prim.Native.Nat.{ℕ, _≤_, _<_, _+_, _-_}
 use native.Mathlib.Nat.{mul-le-mul-right, le-trans, not-suc-le-zero}
 use native.Mathlib.Omega.{arith}
-use lib.ListN.{length, getD, take, length-set, length-replicate}
-use lib.Ieee.{Float, nan}
+use lib.ListN.{length, length-set}
 use borrow.Author.Count.{below-none}
 use borrow.Author.Needs.{needs}
 use Rattle.model.specs.Model.{Model}
-use Rattle.sdc1d.specs.Design.{Design, design, lent, strands}
-use Rattle.mfe.specs.Tables.{Searchable, Roomy, Cells, Tabled}
-use Rattle.mfe.specs.Entries.{Row, Left, choiceIn, Low, tracedBack, Found}
+use Rattle.sdc1d.specs.Design.{design, lent}
+use Rattle.mfe.specs.Tables.{Tabled}
+use Rattle.mfe.specs.Entries.{Row, Left, choiceIn, Low, tracedBack}
 use Rattle.mfe.proofs.Here.{occupied}
 use Rattle.mfe.proofs.Positions.{cells-upto, Table, left-more, table-more, row-more, low-more, low-zeros, found}
 use Rattle.mfe.proofs.matrix.lowest.Statement.{statement}
 use Rattle.mfe.proofs.matrix.lowest.Tie as tie
-use Rattle.mfe.proofs.matrix.lowest.Reads as reads
-use Rattle.mfe.proofs.matrix.lowest.Lts as lts
-use Rattle.mfe.proofs.friends.friends_btm.Reads as friends-btm-reads
-use Rattle.mfe.proofs.matrix.lowest_product.Reads as lowest-product-reads
-use Rattle.mfe.proofs.matrix.mfe_next_vector.Reads as mfe-next-vector-reads
-use Rattle.mfe.proofs.matrix.trace.Reads as trace-reads
 
 abbrev Inv-loop : tie.InvT-loop
 Inv-loop scaffold glues dg ds potentials ambient strand-bonds scaffold-bonds configuration choice₀ empty₀ left₀ energies₀ count₀ position₀ choice empty left energies count position =
@@ -36,7 +29,6 @@ Inv-loop scaffold glues dg ds potentials ambient strand-bonds scaffold-bonds con
 abbrev μ-loop : tie.MeasureT-loop
 μ-loop scaffold glues dg ds potentials ambient strand-bonds scaffold-bonds configuration choice₀ empty₀ left₀ energies₀ count₀ position₀ choice empty left energies count position = length scaffold - position
 
--- src/matrix.rt:209:5
 loop-holds : tie.Need-loop-holds Inv-loop μ-loop
 loop-holds c =
     (
@@ -50,19 +42,15 @@ loop-holds c =
       λ m t. (record { options = refl; entries = below-none _ }, λ i h. absurd (not-suc-le-zero h)),
     )
 
--- src/matrix.rt:210:13
 friends-btm-requires : tie.Need-friends-btm-requires Inv-loop μ-loop
 friends-btm-requires c κs = (c .before .before .before .before .before .before .before .before .before .before .pre .0, c .loop-test .taken)
 
--- src/matrix.rt:212:65
 slice-aggregate-mfe-next-vector : tie.Need-slice-aggregate-mfe-next-vector Inv-loop μ-loop
 slice-aggregate-mfe-next-vector c = sym (c .before .before .before .loop .inv .3)
 
--- src/matrix.rt:212:72
 slice-aggregate-mfe-next-vector-2 : tie.Need-slice-aggregate-mfe-next-vector-2 Inv-loop μ-loop
 slice-aggregate-mfe-next-vector-2 c = sym (c .before .before .before .before .loop .inv .4)
 
--- src/matrix.rt:211:13
 mfe-next-vector-requires : tie.Need-mfe-next-vector-requires Inv-loop μ-loop
 mfe-next-vector-requires c κs =
     let s = c .before .before .before .before .before .before .before .before .before .before .before .before .before in
@@ -76,40 +64,33 @@ mfe-next-vector-requires c κs =
       (inv .5, (omega arith, occupied (c .before .before .friends-btm .ensures) (s .pre .0) here)),
     )
 
--- src/matrix.rt:215:9
 mul-choice : tie.Need-mul-choice Inv-loop μ-loop
 mul-choice c =
     let short = c .before .before .before .before .before .before .before .before .before .before .before .before .before .before .before .pre .0 .size .short in
     omega arith
 
--- src/matrix.rt:215:9
 array-set-from-choice : tie.Need-array-set-from-choice Inv-loop μ-loop
 array-set-from-choice c =
     let short = c .before .before .before .before .before .before .before .before .before .before .before .before .before .before .before .pre .0 .size .short in
     omega arith
 
--- src/matrix.rt:216:9
 array-write-empty : tie.Need-array-write-empty Inv-loop μ-loop
 array-write-empty c =
     let short = c .before .before .before .before .before .before .before .before .before .before .before .before .before .before .before .pre .0 .size .short in
     omega arith
 
--- src/matrix.rt:219:17
 add-count : tie.Need-add-count Inv-loop μ-loop
 add-count c = search needs
 
--- src/matrix.rt:220:9
 add-position : tie.Need-add-position Inv-loop μ-loop
 add-position c =
     let here = c .before .before .before .before .before .before .before .before .loop-test .taken in
     let short = c .before .before .before .before .before .before .before .before .before .before .before .before .before .before .before .before .before .before .pre .0 .size .short in
     omega arith
 
--- src/matrix.rt:209:5
 loop-less : tie.Need-loop-less Inv-loop μ-loop
 loop-less c = search needs
 
--- src/matrix.rt:209:5
 loop-again : tie.Need-loop-again Inv-loop μ-loop
 loop-again c =
     let s = c .before .before .before .before .before .before .before .before .before .before .before .before .before .before .before .before .before .before in
@@ -138,15 +119,12 @@ loop-again c =
         ),
     )
 
--- src/matrix.rt:222:31
 slice-aggregate-lowest-product : tie.Need-slice-aggregate-lowest-product Inv-loop μ-loop
 slice-aggregate-lowest-product c = sym (c .before .before .loop .inv .3)
 
--- src/matrix.rt:222:38
 slice-aggregate-lowest-product-2 : tie.Need-slice-aggregate-lowest-product-2 Inv-loop μ-loop
 slice-aggregate-lowest-product-2 c = sym (c .before .before .before .loop .inv .4)
 
--- src/matrix.rt:222:9
 lowest-product-requires : tie.Need-lowest-product-requires Inv-loop μ-loop
 lowest-product-requires c κs =
     let l = c .before .before .before in
@@ -156,18 +134,15 @@ lowest-product-requires c κs =
     let short = row .few in
     (record { few = row .few; known = λ k h. omega (arith, row .known k h) }, omega arith)
 
--- src/matrix.rt:223:5
 trace-requires : tie.Need-trace-requires Inv-loop μ-loop
 trace-requires c κs =
     let s = c .before .before .before .before .before .before .before .before .before .before .before .before .before .before in
     let short = s .pre .0 .size .short in
     (rw (s .pre .1 .1) short, (c .before .lowest-product .ensures .1, c .before .before .before .before .before .loop .inv .6))
 
--- src/matrix.rt:187:1
 same-length : tie.Need-same-length Inv-loop μ-loop
 same-length c = search needs
 
--- src/matrix.rt:187:1
 returns : tie.Need-returns Inv-loop μ-loop
 returns c =
     let s = c .before .before .before .before .before .before .before .before .before .before .before .before .before .before .before .before .before in

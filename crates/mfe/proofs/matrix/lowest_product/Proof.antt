@@ -1,18 +1,16 @@
-use mathlib.Core.Path.{_≡_, refl, sym, ap, _∙_, subst}
-use mathlib.Core.Logic.{_⊎_, inl, inr}
-use mathlib.Core.List.{List, [], _∷_}
-use Prim.Native.Nat.{ℕ, _≤_, _<_, _+_, _-_, _*_}
+-- The choice at the last position meets its contract. The invariant: of the strands before k, the one kept, with its product. Assumes nothing.
+use mathlib.Core.Path.{_≡_, sym, ap, _∙_}
+use mathlib.Core.Logic.{inl, inr}
+use Prim.Native.Nat.{ℕ, _≤_, _<_, _-_}
 use native.Mathlib.Omega.{arith}
-use lib.ListN.{length, getD, take, drop}
-use lib.Ieee.{Float, nan, binary64, add, mul, lt, ofBits}
+use lib.ListN.{length, getD}
+use lib.Ieee.{Float, nan, binary64, mul, ofBits}
 use borrow.Author.Needs.{needs}
-use Rattle.doubles.specs.Least.{orLater, orEarlier}
-use Rattle.mfe.specs.Entries.{Chosen, Row}
-use Rattle.mfe.proofs.Choosing.{Kept, kept-first, kept-more, kept-chosen, none-chosen, later-stays, later-moves, earlier-moves, earlier-stays}
+use Rattle.doubles.specs.Least.{orEarlier}
+use Rattle.mfe.specs.Entries.{Row}
+use Rattle.mfe.proofs.Choosing.{Kept, kept-first, kept-more, kept-chosen, none-chosen, earlier-moves, earlier-stays}
 use Rattle.mfe.proofs.matrix.lowest_product.Statement.{statement}
 use Rattle.mfe.proofs.matrix.lowest_product.Tie as tie
-use Rattle.mfe.proofs.matrix.lowest_product.Reads as reads
-use Rattle.mfe.proofs.matrix.lowest_product.Lts as lts
 
 abbrev Inv-loop : tie.InvT-loop
 Inv-loop last energies count rt strand₀ energy₀ k₀ strand energy k =
@@ -26,20 +24,16 @@ Inv-loop last energies count rt strand₀ energy₀ k₀ strand energy k =
 abbrev μ-loop : tie.MeasureT-loop
 μ-loop last energies count rt strand₀ energy₀ k₀ strand energy k = count - k
 
--- src/matrix.rt:110:9
 returns : tie.Need-returns Inv-loop μ-loop
 unfolding ofBits
 returns c = (λ key keys. none-chosen (orEarlier key) key _ _ (c .if1 .taken), omega arith)
 
--- src/matrix.rt:112:22
 shared-slice-read-strand : tie.Need-shared-slice-read-strand Inv-loop μ-loop
 shared-slice-read-strand c = search needs
 
--- src/matrix.rt:113:22
 shared-slice-read-energy : tie.Need-shared-slice-read-energy Inv-loop μ-loop
 shared-slice-read-energy c = search needs
 
--- src/matrix.rt:115:5
 loop-holds : tie.Need-loop-holds Inv-loop μ-loop
 loop-holds c =
     let a = c .before .before .before .before .args in
@@ -52,27 +46,21 @@ loop-holds c =
       λ key keys. kept-first (orEarlier key) key (a .last .now) (a .count) (omega arith) (c .before .before .before .before .pre .0 .few) (keys 0 (omega arith)),
     )
 
--- src/matrix.rt:116:20
 shared-slice-read-next : tie.Need-shared-slice-read-next Inv-loop μ-loop
 shared-slice-read-next c = search needs
 
--- src/matrix.rt:117:23
 mul-product : tie.Need-mul-product Inv-loop μ-loop
 mul-product c = search needs
 
--- src/matrix.rt:117:23
 shared-slice-read-product : tie.Need-shared-slice-read-product Inv-loop μ-loop
 shared-slice-read-product c = search needs
 
--- src/matrix.rt:122:9
 add-k : tie.Need-add-k Inv-loop μ-loop
 add-k c = search needs
 
--- src/matrix.rt:115:5
 loop-less : tie.Need-loop-less Inv-loop μ-loop
 loop-less c = search needs
 
--- src/matrix.rt:115:5
 loop-again : tie.Need-loop-again Inv-loop μ-loop
 loop-again c =
     let l = c .before .before .before .before .before in
@@ -94,7 +82,6 @@ loop-again c =
         ],
     )
 
--- src/matrix.rt:104:1
 returns-2 : tie.Need-returns-2 Inv-loop μ-loop
 returns-2 c =
     let inv = c .before .loop .inv in

@@ -1,25 +1,19 @@
+-- The entries of a position meet their contract. The invariant: the first k friends have their energy and their left choice. Assumes nothing.
 use mathlib.Core.Path.{_≡_, refl, sym, ap, _∙_}
-use mathlib.Core.List.{List, [], _∷_}
 use Prim.Native.Nat.{ℕ, _≤_, _<_, _+_, _-_, _*_}
-use native.Mathlib.Nat.{mul-le-mul}
 use native.Mathlib.Omega.{arith}
 use lib.ListN.{length, getD, length-set}
-use lib.Ieee.{Float, nan, binary64}
+use lib.Ieee.{nan}
 use borrow.Author.Needs.{needs}
 use borrow.Author.Count.{below-none}
 use Rattle.lists.proofs.Grid.{cell-in}
 use Rattle.model.specs.Model.{Model}
 use Rattle.model.specs.Search.{entry, leftChoice, optionsAt}
-use Rattle.mfe.specs.Tables.{Roomy, Cells}
-use Rattle.mfe.specs.Entries.{Row, Occupied, Left, Values, LowValues}
-use Rattle.mfe.proofs.Vector.{Attaches, friend-attaches, empty-attaches, friend-entry, Energies, Choices, energies-more, choices-more, low-set, low-none}
+use Rattle.mfe.specs.Tables.{Cells}
+use Rattle.mfe.specs.Entries.{Left}
+use Rattle.mfe.proofs.Vector.{friend-attaches, empty-attaches, friend-entry, Energies, Choices, energies-more, choices-more, low-set, low-none}
 use Rattle.mfe.proofs.matrix.mfe_next_vector.Statement.{statement}
 use Rattle.mfe.proofs.matrix.mfe_next_vector.Tie as tie
-use Rattle.mfe.proofs.matrix.mfe_next_vector.Reads as reads
-use Rattle.mfe.proofs.matrix.mfe_next_vector.Lts as lts
-use Rattle.mfe.proofs.friends.wide.Reads as wide-reads
-use Rattle.mfe.proofs.matrix.best_energy_for_empty.Reads as best-energy-for-empty-reads
-use Rattle.mfe.proofs.matrix.best_energy_for_strand.Reads as best-energy-for-strand-reads
 
 abbrev Inv-loop : tie.InvT-loop
 Inv-loop strand-bonds scaffold-bonds potentials position left energies count strands here friend-count next₀ choice₀ k₀ next choice k =
@@ -33,19 +27,15 @@ Inv-loop strand-bonds scaffold-bonds potentials position left energies count str
 abbrev μ-loop : tie.MeasureT-loop
 μ-loop strand-bonds scaffold-bonds potentials position left energies count strands here friend-count next₀ choice₀ k₀ next choice k = friend-count - k
 
--- src/matrix.rt:154:5
 loop-holds : tie.Need-loop-holds Inv-loop μ-loop
 loop-holds c = (omega arith, refl, refl, low-none 64, λ m t w. (below-none _, below-none _))
 
--- src/matrix.rt:155:25
 array-read-wide : tie.Need-array-read-wide Inv-loop μ-loop
 array-read-wide c = search needs
 
--- src/matrix.rt:155:13
 wide-requires : tie.Need-wide-requires Inv-loop μ-loop
 wide-requires c κs = search needs
 
--- src/matrix.rt:156:13
 best-energy-for-strand-requires : tie.Need-best-energy-for-strand-requires Inv-loop μ-loop
 best-energy-for-strand-requires c κs =
     let s = c .before .before .before .before .before .before .before .before .before in
@@ -53,7 +43,6 @@ best-energy-for-strand-requires c κs =
     let z = s .pre .0 in
     (s .pre .1 .0, (s .pre .1 .1 .0, (rw (c .wide .ensures) (s .pre .1 .1 .1 .known (l .loop .k) (c .before .loop-test .taken)), (z .few, z .strand-cells))))
 
--- src/matrix.rt:157:48
 mul-next : tie.Need-mul-next Inv-loop μ-loop
 mul-next c =
     let s = c .before .before .before .before .before .before .before .before .before .before in
@@ -65,7 +54,6 @@ mul-next c =
     let few = s .pre .0 .few in
     omega arith
 
--- src/matrix.rt:157:48
 add-next : tie.Need-add-next Inv-loop μ-loop
 add-next c =
     let s = c .before .before .before .before .before .before .before .before .before .before in
@@ -77,7 +65,6 @@ add-next c =
     let few = s .pre .0 .few in
     omega arith
 
--- src/matrix.rt:157:33
 mul-next-2 : tie.Need-mul-next-2 Inv-loop μ-loop
 mul-next-2 c =
     let s = c .before .before .before .before .before .before .before .before .before .before in
@@ -89,7 +76,6 @@ mul-next-2 c =
     let few = s .pre .0 .few in
     omega arith
 
--- src/matrix.rt:157:33
 shared-slice-read-next : tie.Need-shared-slice-read-next Inv-loop μ-loop
 shared-slice-read-next c =
     let s = c .before .before .before .before .before .before .before .before .before .before .before in
@@ -101,7 +87,6 @@ shared-slice-read-next c =
     let few = s .pre .0 .few in
     omega arith
 
--- src/matrix.rt:157:77
 mul-next-3 : tie.Need-mul-next-3 Inv-loop μ-loop
 mul-next-3 c =
     let s = c .before .before .before .before .before .before .before .before .before .before .before .before in
@@ -113,7 +98,6 @@ mul-next-3 c =
     let few = s .pre .0 .few in
     omega arith
 
--- src/matrix.rt:157:77
 shared-slice-read-next-2 : tie.Need-shared-slice-read-next-2 Inv-loop μ-loop
 shared-slice-read-next-2 c =
     let s = c .before .before .before .before .before .before .before .before .before .before .before .before .before in
@@ -125,15 +109,12 @@ shared-slice-read-next-2 c =
     let few = s .pre .0 .few in
     omega arith
 
--- src/matrix.rt:157:9
 mul-next-4 : tie.Need-mul-next-4 Inv-loop μ-loop
 mul-next-4 c = search needs
 
--- src/matrix.rt:157:9
 array-write-next : tie.Need-array-write-next Inv-loop μ-loop
 array-write-next c = search needs
 
--- src/matrix.rt:158:9
 array-write-choice : tie.Need-array-write-choice Inv-loop μ-loop
 array-write-choice c =
     let s = c .before .before .before .before .before .before .before .before .before .before .before .before .before in
@@ -145,15 +126,12 @@ array-write-choice c =
     let few = s .pre .0 .few in
     omega arith
 
--- src/matrix.rt:159:9
 add-k : tie.Need-add-k Inv-loop μ-loop
 add-k c = search needs
 
--- src/matrix.rt:154:5
 loop-less : tie.Need-loop-less Inv-loop μ-loop
 loop-less c = search needs
 
--- src/matrix.rt:154:5
 loop-again : tie.Need-loop-again Inv-loop μ-loop
 loop-again c =
     let s = c .before .before .before .before .before .before .before .before .before .before .before .before .before in
@@ -190,7 +168,6 @@ loop-again c =
         ),
     )
 
--- src/matrix.rt:161:9
 best-energy-for-empty-requires : tie.Need-best-energy-for-empty-requires Inv-loop μ-loop
 best-energy-for-empty-requires c κs =
     let s = c .before .before .before .before .before .before .before .before in
@@ -198,15 +175,12 @@ best-energy-for-empty-requires c κs =
     let few = s .pre .0 .few in
     (record { few = row .few; known = λ k h. omega (arith, row .known k h) }, s .pre .1 .1 .0)
 
--- src/matrix.rt:162:5
 mul-next-5 : tie.Need-mul-next-5 Inv-loop μ-loop
 mul-next-5 c = search needs
 
--- src/matrix.rt:162:5
 array-write-next-2 : tie.Need-array-write-next-2 Inv-loop μ-loop
 array-write-next-2 c = search needs
 
--- src/matrix.rt:131:1
 returns : tie.Need-returns Inv-loop μ-loop
 returns c =
     let s = c .before .before .before .before .before .before .before .before .before in

@@ -1,4 +1,5 @@
-use mathlib.Core.Path.{_≡_, ap}
+-- The look-up of a strand bond meets its contract. Assumes nothing.
+use mathlib.Core.Path.{ap}
 use Prim.Native.Nat.{ℕ, _+_, _*_, _<_}
 use lib.ListN.{getD}
 use lib.Ieee.{nan}
@@ -8,15 +9,10 @@ use borrow.Author.Needs.{needs}
 use Rattle.lists.proofs.Grid.{cell-in}
 use Rattle.mfe.proofs.matrix.strand_bond_at.Statement.{statement}
 use Rattle.mfe.proofs.matrix.strand_bond_at.Tie as tie
-use Rattle.mfe.proofs.matrix.strand_bond_at.Reads as reads
-use Rattle.mfe.proofs.matrix.strand_bond_at.Lts as lts
-use Rattle.mfe.proofs.friends.wide.Reads as wide-reads
 
--- src/matrix.rt:39:18
 wide-requires : tie.Need-wide-requires
 wide-requires c κs = search needs
 
--- src/matrix.rt:39:18
 mul-result : tie.Need-mul-result
 mul-result c =
     let s = c .before .before in
@@ -26,7 +22,6 @@ mul-result c =
     let room = mul-le-mul (s .pre .1 .1 .0) (s .pre .1 .1 .0) in
     omega arith
 
--- src/matrix.rt:39:18
 add-result : tie.Need-add-result
 add-result c =
     let s = c .before .before in
@@ -36,7 +31,6 @@ add-result c =
     let room = mul-le-mul (s .pre .1 .1 .0) (s .pre .1 .1 .0) in
     omega arith
 
--- src/matrix.rt:39:5
 mul-result-2 : tie.Need-mul-result-2
 mul-result-2 c =
     let s = c .before .before in
@@ -46,7 +40,6 @@ mul-result-2 c =
     let room = mul-le-mul (s .pre .1 .1 .0) (s .pre .1 .1 .0) in
     omega arith
 
--- src/matrix.rt:39:5
 shared-slice-read-result : tie.Need-shared-slice-read-result
 shared-slice-read-result c =
     let s = c .before .before .before in
@@ -56,7 +49,6 @@ shared-slice-read-result c =
     let room = mul-le-mul (s .pre .1 .1 .0) (s .pre .1 .1 .0) in
     omega arith
 
--- src/matrix.rt:32:1
 returns : tie.Need-returns
 returns c = let a = c .before .before .before .args in ap (λ (x : ℕ). getD (a .strand-bonds .now) (x * a .strands + a .right) nan) (c .before .wide .ensures)
 

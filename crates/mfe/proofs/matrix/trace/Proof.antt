@@ -1,8 +1,9 @@
+-- The tracing back meets its contract. The invariant: what is still to be traced, before what is written, is the whole configuration. Assumes nothing.
 use mathlib.Core.Path.{_≡_, refl, sym, ap, _∙_}
-use mathlib.Core.List.{List, [], _∷_}
-use Prim.Native.Nat.{ℕ, _≤_, _<_, _+_, _-_, _*_}
+use mathlib.Core.List.{[]}
+use Prim.Native.Nat.{ℕ, _≤_, _<_, _-_}
 use native.Mathlib.Omega.{arith}
-use lib.ListN.{length, getD, drop, length-set}
+use lib.ListN.{length, getD, length-set}
 use borrow.Author.Needs.{needs}
 use borrow.Author.Tests.{eq-eqb, ne-eqb}
 use Rattle.model.specs.Search.{traced}
@@ -10,9 +11,6 @@ use Rattle.mfe.specs.Entries.{choiceIn, Low}
 use Rattle.mfe.proofs.Rest.{Rest, rest-first, rest-more}
 use Rattle.mfe.proofs.matrix.trace.Statement.{statement}
 use Rattle.mfe.proofs.matrix.trace.Tie as tie
-use Rattle.mfe.proofs.matrix.trace.Reads as reads
-use Rattle.mfe.proofs.matrix.trace.Lts as lts
-use Rattle.mfe.proofs.friends.wide.Reads as wide-reads
 
 abbrev Inv-loop : tie.InvT-loop
 Inv-loop last configuration₀ choice empty position₀ strand₀ configuration position strand =
@@ -28,7 +26,6 @@ Inv-loop last configuration₀ choice empty position₀ strand₀ configuration 
 abbrev μ-loop : tie.MeasureT-loop
 μ-loop last configuration₀ choice empty position₀ strand₀ configuration position strand = position
 
--- src/matrix.rt:182:5
 loop-holds : tie.Need-loop-holds Inv-loop μ-loop
 loop-holds c =
     let s = c .before in
@@ -43,23 +40,18 @@ loop-holds c =
       rest-first (choiceIn (s .args .t1) (s .args .t2)) (length (s .args .configuration .now)) (s .args .last) (s .args .configuration .now) refl,
     )
 
--- src/matrix.rt:183:9
 sub-position : tie.Need-sub-position Inv-loop μ-loop
 sub-position c = search needs
 
--- src/matrix.rt:184:9
 slice-write-configuration : tie.Need-slice-write-configuration Inv-loop μ-loop
 slice-write-configuration c = search needs
 
--- src/matrix.rt:186:22
 array-read-strand : tie.Need-array-read-strand Inv-loop μ-loop
 array-read-strand c = search needs
 
--- src/matrix.rt:182:5
 loop-less : tie.Need-loop-less Inv-loop μ-loop
 loop-less c = search needs
 
--- src/matrix.rt:182:5
 loop-again : tie.Need-loop-again Inv-loop μ-loop
 loop-again c =
     let l = c .before .before in
@@ -77,27 +69,21 @@ loop-again c =
       (c .before .loop-test .taken) (omega arith) (inv .7) (sym (simp (eq-eqb _ _ (c .if1 .taken)))),
     )
 
--- src/matrix.rt:188:39
 wide-requires : tie.Need-wide-requires Inv-loop μ-loop
 wide-requires c κs = search needs
 
--- src/matrix.rt:188:22
 mul-strand : tie.Need-mul-strand Inv-loop μ-loop
 mul-strand c = search needs
 
--- src/matrix.rt:188:22
 index-1-strand : tie.Need-index-1-strand Inv-loop μ-loop
 index-1-strand c = search needs
 
--- src/matrix.rt:188:22
 index-2-strand : tie.Need-index-2-strand Inv-loop μ-loop
 index-2-strand c = search needs
 
--- src/matrix.rt:182:5
 loop-less-2 : tie.Need-loop-less-2 Inv-loop μ-loop
 loop-less-2 c = search needs
 
--- src/matrix.rt:182:5
 loop-again-2 : tie.Need-loop-again-2 Inv-loop μ-loop
 loop-again-2 c =
     let l = c .before .before .before .before in
@@ -116,11 +102,9 @@ loop-again-2 c =
       (ap (λ (x : ℕ). getD (getD (a .t1) (l .loop .position - 1) []) x 0) (c .before .wide .ensures) ∙ sym (simp (ne-eqb _ _ (c .before .before .if1 .left)))),
     )
 
--- src/matrix.rt:174:1
 same-length : tie.Need-same-length Inv-loop μ-loop
 same-length c = search needs
 
--- src/matrix.rt:174:1
 returns : tie.Need-returns Inv-loop μ-loop
 returns c =
     let l = c .before in
