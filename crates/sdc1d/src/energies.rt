@@ -38,24 +38,23 @@ fn add_place(
     if strand == 0 {
         return sumg;
     }
-    let bonded = sumg + scaffold_bond(scaffold, glues, dg, ds, potentials, ambient, id, strand);
+    let site = scaffold_bond(scaffold, glues, dg, ds, potentials, ambient, id, strand);
     let right = id + 1;
     if right < attachments.len() {
         let neighbour = wide(attachments[right]);
-        let joined = bonded
-            + strand_bond(
-                scaffold,
-                glues,
-                dg,
-                ds,
-                potentials,
-                ambient,
-                strand,
-                neighbour,
-            );
-        return joined - potentials[strand];
+        let pair = strand_bond(
+            scaffold,
+            glues,
+            dg,
+            ds,
+            potentials,
+            ambient,
+            strand,
+            neighbour,
+        );
+        return sumg + site + pair - potentials[strand];
     }
-    bonded - potentials[strand]
+    sumg + site - potentials[strand]
 }
 
 pub(crate) fn state_sum(
@@ -111,7 +110,7 @@ fn chain_place(
     if strand == 0 {
         return sum;
     }
-    let bond = scaffold_bond(
+    let site = scaffold_bond(
         scaffold,
         glues,
         dg,
@@ -122,11 +121,11 @@ fn chain_place(
         strand,
     );
     if position == 0 {
-        return sum + bond - potentials[strand];
+        return sum + site - potentials[strand];
     }
     let left = wide(configuration[position - 1]);
-    sum + strand_bond(scaffold, glues, dg, ds, potentials, ambient, left, strand) + bond
-        - potentials[strand]
+    let pair = strand_bond(scaffold, glues, dg, ds, potentials, ambient, left, strand);
+    sum + pair + site - potentials[strand]
 }
 
 pub(crate) fn chain_sum(

@@ -173,11 +173,11 @@ pub fn number_of_states(
     match checks::design_reply(scaffold, glues, dg, ds, potentials, ambient) {
         Reply::Refused(refusal) => CountAnswer::Refused(refusal, Place::Nowhere),
         Reply::Admitted => {
-            let count = states::state_count(scaffold, glues, dg, ds, potentials, ambient);
-            if MOST_STATES < count {
+            let number = states::state_count(scaffold, glues, dg, ds, potentials, ambient);
+            if MOST_STATES < number {
                 return CountAnswer::Refused(Refusal::TooManyStates, Place::Nowhere);
             }
-            CountAnswer::States(count)
+            CountAnswer::States(number)
         }
     }
 }
