@@ -5,3 +5,4 @@ pub mod Any
 pub mod Keep
 pub mod Front
 pub mod Each
+pub mod Default
