@@ -1,12 +1,11 @@
 -- Bounds that a range test gives, and that a left-to-right sum of bounded terms keeps. Assumes nothing.
-use mathlib.Core.Path.{_≡_, refl, sym, ap, _∙_, subst}
-use mathlib.Core.Bool.{Bool, true, false, _&&_, _||_}
+use mathlib.Core.Path.{_≡_, refl, _∙_}
+use mathlib.Core.Bool.{Bool, true, false, _&&_}
 use mathlib.Core.List.{List, [], _∷_}
-use Prim.Native.Nat.{ℕ, zero, suc, _+_, _*_, _^_, _≤_, _<_}
-use native.Mathlib.Nat.{le-trans, le-of-eq, le-refl, lt-of-le-of-lt, mul-one, zero-mul, suc-mul}
+use Prim.Native.Nat.{ℕ, zero, suc, _+_, _*_, _^_, _≤_}
+use native.Mathlib.Nat.{le-of-eq, lt-of-le-of-lt, suc-mul}
 use native.Mathlib.Omega.{arith}
 use lib.Dec.{T, lit≤}
-use lib.IntN.{pos}
 use lib.ListN.{length}
 use lib.Ieee.{Float, nan, inf, fin, Format, binary64, prec, low, round, neg, add, le, fits}
 use lib.Ieee.Fits.{round-fits}
@@ -18,7 +17,7 @@ use Rattle.doubles.specs.Range.{within, inRange}
 use Rattle.doubles.specs.Sum.{sumFrom}
 use Rattle.doubles.specs.Size.{sgn, mag, Real, Within, negativeZero}
 use Rattle.doubles.specs.Order.{over, under, Le}
-use Rattle.doubles.proofs.Size.{grid, grid-whole, round-mag, finite-of-mag, whole-lt}
+use Rattle.doubles.proofs.Size.{grid-whole, round-mag, finite-of-mag, whole-lt}
 use Rattle.doubles.proofs.Order.{le-yes→Le}
 use Rattle.doubles.proofs.Sums.{weaken, parts-mag, over-le, under-le, neg-real, neg-over, neg-under, add-within}
 use Rattle.doubles.proofs.Products.{within-between, at-least, not-negative}
@@ -44,7 +43,7 @@ finite-between (fin s m d) (fin r l j) (fin t n k) p q e f = tt
 
 -- x passes the test of a range whose ends are at most A in size
 pub test-within : (A : ℕ) (low x high : Float) → Within binary64 A low → Within binary64 A high → T (fits binary64 x) → within low high x ≡ true
-  → Within binary64 A x × Le binary64 low x
+    → Within binary64 A x × Le binary64 low x
 test-within A low x high p q t e =
     let w = both (le low x) (le x high) e in
     let r : Real binary64 x = record { fit = t; fini = finite-between low x high (p .real .fini) (q .real .fini) (w .0) (w .1) } in
@@ -115,7 +114,7 @@ zero-not = refl
 
 -- terms of size at most E, added to a sum of size at most A
 pub sum-within : (E A : ℕ) (sum : Float) (terms : List Float) → Within binary64 A sum → Each (Within binary64 E) terms → A + length terms * E ≤ 2 ^ prec binary64
-  → Within binary64 (A + length terms * E) (sumFrom sum terms)
+    → Within binary64 (A + length terms * E) (sumFrom sum terms)
 unfolding sumFrom
 sum-within E A sum [] w h n = weaken (A + 0 * E) (omega arith) w
 sum-within E A sum (x ∷ terms) w h n =
@@ -124,7 +123,7 @@ sum-within E A sum (x ∷ terms) w h n =
     (sum-within E (A + E) (add binary64 sum x) terms (add-within binary64 A E sum x w (h .0) (omega arith)) (h .1) (omega arith))
 
 pub sum-not : (E A : ℕ) (sum : Float) (terms : List Float) → Within binary64 A sum → negativeZero sum ≡ false → Each (Within binary64 E) terms → A + length terms * E ≤ 2 ^ prec binary64
-  → negativeZero (sumFrom sum terms) ≡ false
+    → negativeZero (sumFrom sum terms) ≡ false
 unfolding sumFrom
 sum-not E A sum [] w z h n = z
 sum-not E A sum (x ∷ terms) w z h n =

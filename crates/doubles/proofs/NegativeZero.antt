@@ -1,21 +1,18 @@
 -- A rounded sum is −0.0 only where what was added to is. So a sum that starts from 0.0 never is. Assumes nothing.
-use mathlib.Core.Path.{_≡_, refl, sym, ap, _∙_, subst}
-use mathlib.Core.Bool.{Bool, true, false, not, _&&_, cond, Bool·beq}
-use mathlib.Core.List.{List, [], _∷_}
+use mathlib.Core.Path.{_≡_, refl, sym, ap, _∙_}
+use mathlib.Core.Bool.{Bool, true, false, cond}
 use Prim.Native.Nat.{ℕ, zero, suc, _+_, _-_, _*_, _^_, _≤_, _<_}
-use native.Mathlib.Nat.{not-suc-le-zero, zero-lt-suc, zero-mul, one-mul, mul-pos, mul-le-mul-right, mul-lt-mul-of-pos-right, lt-of-mul-lt-mul-right, le-trans, le-of-eq, lt-of-lt-of-le, add-mul}
+use native.Mathlib.Nat.{not-suc-le-zero, zero-lt-suc, zero-mul, one-mul, mul-pos, mul-le-mul-right, mul-lt-mul-of-pos-right, lt-of-mul-lt-mul-right, le-trans, le-of-eq, lt-of-lt-of-le}
 use native.Mathlib.Omega.{arith}
-use lib.Dec.{T, ltb, eqb, ltb→lt, nltb→le, eqb·suc-zero}
+use lib.Dec.{T, ltb, ltb→lt, eqb·suc-zero}
 use lib.IntN.{ℤ, negsuc}
 use lib.Pow.{pow-pos}
-use lib.Ieee.{Float, nan, inf, fin, binary64, low, up, down, round, sum, add, sub, neg, fits}
+use lib.Ieee.{Float, nan, inf, fin, binary64, low, up, down, round, sum, add, fits}
 use lib.Ieee.Fits.{down-pos, up-pos}
-use lib.Ieee.Scale.{overflow}
-use Rattle.doubles.specs.Size.{sgn, mag, Real, negativeZero}
+use Rattle.doubles.specs.Size.{mag, Real, negativeZero}
 use Rattle.doubles.proofs.Size.{Signed, exact, mag-zero, grid, grid-mono, grid-fix, round-signed, round-mag}
 use Rattle.doubles.proofs.Order.{cross-l, cross-r}
-use Rattle.doubles.proofs.Sums.{sub-scale, add-scale, neg-real}
-use Rattle.doubles.proofs.Sum.{sub-is}
+use Rattle.doubles.proofs.Sums.{sub-scale, add-scale}
 
 -- ---- by its sign, or by its size
 

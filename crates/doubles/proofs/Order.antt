@@ -1,16 +1,15 @@
 -- The order is the one that the tests `<`, `<=` and `==` see, and it is total on finite values. Assumes nothing.
 use mathlib.Core.Path.{_≡_, refl, sym, ap, _∙_, subst}
 use mathlib.Core.Logic.{_⊎_, inl, inr}
-use Prim.Native.Nat.{ℕ, _+_, _*_, _^_, _≤_, _<_, zero-le}
-use native.Mathlib.Nat.{le-refl, le-of-eq, le-antisymm, zero-mul, add-mul, mul-comm, mul-assoc, mul-right-comm, mul-pos, mul-le-mul-right, mul-lt-mul-of-pos-right, lt-of-mul-lt-mul-right, eq-of-mul-eq-mul-right}
+use Prim.Native.Nat.{ℕ, _+_, _*_, _^_, _≤_, _<_}
+use native.Mathlib.Nat.{le-refl, le-of-eq, zero-mul, add-mul, mul-comm, mul-assoc, mul-right-comm, mul-pos, mul-lt-mul-of-pos-right, lt-of-mul-lt-mul-right, eq-of-mul-eq-mul-right}
 use native.Mathlib.Omega.{arith}
-use mathlib.Core.Bool.{Bool, true, false, not, _&&_, _||_, Bool·beq}
+use mathlib.Core.Bool.{Bool, true, false, not, _||_}
 use lib.IntN.{ℤ}
-use lib.Dec.{T, ltb, eqb, ltb→lt, lt→ltb, nltb→le, eqb→eq, T-not, not-T}
+use lib.Dec.{T, ltb, eqb, ltb→lt, lt→ltb, nltb→le, eqb→eq, not-T}
 use lib.Pow.{pow-pos}
 use lib.Ieee.{Float, nan, inf, fin, Format, low, up, down, lt, eq, le, below, level, fits}
 use lib.Ieee.Fits.{eq→eqb, down-pos, and-l, and-r, and-i}
-use lib.Ieee.Scale.{finite}
 use Rattle.doubles.specs.Size.{mag, sgn, Real}
 use Rattle.doubles.proofs.Size.{exact, mag-zero}
 use Rattle.doubles.specs.Order.{overPart, underPart, over, under, Le}

@@ -1,20 +1,17 @@
 -- The rounded product and quotient by the two parts of each value: what they are, that they keep the order, and how large they get; and
 -- what a range test says of a value's size. Assumes nothing.
-use mathlib.Core.Path.{_≡_, refl, sym, ap, ap₂, _∙_, subst}
-use mathlib.Core.Logic.{_⊎_, inl, inr}
-use Prim.Native.Nat.{ℕ, zero, suc, _+_, _-_, _*_, _^_, _≤_, _<_, zero-le}
-use native.Mathlib.Nat.{add-comm, sub-le, le-refl, le-trans, le-of-eq, lt-of-le-of-lt, lt-of-lt-of-le, lt-irrefl, zero-mul, mul-zero, mul-one, add-mul, mul-sub, mul-comm, mul-assoc, mul-left-comm, mul-right-comm, mul-mul-mul-comm, mul-pos, mul-le-mul, mul-le-mul-right, mul-le-mul-left, eq-of-mul-eq-mul-right, zero-lt-suc}
+use mathlib.Core.Path.{_≡_, sym, ap, ap₂, _∙_}
+use Prim.Native.Nat.{ℕ, zero, suc, _+_, _*_, _^_, _≤_, _<_, zero-le}
+use native.Mathlib.Nat.{le-trans, le-of-eq, lt-of-lt-of-le, lt-irrefl, zero-mul, mul-zero, mul-comm, mul-assoc, mul-left-comm, mul-mul-mul-comm, mul-pos, mul-le-mul, mul-le-mul-right, mul-le-mul-left, eq-of-mul-eq-mul-right, zero-lt-suc}
 use native.Mathlib.Omega.{arith}
-use mathlib.Core.Bool.{Bool, true, false, not, _&&_, _||_, Bool·beq, cond}
-use lib.IntN.{ℤ}
-use lib.Dec.{T, ltb, eqb, ltb→lt, lt→ltb, nltb→le, eqb→eq, T-not, not-T, eqb·suc-zero}
-use lib.Pow.{pow-pos, pow-add, pow-lt}
-use lib.Ieee.{Float, nan, inf, fin, Format, prec, emax, low, up, down, unlike, round, neg, sum, add, sub, mul, div, fits}
-use lib.Ieee.Fits.{down-pos, up-pos, add-fits, sub-fits, mul-fits, div-fits, neg-fits}
-use lib.Ieee.Scale.{finite, overflow}
+use mathlib.Core.Bool.{Bool, true, false}
+use lib.Dec.{eqb·suc-zero}
+use lib.Pow.{pow-pos}
+use lib.Ieee.{Float, nan, inf, fin, Format, prec, low, up, down, unlike, round, mul, div}
+use lib.Ieee.Fits.{down-pos, up-pos, mul-fits, div-fits}
 use Rattle.doubles.specs.Size.{mag, sgn, Real, Within}
 use Rattle.doubles.specs.Order.{overPart, underPart, over, under, Le}
-use Rattle.doubles.proofs.Size.{Signed, exact, grid, grid-mono, grid-same, grid-zero, grid-le, round-signed, round-mag, finite-of-mag, whole-lt, mag-zero}
+use Rattle.doubles.proofs.Size.{exact, grid, grid-mono, grid-zero, mag-zero}
 use Rattle.doubles.proofs.Order.{cross-l, cross-r}
 use Rattle.doubles.proofs.Sums.{Rounds, round-over, round-under, plus, less, rounds-same, rounds-mono, rounds-within, parts-mag, over-le, under-le}
 
@@ -148,4 +145,3 @@ at-least f k c x h l = le-trans h (mul-le-mul-left k (l .rise))
 
 pub not-negative : (f : Format) (c x : Float) → under f c ≡ 0 → Le f c x → under f x ≡ 0
 not-negative f c x h l = let k = l .fall in omega arith
-

@@ -1,14 +1,13 @@
 -- Laws of a double's size: it is exact, rounding keeps its order, and what the format holds is not changed by rounding. Assumes nothing.
-use mathlib.Core.Path.{_≡_, refl, sym, ap, _∙_, subst}
+use mathlib.Core.Path.{_≡_, refl, sym, ap, _∙_}
 use mathlib.Core.Logic.{_⊎_, inl, inr}
 use Prim.Native.Nat.{ℕ, zero, suc, _+_, _-_, _*_, _/_, _%_, _^_, _≤_, _<_, zero-le}
-use native.Mathlib.Nat.{le-trans, le-of-eq, le-refl, le-of-lt, le-antisymm, lt-of-lt-of-le, mul-le-mul-right, le-of-suc-le-suc, lt-of-not-le, lt-irrefl, not-le-of-lt, lt-of-le-of-lt, zero-lt-suc, zero-mul, zero-div, mul-one, div-one, mul-comm, mul-assoc, mul-left-comm, mul-right-comm, mul-pos, mul-div-cancel, mul-lt-mul-of-pos-right, div-lt-iff-lt-mul}
-use native.Mathlib.Omega.{arith}
-use mathlib.Core.Bool.{Bool, true, false, not, _&&_, _||_, cond, true≢false}
+use native.Mathlib.Nat.{le-trans, le-of-eq, le-refl, le-of-lt, le-antisymm, lt-of-lt-of-le, mul-le-mul-right, le-of-suc-le-suc, lt-of-not-le, lt-irrefl, not-le-of-lt, lt-of-le-of-lt, zero-lt-suc, zero-mul, zero-div, mul-one, div-one, mul-comm, mul-assoc, mul-right-comm, mul-div-cancel, mul-lt-mul-of-pos-right, div-lt-iff-lt-mul}
+use mathlib.Core.Bool.{Bool, true, false, _&&_, _||_, cond, true≢false}
 use lib.IntN.{ℤ, pos, negsuc}
 use lib.Dec.{T, ltb, leb, eqb, ltb→lt, leb→le, eqb→eq, lit<}
 use lib.Pow.{pow-add, pow-pos, pow-lt}
-use lib.Ieee.{Float, nan, inf, fin, Format, binary32, binary64, prec, emax, low, up, down, size, odd, units, round, fits, le}
+use lib.Ieee.{Float, nan, inf, fin, Format, binary32, binary64, prec, emax, low, up, down, odd, units, round, fits, le}
 use lib.Ieee.Digits.{back}
 use lib.Ieee.Fits.{round-is, round-fits, down-pos, and-l, and-r}
 use lib.Ieee.Nearest.{div-mono}
@@ -16,7 +15,7 @@ use lib.Ieee.Scale.{finite, overflow}
 use lib.Ieee.Order.{round-mono}
 use lib.Ieee.Exact.{HasValue, round-exact}
 use lib.Ieee.Back.{round-whole}
-use Rattle.doubles.specs.Size.{sgn, mag, Real}
+use Rattle.doubles.specs.Size.{mag, Real}
 
 -- ---- what `fits` says of a value that is not zero
 fits-parts : (f : Format) (s : Bool) (m : ℕ) (e : ℤ) → T (fits f (fin s (suc m) e)) → (suc m < 2 ^ prec f) × (down e ≤ 2 ^ low f) × (suc m * up e < 2 ^ suc (emax f) * down e)

@@ -1,20 +1,18 @@
 -- The rounded sum, negative and difference by the two parts of each value: what they are, that they keep the order, and how large they get.
 -- Assumes nothing.
-use mathlib.Core.Path.{_≡_, refl, sym, ap, ap₂, _∙_, subst}
-use mathlib.Core.Logic.{_⊎_, inl, inr}
-use Prim.Native.Nat.{ℕ, zero, suc, _+_, _-_, _*_, _^_, _≤_, _<_, zero-le}
-use native.Mathlib.Nat.{add-comm, sub-le, le-refl, le-trans, le-of-eq, lt-of-le-of-lt, lt-of-lt-of-le, lt-irrefl, zero-mul, mul-zero, mul-one, add-mul, mul-sub, mul-comm, mul-assoc, mul-left-comm, mul-right-comm, mul-mul-mul-comm, mul-pos, mul-le-mul, mul-le-mul-right, mul-le-mul-left, eq-of-mul-eq-mul-right, zero-lt-suc}
+use mathlib.Core.Path.{_≡_, refl, sym, ap, ap₂, _∙_}
+use Prim.Native.Nat.{ℕ, _+_, _-_, _*_, _^_, _≤_, _<_, zero-le}
+use native.Mathlib.Nat.{le-refl, le-trans, le-of-eq, lt-of-le-of-lt, zero-mul, add-mul, mul-sub, mul-comm, mul-pos, mul-le-mul-right}
 use native.Mathlib.Omega.{arith}
-use mathlib.Core.Bool.{Bool, true, false, not, _&&_, _||_, Bool·beq, cond}
-use lib.IntN.{ℤ}
-use lib.Dec.{T, ltb, eqb, ltb→lt, lt→ltb, nltb→le, eqb→eq, T-not, not-T, eqb·suc-zero}
-use lib.Pow.{pow-pos, pow-add, pow-lt}
-use lib.Ieee.{Float, nan, inf, fin, Format, prec, emax, low, up, down, unlike, round, neg, sum, add, sub, mul, div, fits}
-use lib.Ieee.Fits.{down-pos, up-pos, add-fits, sub-fits, mul-fits, div-fits, neg-fits}
-use lib.Ieee.Scale.{finite, overflow}
+use mathlib.Core.Bool.{Bool, true, false, not, cond}
+use lib.Dec.{T, ltb, ltb→lt, nltb→le}
+use lib.Pow.{pow-pos}
+use lib.Ieee.{Float, nan, inf, fin, Format, prec, low, up, down, round, neg, sum, add, sub, fits}
+use lib.Ieee.Fits.{down-pos, add-fits, sub-fits, neg-fits}
+use lib.Ieee.Scale.{finite}
 use Rattle.doubles.specs.Size.{mag, sgn, Real, Within}
 use Rattle.doubles.specs.Order.{overPart, underPart, over, under, Le}
-use Rattle.doubles.proofs.Size.{Signed, exact, grid, grid-mono, grid-same, grid-zero, grid-le, round-signed, round-mag, finite-of-mag, whole-lt}
+use Rattle.doubles.proofs.Size.{Signed, grid, grid-mono, grid-same, grid-zero, grid-le, round-signed, round-mag, finite-of-mag, whole-lt}
 use Rattle.doubles.proofs.Order.{cross-l, cross-r}
 use Rattle.doubles.proofs.Sum.{sub-is}
 
@@ -206,4 +204,3 @@ sub-within f A B x y p q N =
     (omega (arith, over-le f x, under-le f y))
     (omega (arith, under-le f x, over-le f y))
     (sub-fits f x y) (sub-rounds f x y (p .real) (q .real))
-

@@ -27,8 +27,8 @@ module _ {A : Type 0} where
     size = simp length-append (omega (arith, w .size));
     splits = w .splits ∙ sym (append-assoc (w .written) (x ∷ []) left);
     is =
-      rw (w .is, drop-cons before k x h, set-at (w .written) (getD before k x) (drop (suc k) before) x k (w .size), add-one)
-      (sym (append-assoc (w .written) (x ∷ []) (drop (suc k) before)));
+        rw (w .is, drop-cons before k x h, set-at (w .written) (getD before k x) (drop (suc k) before) x k (w .size), add-one)
+        (sym (append-assoc (w .written) (x ∷ []) (drop (suc k) before)));
   }
 
   -- all is written: the rest is as it was
@@ -49,7 +49,7 @@ module _ {A : Type 0} where
 
   -- where the branches of a loop meet: one that wrote, and one that did not
   pub front-step : {before whole left rest : List A} {k k' : ℕ} {now now' : List A} {x : A} → Front before whole left k now → left ≡ x ∷ rest → k < length before
-    → now' ≡ set now k x → k' ≡ k + 1 → Front before whole rest k' now'
+      → now' ≡ set now k x → k' ≡ k + 1 → Front before whole rest k' now'
   front-step w split h e f = let v = rw split at w in rw (e, f) (front-more v h)
 
   pub front-same : {before whole left left' : List A} {k k' : ℕ} {now now' : List A} → Front before whole left k now → left ≡ left' → now' ≡ now → k' ≡ k → Front before whole left' k' now'

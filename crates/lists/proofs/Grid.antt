@@ -26,14 +26,14 @@ module _ {A : Type 0} {f : ℕ → ℕ → A} {d : A} {width size : ℕ} {t : Li
     sized = length-set t (rows * width + cells) v ∙ w .sized;
     above = λ row column k l. getD-set-other t (rows * width + cells) (row * width + column) v d (λ same. let end = row-end width k in omega arith) ∙ w .above row column k l;
     here = below-more (λ column. getD (set t (rows * width + cells) v) (rows * width + column) d ≡ f rows column) cells
-      (λ column k. getD-set-other t (rows * width + cells) (rows * width + column) v d (λ same. omega arith) ∙ w .here column k)
-      (getD-set-same t (rows * width + cells) v d (rw (w .sized) h) ∙ e);
+        (λ column k. getD-set-other t (rows * width + cells) (rows * width + column) v d (λ same. omega arith) ∙ w .here column k)
+        (getD-set-same t (rows * width + cells) v d (rw (w .sized) h) ∙ e);
   }
 
   pub grid-next : {rows cells : ℕ} → Grid f d width size rows cells t → width ≤ cells → Grid f d width size (rows + 1) 0 t
   grid-next {rows} {cells} w h = record {
     sized = w .sized;
     above = λ row column k l.
-      below-more (λ (r : ℕ). getD t (r * width + column) d ≡ f r column) rows (λ r b. w .above r column b l) (w .here column (omega arith)) row k;
+        below-more (λ (r : ℕ). getD t (r * width + column) d ≡ f r column) rows (λ r b. w .above r column b l) (w .here column (omega arith)) row k;
     here = λ column k. absurd (not-suc-le-zero k);
   }

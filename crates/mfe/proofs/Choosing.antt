@@ -19,7 +19,7 @@ pub record Kept (better : ℕ → ℕ → ℕ) (key : ℕ → Float) (row : List
   pub energy-is : energy ≡ key strand
 
 pub kept-first : (better : ℕ → ℕ → ℕ) (key : ℕ → Float) (row : List ℕ) (count : ℕ) {energy : Float} → 0 < count → count ≤ length row → energy ≡ key (getD row 0 0)
-  → Kept better key row count 1 (getD row 0 0) energy
+    → Kept better key row count 1 (getD row 0 0) energy
 unfolding pick
 kept-first better key row zero h l e = absurd (not-suc-le-zero h)
 kept-first better key [] (suc count) h l e = absurd (not-suc-le-zero l)
@@ -27,13 +27,13 @@ kept-first better key (x ∷ row) (suc count) h l e = record { picks = refl; ene
 
 -- one strand more, and the one kept of the two
 pub kept-more : {better : ℕ → ℕ → ℕ} {key : ℕ → Float} {row : List ℕ} {count k strand next : ℕ} {energy least : Float} → Kept better key row count k strand energy → k < count → count ≤ length row
-  → next ≡ better strand (getD row k 0) → least ≡ key next → Kept better key row count (k + 1) next least
+    → next ≡ better strand (getD row k 0) → least ≡ key next → Kept better key row count (k + 1) next least
 unfolding foldl
 kept-more {better} {key} {row} {count} {k} {strand} {next} w h l e f =
     record {
       picks =
-        let inside : k < length (take count row) = rw (length-take-le count row l) h in
-        w .picks ∙ rw (drop-cons (take count row) k 0 inside, getD-take count row k 0 h, e, add-one) refl;
+          let inside : k < length (take count row) = rw (length-take-le count row l) h in
+          w .picks ∙ rw (drop-cons (take count row) k 0 inside, getD-take count row k 0 h, e, add-one) refl;
       energy-is = f;
     }
 
@@ -60,7 +60,7 @@ some-key key (y ∷ row) (suc count) x h l = refl
 
 -- all were seen
 pub kept-chosen : {better : ℕ → ℕ → ℕ} {key : ℕ → Float} {row : List ℕ} {count k strand : ℕ} {energy : Float} → Kept better key row count k strand energy → count ≤ k → 0 < count → count ≤ length row
-  → Chosen key (take count row) (pick better (take count row)) (record { strand = strand; energy = energy })
+    → Chosen key (take count row) (pick better (take count row)) (record { strand = strand; energy = energy })
 unfolding foldl
 kept-chosen {better} {key} {row} {count} {k} {strand} {energy} w h n l =
     let past : length (take count row) ≤ k = rw (length-take-le count row l) h in
@@ -69,6 +69,6 @@ kept-chosen {better} {key} {row} {count} {k} {strand} {energy} w h n l =
 
 -- there was none
 pub none-chosen : (better : ℕ → ℕ → ℕ) (key : ℕ → Float) (row : List ℕ) (count : ℕ) → count ≡ 0
-  → Chosen key (take count row) (pick better (take count row)) (record { strand = 0; energy = Decimal.zero })
+    → Chosen key (take count row) (pick better (take count row)) (record { strand = 0; energy = Decimal.zero })
 unfolding pick keyOf
 none-chosen better key row count e = rw e (record { strand = refl; energy = refl })

@@ -32,7 +32,7 @@ written s p strand h =
     ∙ ap (λ (ys : List ℕ). strand ∷ ys) (drop-set-lt (suc p) s p strand (omega arith))
 
 pub rest-more : (left : ℕ → ℕ → ℕ) (n last position strand next : ℕ) (s : List ℕ) → 0 < position → position ≤ length s → Rest left n last position strand s
-  → next ≡ left (position - 1) strand → Rest left n last (position - 1) next (set s (position - 1) strand)
+    → next ≡ left (position - 1) strand → Rest left n last (position - 1) next (set s (position - 1) strand)
 unfolding traced
 rest-more left n last zero strand next s h l w e = absurd (lt-irrefl 0 h)
 rest-more left n last (suc zero) strand next s h l w e = written s 0 strand l ∙ w

@@ -46,8 +46,8 @@ module _ (m : Model) (count : ℕ) (left : List ℕ) (energies : List Float) (fe
 
   -- a friend
   pub friend-attaches : (i x : ℕ) (bond : ℕ → Float) → (x ≡ 0 → ⊥) → Left m i count left energies → ((k : ℕ) → k < count → bond (getD left k 0) ≡ m .pair (getD left k 0) x)
-    → ((key : ℕ → Float) → ((k : ℕ) → k < count → add binary64 (getD energies k nan) (bond (getD left k 0)) ≡ key (getD left k 0)) → Chosen key (take count left) (lastLeast key (take count left)) r)
-    → Attaches m i x r
+      → ((key : ℕ → Float) → ((k : ℕ) → k < count → add binary64 (getD energies k nan) (bond (getD left k 0)) ≡ key (getD left k 0)) → Chosen key (take count left) (lastLeast key (take count left)) r)
+      → Attaches m i x r
   friend-attaches zero x bond some w pairs chosen =
       attaches-first m x (λ _. Decimal.zero) (take count left) r (w .options) (chosen (λ _. Decimal.zero) (λ k h. absurd (none (w .options) k h)))
   friend-attaches (suc i) x bond some w pairs chosen =
@@ -59,13 +59,13 @@ module _ (m : Model) (count : ℕ) (left : List ℕ) (energies : List Float) (fe
 
   -- empty
   pub empty-attaches : (i : ℕ) → Left m i count left energies
-    → ((key : ℕ → Float) → ((k : ℕ) → k < count → getD energies k nan ≡ key (getD left k 0)) → Chosen key (take count left) (lastLeast key (take count left)) r) → Attaches m i 0 r
+      → ((key : ℕ → Float) → ((k : ℕ) → k < count → getD energies k nan ≡ key (getD left k 0)) → Chosen key (take count left) (lastLeast key (take count left)) r) → Attaches m i 0 r
   empty-attaches zero w chosen = attaches-first m 0 (λ _. Decimal.zero) (take count left) r (w .options) (chosen (λ _. Decimal.zero) (λ k h. absurd (none (w .options) k h)))
   empty-attaches (suc i) w chosen = attaches-next m i 0 (take count left) r (w .options) (chosen (compared m (optionsAt m) i 0) (w .entries))
 
 -- the energy of a friend's entry
 pub friend-entry : (m : Model) (i x : ℕ) {energy site potential : Float} → (x ≡ 0 → ⊥) → energy ≡ reached m (optionsAt m) i x → site ≡ m .site i x → potential ≡ m .potential x
-  → sub binary64 (add binary64 energy site) potential ≡ entry m (optionsAt m) i x
+    → sub binary64 (add binary64 energy site) potential ≡ entry m (optionsAt m) i x
 friend-entry m i x some e s p = rw (e, s, p, ne-eqb x 0 some) refl
 
 -- ---- rows that a loop fills

@@ -11,9 +11,9 @@ use Rattle.reply.specs.Number.{numberOf}
 use Rattle.reply.specs.First.{Check, firstOf, answer}
 use Rattle.model.specs.Search.{search}
 use Rattle.model.specs.Lowest.{LowestConfiguration}
-use Rattle.sdc1d.specs.Design.{Design, positions, modelOf}
-use Rattle.sdc1d.specs.Checks.{Admitted, designChecks}
-use Rattle.sdc1d.specs.Answers.{Figures, given, refused}
+use Rattle.design.specs.Design.{Design, positions, modelOf}
+use Rattle.design.specs.Checks.{Admitted, designChecks}
+use Rattle.design.specs.Answers.{Figures, given, refused}
 use Rattle.mfe.specs.declared.Settled.{Settled}
 
 -- the configuration is written into one lent entry for each position; no check has a number above 10

@@ -3,11 +3,13 @@ mod bonds;
 mod friends;
 mod matrix;
 
-use reply::{Place, Refusal, Reply};
-use units::{Ambient, KcalPerMol};
-
+use reply::Place;
+use reply::Refusal;
+use reply::Reply;
+use units::Ambient;
+use units::KcalPerMol;
 ghost use mathlib.Core.Path.{_≡_};
-ghost use Rattle.sdc1d.specs.Design.{lent};
+ghost use Rattle.design.specs.Design.{lent};
 ghost use Rattle.mfe.specs.Answers.{settledFigures, searchAnswer, searchEntries, LowestShown};
 
 pub enum Settled {
@@ -33,13 +35,22 @@ pub fn mfe_configuration(
     if configuration.len() != scaffold.len() {
         return Settled::Refused(Refusal::WrongSize, Place::Nowhere);
     }
-    match sdc1d::checks::design_reply(scaffold, glues, dg, ds, potentials, ambient) {
+    match design::checks::design_reply(scaffold, glues, dg, ds, potentials, ambient) {
         Reply::Refused(refusal) => Settled::Refused(refusal, Place::Nowhere),
         Reply::Admitted => {
-            let strand_bonds = bonds::strand_bonds(scaffold, glues, dg, ds, potentials, ambient);
-            let scaffold_bonds = bonds::scaffold_bonds(scaffold, glues, dg, ds, potentials, ambient);
+            let strands = potentials.len();
+            let strand_bonds = bonds::strand_bonds(glues, dg, ds, ambient, strands);
+            let scaffold_bonds = bonds::scaffold_bonds(scaffold, glues, dg, ds, ambient, strands);
             Settled::Energy(matrix::lowest(
-                scaffold, glues, dg, ds, potentials, ambient, &strand_bonds, &scaffold_bonds, configuration,
+                scaffold,
+                glues,
+                dg,
+                ds,
+                potentials,
+                ambient.rt,
+                &strand_bonds,
+                &scaffold_bonds,
+                configuration,
             ))
         }
     }

@@ -1,7 +1,8 @@
 // The entries of each position, and the configuration that is traced back through their left choices.
-use super::friends::{friends_btm, wide, Friends};
-use units::{Ambient, KcalPerMol};
-
+use super::friends::Friends;
+use super::friends::friends_btm;
+use super::friends::wide;
+use units::KcalPerMol;
 ghost use mathlib.Core.Path.{_≡_};
 ghost use Prim.Native.Nat.{ℕ, _+_, _*_, _<_, _≤_};
 ghost use lib.ListN.{length, getD, take};
@@ -9,7 +10,6 @@ ghost use lib.Ieee as Ieee;
 ghost use lib.Ieee.{Float, binary64, nan};
 ghost use Rattle.doubles.specs.Least.{lastLeast, firstLeast};
 ghost use Rattle.model.specs.Model.{Model};
-ghost use Rattle.sdc1d.specs.Design.{lent, positions, strands};
 ghost use Rattle.mfe.specs.Tables.{Searchable, Roomy, Cells, Tabled};
 ghost use Rattle.mfe.specs.Entries.{Chosen, Row, Occupied, Left, Values, LowValues, choiceIn, Low, tracedBack, Found};
 
@@ -56,7 +56,10 @@ fn best_energy_for_strand(
     ensures { λ r. ⌜ r .strand < strands ⌝ }
 {
     if count == 0 {
-        return Attached { strand: 0, energy: 0.0 };
+        return Attached {
+            strand: 0,
+            energy: 0.0,
+        };
     }
     let mut strand = left[0];
     let mut energy = energies[0] + strand_bond_at(strand_bonds, strands, strand, right);
@@ -64,8 +67,7 @@ fn best_energy_for_strand(
     while k < count {
         let next = left[k];
         let nenergy = energies[k] + strand_bond_at(strand_bonds, strands, next, right);
-        if energy < nenergy {
-        } else {
+        if energy < nenergy {} else {
             strand = next;
             energy = nenergy;
         }
@@ -82,7 +84,10 @@ fn best_energy_for_empty(left: &[u8], energies: &[f64], count: usize) -> Attache
     ensures { λ r. ⌜ r .strand < 64 ⌝ }
 {
     if count == 0 {
-        return Attached { strand: 0, energy: 0.0 };
+        return Attached {
+            strand: 0,
+            energy: 0.0,
+        };
     }
     let mut strand = left[0];
     let mut energy = energies[0];
@@ -90,8 +95,7 @@ fn best_energy_for_empty(left: &[u8], energies: &[f64], count: usize) -> Attache
     while k < count {
         let next = left[k];
         let nenergy = energies[k];
-        if energy < nenergy {
-        } else {
+        if energy < nenergy {} else {
             strand = next;
             energy = nenergy;
         }
@@ -108,7 +112,10 @@ fn lowest_product(last: &[u8], energies: &[f64], count: usize, rt: KcalPerMol) -
     ensures { λ r. ⌜ r .strand < 64 ⌝ }
 {
     if count == 0 {
-        return Attached { strand: 0, energy: 0.0 };
+        return Attached {
+            strand: 0,
+            energy: 0.0,
+        };
     }
     let mut strand = last[0];
     let mut energy = energies[0] * rt.0;
@@ -158,7 +165,11 @@ fn mfe_next_vector(
     }
     let best = best_energy_for_empty(left, energies, count);
     next[friend_count] = best.energy;
-    MfeValues { energies: next, choice, empty: best.strand }
+    MfeValues {
+        energies: next,
+        choice,
+        empty: best.strand,
+    }
 }
 
 // From the last position to the first: each occupant is the left choice of the one to its right.
@@ -188,15 +199,15 @@ pub(crate) fn lowest(
     dg: &[f64],
     ds: &[f64],
     potentials: &[f64],
-    ambient: Ambient,
+    rt: KcalPerMol,
     strand_bonds: &[f64],
     scaffold_bonds: &[f64],
     configuration: &mut [u8],
 ) -> KcalPerMol
-    requires { ⌜ Searchable (lent scaffold glues dg ds potentials ambient) ⌝ }
-    requires { ⌜ Roomy (strands (lent scaffold glues dg ds potentials ambient)) (positions (lent scaffold glues dg ds potentials ambient)) (now «strand_bonds») (now «scaffold_bonds») ⌝ }
-    requires { ⌜ length (now configuration) ≡ positions (lent scaffold glues dg ds potentials ambient) ⌝ }
-    ensures { λ r. ⌜ ((m : Model) → Tabled (lent (scaffold .entry) (glues .entry) (dg .entry) (ds .entry) (potentials .entry) ambient) (now («strand_bonds» .entry)) (now («scaffold_bonds» .entry)) m → Found m (now (configuration .exit)) (r .0)) ⌝ }
+    requires { ⌜ Searchable (now scaffold) (now glues) (now dg) (now ds) (length (now potentials)) ⌝ }
+    requires { ⌜ Roomy (length (now potentials)) (length (now scaffold)) (now «strand_bonds») (now «scaffold_bonds») ⌝ }
+    requires { ⌜ length (now configuration) ≡ length (now scaffold) ⌝ }
+    ensures { λ r. ⌜ ((m : Model) → Tabled (now (scaffold .entry)) (now (glues .entry)) (now (dg .entry)) (now (ds .entry)) (now (potentials .entry)) (rt .0) (now («strand_bonds» .entry)) (now («scaffold_bonds» .entry)) m → Found m (now (configuration .exit)) (r .0)) ⌝ }
 {
     let mut choice = [[0u8; 64]; 128];
     let mut empty = [0u8; 128];
@@ -205,9 +216,16 @@ pub(crate) fn lowest(
     let mut count = 0;
     let mut position = 0;
     while position < scaffold.len() {
-        let friends = friends_btm(scaffold, glues, dg, ds, potentials, ambient, position);
+        let friends = friends_btm(scaffold[position], glues, dg, ds, potentials.len());
         let next = mfe_next_vector(
-            strand_bonds, scaffold_bonds, potentials, position, &left, &energies, count, friends,
+            strand_bonds,
+            scaffold_bonds,
+            potentials,
+            position,
+            &left,
+            &energies,
+            count,
+            friends,
         );
         let friend_choice = next.choice;
         choice[position] = friend_choice;
@@ -217,7 +235,7 @@ pub(crate) fn lowest(
         count = friends.count + 1;
         position += 1;
     }
-    let last = lowest_product(&left, &energies, count, ambient.rt);
+    let last = lowest_product(&left, &energies, count, rt);
     trace(choice, empty, last.strand, configuration);
     KcalPerMol(last.energy)
 }

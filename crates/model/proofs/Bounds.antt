@@ -1,5 +1,5 @@
 -- Of every state of a bounded model both sums are finite at each step, and so are their products with RT. Assumes nothing.
-use mathlib.Core.Path.{_≡_, refl, sym, ap, _∙_, subst}
+use mathlib.Core.Path.{_≡_, sym, _∙_, subst}
 use mathlib.Core.Logic.{_⊎_, inl, inr}
 use mathlib.Core.Bool.{Bool, true, false, cond}
 use mathlib.Core.List.{List, [], _∷_, _++_}
@@ -10,7 +10,7 @@ use native.Mathlib.Omega.{arith}
 use lib.Dec.{eqb, lit≤}
 use lib.ListN.{length, getD, take, length-append, length-take}
 use lib.Ieee.{Float, binary64, prec, mul, neg}
-use borrow.Author.Tests.{eq-eqb, eqb-true, eqb-false}
+use borrow.Author.Tests.{eq-eqb}
 use Rattle.lists.specs.Each.{Each}
 use Rattle.lists.proofs.Each.{each-append, each-take}
 use Rattle.doubles.specs.Decimal as Decimal
@@ -19,7 +19,7 @@ use Rattle.doubles.specs.Size.{Within, negativeZero}
 use Rattle.doubles.proofs.Sums.{weaken}
 use Rattle.doubles.proofs.Products.{mul-within}
 use Rattle.doubles.proofs.Bounds.{neg-within, zero-within, zero-not, sum-within, sum-not, rt-range}
-use Rattle.model.specs.Model.{Model, State, Friend, positions}
+use Rattle.model.specs.Model.{Model, State, Friend}
 use Rattle.model.specs.Energy.{ifOccupied, toRight, statePlace, stateTerms, fromLeft, chainPlace, chainTerms}
 use Rattle.model.specs.Bounds.{Bounded, Finite}
 
@@ -30,11 +30,10 @@ Occupants m i (x ∷ s) = ((x ≡ 0) ⊎ Friend m i x) × Occupants m (suc i) s
 
 occupants-from : (m : Model) (i : ℕ) (s : List ℕ) → ((k : ℕ) → k < length s → (getD s k 0 ≡ 0) ⊎ Friend m (i + k) (getD s k 0)) → Occupants m i s
 occupants-from m i [] h = tt
-occupants-from m i (x ∷ s) h =
-    (
-      subst (λ (j : ℕ). (x ≡ 0) ⊎ Friend m j x) (add-zero i) (h 0 (omega arith)),
-      occupants-from m (suc i) s (λ k l. subst (λ (j : ℕ). (getD s k 0 ≡ 0) ⊎ Friend m j (getD s k 0)) (add-suc i k ∙ sym (suc-add i k)) (h (suc k) (omega arith))),
-    )
+occupants-from m i (x ∷ s) h = (
+  subst (λ (j : ℕ). (x ≡ 0) ⊎ Friend m j x) (add-zero i) (h 0 (omega arith)),
+  occupants-from m (suc i) s (λ k l. subst (λ (j : ℕ). (getD s k 0 ≡ 0) ⊎ Friend m j (getD s k 0)) (add-suc i k ∙ sym (suc-add i k)) (h (suc k) (omega arith))),
+)
 
 abbrev Small : List Float → Type 0
 Small terms = Each (Within binary64 80000) terms

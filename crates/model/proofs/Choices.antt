@@ -3,8 +3,8 @@
 use mathlib.Core.Path.{_≡_, refl, sym, ap, ap₂, _∙_}
 use mathlib.Core.Logic.{_⊎_, inl, inr}
 use mathlib.Core.List.{List, [], _∷_, _++_, map, List·Memᴰ, List·Memᴰ·head, List·Memᴰ·tail, List·Memᴰ·not-nil, List·Memᴰ·cases-cons, List·Memᴰ·append-cases, Memᴰ·append-left, Memᴰ·append-right, head-eq-of-cons-eq, tail-eq-of-cons-eq, nil≢cons}
-use Prim.Native.Nat.{ℕ, zero, suc, _+_, _-_, _*_, _/_, _%_, _<_, _≤_}
-use native.Mathlib.Nat.{not-suc-le-zero, zero-mul, mul-zero, suc-mul, mul-comm, le-of-suc-le-suc, div-eq-of-lt, mod-eq-of-lt, add-div-left, add-mod-left, mod-lt, div-lt-iff-lt-mul, div-add-mod', add-comm}
+use Prim.Native.Nat.{ℕ, zero, suc, _+_, _-_, _*_, _/_, _%_, _<_}
+use native.Mathlib.Nat.{not-suc-le-zero, zero-mul, mul-zero, suc-mul, le-of-suc-le-suc, div-eq-of-lt, mod-eq-of-lt, add-div-left, add-mod-left, mod-lt, div-lt-iff-lt-mul, div-add-mod', add-comm}
 use native.Mathlib.Decide.{decLt}
 use native.Mathlib.Omega.{arith}
 use native.Mathlib.Numerals.{add-one}
@@ -40,7 +40,7 @@ positive zero q k l = absurd (not-suc-le-zero (rw (mul-zero q) at l))
 positive (suc n) q k l = omega arith
 
 eachBefore-at : (heads : List ℕ) (tails : List (List ℕ)) (n r : ℕ) → length tails ≡ n → r < length heads * n
-  → getD (eachBefore heads tails) r [] ≡ getD heads (r / n) 0 ∷ getD tails (r % n) []
+    → getD (eachBefore heads tails) r [] ≡ getD heads (r / n) 0 ∷ getD tails (r % n) []
 unfolding eachBefore
 eachBefore-at [] tails n r e h = absurd (not-suc-le-zero (rw zero-mul at h))
 eachBefore-at (x ∷ heads) tails n r e h = go (decLt r n) (λ k l. eachBefore-at heads tails n k e l)
@@ -49,7 +49,7 @@ eachBefore-at (x ∷ heads) tails n r e h = go (decLt r n) (λ k l. eachBefore-a
     front = length-map tails (x ∷_) ∙ e
 
     go : Dec (r < n) → ((k : ℕ) → k < length heads * n → getD (eachBefore heads tails) k [] ≡ getD heads (k / n) 0 ∷ getD tails (k % n) [])
-      → getD (map (x ∷_) tails ++ eachBefore heads tails) r [] ≡ getD (x ∷ heads) (r / n) 0 ∷ getD tails (r % n) []
+        → getD (map (x ∷_) tails ++ eachBefore heads tails) r [] ≡ getD (x ∷ heads) (r / n) 0 ∷ getD tails (r % n) []
     go (yes l) rest =
         let m : r < length (map (x ∷_) tails) = omega (arith, front) in
         let t : r < length tails = omega arith in
@@ -57,7 +57,7 @@ eachBefore-at (x ∷ heads) tails n r e h = go (decLt r n) (λ k l. eachBefore-a
     go (no l) rest = later (r - n) (omega arith) (rest (r - n) (omega (arith, rw suc-mul at h)))
       where
         later : (k : ℕ) → r ≡ n + k → getD (eachBefore heads tails) k [] ≡ getD heads (k / n) 0 ∷ getD tails (k % n) []
-          → getD (map (x ∷_) tails ++ eachBefore heads tails) r [] ≡ getD (x ∷ heads) (r / n) 0 ∷ getD tails (r % n) []
+            → getD (map (x ∷_) tails ++ eachBefore heads tails) r [] ≡ getD (x ∷ heads) (r / n) 0 ∷ getD tails (r % n) []
         later k is back =
             let p : 0 < n = positive n (suc (length heads)) r h in
             rw (is, add-div-left k p, add-one, add-mod-left n k)
@@ -104,19 +104,19 @@ of-map-cons x {s} {tails = []} m = absurd (List·Memᴰ·not-nil m)
 of-map-cons x {s} {tails = t ∷ tails} m = go (List·Memᴰ·cases-cons m) (λ l. of-map-cons x {s = s} {tails = tails} l)
   where
     go : (s ≡ x ∷ t) ⊎ List·Memᴰ s (map (x ∷_) tails) → (List·Memᴰ s (map (x ∷_) tails) → (r : List ℕ) × (s ≡ x ∷ r) × List·Memᴰ r tails)
-      → (r : List ℕ) × (s ≡ x ∷ r) × List·Memᴰ r (t ∷ tails)
+        → (r : List ℕ) × (s ≡ x ∷ r) × List·Memᴰ r (t ∷ tails)
     go (inl e) rest = (t, e, List·Memᴰ·head refl)
     go (inr l) rest = let w = rest l in (w .0, w .1, List·Memᴰ·tail (w .2))
 
 of-eachBefore : (heads : List ℕ) (tails : List (List ℕ)) {s : List ℕ} → List·Memᴰ s (eachBefore heads tails)
-  → (x : ℕ) × (t : List ℕ) × (s ≡ x ∷ t) × List·Memᴰ x heads × List·Memᴰ t tails
+    → (x : ℕ) × (t : List ℕ) × (s ≡ x ∷ t) × List·Memᴰ x heads × List·Memᴰ t tails
 unfolding eachBefore
 of-eachBefore [] tails m = absurd (List·Memᴰ·not-nil m)
 of-eachBefore (x ∷ heads) tails {s} m = go (List·Memᴰ·append-cases (map (x ∷_) tails) m) (λ l. of-eachBefore heads tails l)
   where
     go : List·Memᴰ s (map (x ∷_) tails) ⊎ List·Memᴰ s (eachBefore heads tails)
-      → (List·Memᴰ s (eachBefore heads tails) → (y : ℕ) × (t : List ℕ) × (s ≡ y ∷ t) × List·Memᴰ y heads × List·Memᴰ t tails)
-      → (y : ℕ) × (t : List ℕ) × (s ≡ y ∷ t) × List·Memᴰ y (x ∷ heads) × List·Memᴰ t tails
+        → (List·Memᴰ s (eachBefore heads tails) → (y : ℕ) × (t : List ℕ) × (s ≡ y ∷ t) × List·Memᴰ y heads × List·Memᴰ t tails)
+        → (y : ℕ) × (t : List ℕ) × (s ≡ y ∷ t) × List·Memᴰ y (x ∷ heads) × List·Memᴰ t tails
     go (inl l) rest = let w = of-map-cons x l in (x, w .0, w .1, List·Memᴰ·head refl, w .2)
     go (inr l) rest = let w = rest l in (w .0, w .1, w .2, List·Memᴰ·tail (w .3), w .4)
 
@@ -130,8 +130,7 @@ listing-only [] (x ∷ s) m = go (List·Memᴰ·cases-cons m)
     go (inr l) = List·Memᴰ·not-nil l
 listing-only (here ∷ later) [] m = nil≢cons (of-eachBefore here (listing later) m .2)
 listing-only (here ∷ later) (x ∷ s) m =
-    let w = of-eachBefore here (listing later) m in
-    (
+    let w = of-eachBefore here (listing later) m in (
       rw (head-eq-of-cons-eq (w .2)) (w .3),
       listing-only later s (rw (tail-eq-of-cons-eq (w .2)) (w .4)),
     )

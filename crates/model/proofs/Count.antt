@@ -1,6 +1,6 @@
 -- The number of states: that of the listing's choices, and as a loop over the positions multiplies it. Assumes nothing.
 use mathlib.Core.Path.{_≡_, refl, sym, ap, ap₂, _∙_}
-use mathlib.Core.List.{List, [], _∷_, _++_, map}
+use mathlib.Core.List.{List, [], _∷_, map}
 use Prim.Native.Nat.{ℕ, zero, suc, _+_, _*_, _/_, _%_, _<_, _≤_, min}
 use native.Mathlib.Nat.{mul-pos, mul-assoc, mul-one, mul-le-mul-left, mul-div-cancel-left, zero-lt-suc, le-trans, le-of-eq}
 use native.Mathlib.Decide.{decLe}
@@ -66,6 +66,6 @@ option-or-empty (x ∷ friends) zero = refl
 option-or-empty (x ∷ friends) (suc k) = option-or-empty friends k
 
 pub choiceAt-more : (here : List ℕ) (later : List (List ℕ)) (rank : ℕ)
-  → choiceAt (map optionsOf (here ∷ later)) rank ≡ getD here (rank / ways later) 0 ∷ choiceAt (map optionsOf later) (rank % ways later)
+    → choiceAt (map optionsOf (here ∷ later)) rank ≡ getD here (rank / ways later) 0 ∷ choiceAt (map optionsOf later) (rank % ways later)
 unfolding choiceAt
 choiceAt-more here later rank = rw (choices-ways later) (ap (λ (x : ℕ). x ∷ choiceAt (map optionsOf later) (rank % ways later)) (option-or-empty here (rank / ways later)))

@@ -2,16 +2,15 @@
 -- are exactly the states, and none stands twice where friends are in order. Assumes nothing.
 use mathlib.Core.Path.{_≡_, refl, sym, ap, _∙_}
 use mathlib.Core.Logic.{_⊎_, inl, inr}
-use mathlib.Core.List.{List, [], _∷_, _++_, map, List·Memᴰ, List·Memᴰ·head, List·Memᴰ·tail, List·Memᴰ·append-cases, List·Memᴰ·eq-of-singleton, Memᴰ·append-left, Memᴰ·append-right}
-use Prim.Native.Nat.{ℕ, zero, suc, _+_, _<_, _≤_}
+use mathlib.Core.List.{List, [], _∷_, map, List·Memᴰ, List·Memᴰ·head, List·Memᴰ·tail, List·Memᴰ·append-cases, List·Memᴰ·eq-of-singleton, Memᴰ·append-left, Memᴰ·append-right}
+use Prim.Native.Nat.{ℕ, zero, suc, _+_, _<_}
 use native.Mathlib.Nat.{not-suc-le-zero, le-of-suc-le-suc, suc-inj}
 use native.Mathlib.Decide.{decLt}
 use native.Mathlib.Omega.{arith}
 use lib.ListN.{length, getD, length-append, List·getD-eq-default}
 use Rattle.lists.specs.Order.{Rising, Distinct}
-use Rattle.model.specs.Model.{Model, State, Friend, optionsOf, options}
-use Rattle.model.specs.States.{listing, choices, count}
-use Rattle.model.specs.Listed.{Ordered, Listed}
+use Rattle.model.specs.Model.{Model, optionsOf, options}
+use Rattle.model.specs.Listed.{Listed}
 use Rattle.model.proofs.Count.{count-choices, option-or-empty}
 use Rattle.model.proofs.Choices.{length-listing, listing-at, Chosen, listing-all, listing-only, AllDistinct, listing-once}
 
@@ -95,7 +94,7 @@ listed m =
       ranked = λ rank h. listing-at (options m) rank (rw (count-choices m) h);
       all = λ s w. listing-all (options m) s (chosen (m .friends) s (w .places) (w .occupants));
       only = λ s l.
-        let c = listing-only (options m) s l in
-        record { places = length-chosen (m .friends) s c; occupants = occupied (m .friends) s c };
+          let c = listing-only (options m) s l in
+          record { places = length-chosen (m .friends) s c; occupants = occupied (m .friends) s c };
       once = λ o. listing-once (options m) (all-once (m .friends) (o .rising) (o .not-null));
     }

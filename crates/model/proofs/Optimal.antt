@@ -48,7 +48,7 @@ module _ (m : Model) (n : ℕ) (b : Bounded m n) where
         go false = add-within binary64 A 80000 s (m .pair left x) w (b .pairs left x l (below i x o)) (omega arith)
 
     pub join-mono : (i x left : ℕ) (s r : Float) → Occupant i x → left < n → Within binary64 A s → Within binary64 A r → Le binary64 s r
-      → Le binary64 (joined m x left s) (joined m x left r)
+        → Le binary64 (joined m x left s) (joined m x left r)
     join-mono i x left s r o l v w h = go (eqb x 0)
       where
         p : Real binary64 (m .pair left x)
@@ -80,7 +80,7 @@ module _ (m : Model) (n : ℕ) (b : Bounded m n) where
         q = b .sites i x f .real
 
         go : (t : Bool)
-          → Le binary64 (cond t s (sub binary64 (add binary64 s (m .site i x)) (m .potential x))) (cond t r (sub binary64 (add binary64 r (m .site i x)) (m .potential x)))
+            → Le binary64 (cond t s (sub binary64 (add binary64 s (m .site i x)) (m .potential x))) (cond t r (sub binary64 (add binary64 r (m .site i x)) (m .potential x)))
         go true = h
         go false =
             sub-mono binary64 _ _ _ _ (bonded i x s f v .real) (bonded i x r f w .real) p p
@@ -105,7 +105,7 @@ module _ (m : Model) (n : ℕ) (b : Bounded m n) (options : ℕ → List ℕ) (o
 
   -- the left choice is an option, and the least of those compared
   picked : (i x : ℕ) → suc i < 128 → List·Memᴰ x (options (suc i)) → ((left : ℕ) → List·Memᴰ left (options i) → Sum i (entry m options i left))
-    → Least binary64 (compared m options i x) (options i) (lastLeast (compared m options i x) (options i))
+      → Least binary64 (compared m options i x) (options i) (lastLeast (compared m options i x) (options i))
   picked i x h o sums =
       pick-least binary64 (compared m options i x) (orLater (compared m options i x)) (later-better binary64 (compared m options i x)) (options i) (some i)
       (λ left l. join-sum i x left (entry m options i left) h o l (sums left l) .real)
@@ -194,10 +194,10 @@ module _ (m : Model) (n : ℕ) (b : Bounded m n) (options : ℕ → List ℕ) (o
     unfolding searchOver
     search-optimal = record {
       inside = λ i h.
-        traced-options (leftChoice m options) options last (λ j x l o. choice-option j x (omega arith) o) last (lastStrand m options ending last) [] (le-refl last) (chosen .member) i h;
+          traced-options (leftChoice m options) options last (λ j x l o. choice-option j x (omega arith) o) last (lastStrand m options ending last) [] (le-refl last) (chosen .member) i h;
       energy = sym (ap (ending (occupant shown last)) scored ∙ ap (λ (x : ℕ). ending x (entry m options last (lastStrand m options ending last))) ends);
       least = λ σ o.
-        let x = σ last in
-        let k = o last (le-refl last) in
-        Le-trans (chosen .least x k) (ending-mono x _ _ k (entry-sum last x short k) (score-sum σ last short o) (entry-least σ last short o));
+          let x = σ last in
+          let k = o last (le-refl last) in
+          Le-trans (chosen .least x k) (ending-mono x _ _ k (entry-sum last x short k) (score-sum σ last short o) (entry-least σ last short o));
     }

@@ -56,7 +56,7 @@ module _ (m : Model) (i x : ℕ) (s : Float) where
   place-next left = go (eqb x 0)
     where
       go : (t : Bool)
-        → sumFrom s (cond t [] (m .pair left x ∷ m .site i x ∷ neg (m .potential x) ∷ []))
+          → sumFrom s (cond t [] (m .pair left x ∷ m .site i x ∷ neg (m .potential x) ∷ []))
           ≡ cond t (cond t s (add binary64 s (m .pair left x))) (sub binary64 (add binary64 (cond t s (add binary64 s (m .pair left x))) (m .site i x)) (m .potential x))
       go true = refl
       go false = sym (sub-is binary64 (add binary64 (add binary64 s (m .pair left x)) (m .site i x)) (m .potential x))
@@ -205,7 +205,7 @@ module _ (m : Model) (n : ℕ) (b : Bounded m n) where
     }
 
   over-positions : (k : ℕ) → positions m ≡ k
-    → LowestConfiguration m (searchOver m (optionsAt m) (timesRt m) k .configuration) (searchOver m (optionsAt m) (timesRt m) k .energy)
+      → LowestConfiguration m (searchOver m (optionsAt m) (timesRt m) k .configuration) (searchOver m (optionsAt m) (timesRt m) k .energy)
   over-positions zero e = unfold searchOver in of-none e
   over-positions (suc last) e = of-some last e
 

@@ -1,6 +1,6 @@
 -- Both sums as a loop over the positions makes them: the places from a position on are that place, and those after it. Assumes nothing.
-use mathlib.Core.Path.{_≡_, refl, ap, _∙_}
-use mathlib.Core.List.{List, [], _∷_, _++_}
+use mathlib.Core.Path.{_≡_, refl}
+use mathlib.Core.List.{List, [], _∷_}
 use mathlib.Core.Option.{Option, none, some}
 use Prim.Native.Nat.{ℕ, zero, suc, _+_, _-_, _<_, _≤_}
 use native.Mathlib.Numerals.{add-one, sub-one}
@@ -15,7 +15,7 @@ use Rattle.model.specs.Energy.{statePlace, stateTerms, leftOf, chainPlac
 
 module _ (m : Model) (s : List ℕ) (sum : Float) (i : ℕ) where
   pub state-more : i < length s
-    → sumFrom sum (stateTerms m i (drop i s)) ≡ sumFrom (sumFrom sum (statePlace m i (occupant s i) (drop (i + 1) s))) (stateTerms m (i + 1) (drop (i + 1) s))
+      → sumFrom sum (stateTerms m i (drop i s)) ≡ sumFrom (sumFrom sum (statePlace m i (occupant s i) (drop (i + 1) s))) (stateTerms m (i + 1) (drop (i + 1) s))
   unfolding stateTerms
   state-more h = rw (add-one, drop-cons s i 0 h) (sum-append sum (statePlace m i (getD s i 0) (drop (suc i) s)) (stateTerms m (suc i) (drop (suc i) s)))
 
@@ -24,7 +24,7 @@ module _ (m : Model) (s : List ℕ) (sum : Float) (i : ℕ) where
   state-done h = rw (drop-of-length-le s h)
 
   pub chain-more : i < length s
-    → sumFrom sum (chainTerms m i (leftOf s i) (drop i s)) ≡ sumFrom (sumFrom sum (chainPlace m i (leftOf s i) (occupant s i))) (chainTerms m (i + 1) (leftOf s (i + 1)) (drop (i + 1) s))
+      → sumFrom sum (chainTerms m i (leftOf s i) (drop i s)) ≡ sumFrom (sumFrom sum (chainPlace m i (leftOf s i) (occupant s i))) (chainTerms m (i + 1) (leftOf s (i + 1)) (drop (i + 1) s))
   unfolding chainTerms
   chain-more h = rw (add-one, drop-cons s i 0 h) (sum-append sum (chainPlace m i (leftOf s i) (getD s i 0)) (chainTerms m (suc i) (leftOf s (suc i)) (drop (suc i) s)))
 
@@ -42,7 +42,7 @@ module _ (m : Model) (i : ℕ) (sum : Float) {x : ℕ} where
   module _ (occupied : x ≡ 0 → ⊥) {site potential : Float} (s : site ≡ m .site i x) (p : potential ≡ m .potential x) where
     -- with a right neighbour
     pub place-joined : {y : ℕ} {rest right : List ℕ} {pair : Float} → pair ≡ m .pair x y → right ≡ y ∷ rest
-      → sub binary64 (add binary64 (add binary64 sum site) pair) potential ≡ sumFrom sum (statePlace m i x right)
+        → sub binary64 (add binary64 (add binary64 sum site) pair) potential ≡ sumFrom sum (statePlace m i x right)
     unfolding sumFrom
     place-joined e f = rw (s, p, e, f, sub-is) (simp (ne-eqb x 0 occupied))
 
@@ -59,7 +59,7 @@ module _ (m : Model) (i : ℕ) (sum : Float) {x : ℕ} where
   module _ (occupied : x ≡ 0 → ⊥) {site potential : Float} (s : site ≡ m .site i x) (p : potential ≡ m .potential x) where
     -- with a left neighbour
     pub chain-joined : {y : ℕ} {left : Option ℕ} {pair : Float} → pair ≡ m .pair y x → left ≡ some y
-      → sub binary64 (add binary64 (add binary64 sum pair) site) potential ≡ sumFrom sum (chainPlace m i left x)
+        → sub binary64 (add binary64 (add binary64 sum pair) site) potential ≡ sumFrom sum (chainPlace m i left x)
     unfolding sumFrom
     chain-joined e f = rw (s, p, e, f, sub-is) (simp (ne-eqb x 0 occupied))
 

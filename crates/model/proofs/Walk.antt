@@ -74,6 +74,6 @@ module _ (f : Format) (energy : List ℕ → Float) where
 
   -- through a listing, from its first state
   pub walk-ends : (states : List (List ℕ)) → 0 < length states → ((s : List ℕ) → List·Memᴰ s states → Real f (energy s))
-    → Ends states (foldl (lesser energy) (energy (getD states 0 [])) (drop 1 states))
+      → Ends states (foldl (lesser energy) (energy (getD states 0 [])) (drop 1 states))
   walk-ends [] h q = absurd (not-suc-le-zero h)
   walk-ends (s ∷ states) h q = ends-from s states (q s (List·Memᴰ·head refl)) (λ t m. q t (List·Memᴰ·tail m))

@@ -1,6 +1,6 @@
 -- Both energies of a configuration, each the left-to-right sum of a list of terms, and the walk through all states.
 -- Subtracting a double is adding it with its sign turned: `lib.Ieee` defines `sub` so.
-use mathlib.Core.Bool.{Bool, cond}
+use mathlib.Core.Bool.{cond}
 use mathlib.Core.List.{List, [], _∷_, _++_}
 use mathlib.Core.Option.{Option, none, some}
 use Prim.Native.Nat.{ℕ, zero, suc}

@@ -1,7 +1,6 @@
 -- What a count that is held just past the limit says of the number of states, and a search for strangers of a configuration.
 -- Assumes nothing.
-use mathlib.Core.Path.{_≡_, refl, sym, ap, _∙_}
-use mathlib.Core.Logic.{_⊎_, inl, inr}
+use mathlib.Core.Path.{_≡_, refl}
 use mathlib.Core.Bool.{Bool, true, false, not, _&&_}
 use mathlib.Core.List.{List}
 use Prim.Native.Nat.{ℕ, _<_, _≤_, min}
@@ -13,9 +12,9 @@ use Rattle.lists.specs.Build.{upTo}
 use Rattle.lists.specs.Find.{firstIndex}
 use Rattle.lists.proofs.Build.{length-tabulate}
 use Rattle.lists.proofs.Any.{none-below, found, not-found}
-use Rattle.sdc1d.specs.Design.{Design, positions, strands, isFriend}
-use Rattle.sdc1d.specs.Checks.{noFriend, stranger, strangers}
-use Rattle.sdc1d.specs.Sized.{Sized, Placed}
+use Rattle.design.specs.Design.{Design, positions, strands, isFriend}
+use Rattle.design.specs.Checks.{stranger, strangers}
+use Rattle.design.specs.Sized.{Sized, Placed}
 
 module _ (n : ℕ) {r : ℕ} (held : r ≡ min n 1048577) where
   pub too-many : 1048576 < r → ltb 1048576 n ≡ true

@@ -1,6 +1,1 @@
-pub mod Design
-pub mod Checks
-pub mod Answers
-pub mod Sized
-pub mod Laws
-pub mod Bench
+pub mod Figures

@@ -12,13 +12,12 @@ use borrow.Author.Tests.{eq-eqb, ne-eqb}
 use Rattle.doubles.specs.Decimal.{zero}
 use Rattle.reply.specs.declared.Refusal.the-variants.{WrongSize}
 use Rattle.model.specs.Search as Search
-use Rattle.sdc1d.specs.Design.{Design, lent, positions, modelOf}
-use Rattle.sdc1d.specs.Checks.{Admitted}
-use Rattle.sdc1d.specs.Answers.{given}
-use Rattle.sdc1d.specs.Laws.{Doubles}
-use Rattle.sdc1d.proofs.Sizes.{sized}
-use Rattle.sdc1d.proofs.Replies.{admitted, own-size, design-refused, design-admitted, answered, turned-down, entries-written, entries-kept}
-use Rattle.mfe.proofs.Shown.{not-admitted, searchable, roomy, tabled, lowest-shown}
+use Rattle.design.specs.Design.{Design, lent, positions, modelOf}
+use Rattle.design.specs.Checks.{Admitted}
+use Rattle.design.specs.Answers.{given}
+use Rattle.design.specs.Laws.{Doubles}
+use Rattle.design.proofs.Replies.{admitted, own-size, design-refused, design-admitted, answered, turned-down, entries-written, entries-kept}
+use Rattle.mfe.proofs.Shown.{not-admitted, few, short, searchable, roomy, tabled, lowest-shown}
 use Rattle.mfe.proofs.mfe_configuration.Statement.{statement}
 use Rattle.mfe.proofs.mfe_configuration.Tie as tie
 
@@ -32,8 +31,7 @@ returns c =
     let d : Design = lent (a .scaffold) (a .glues) (a .dg) (a .ds) (a .potentials) (a .ambient) in
     let e = a .configuration .now in
     let wrong : ownSize d e ≡ true = ap not (ne-eqb _ _ (c .if1 .taken)) in
-    let reply = own-size d (ownSize d e) [] wrong in
-    (
+    let reply = own-size d (ownSize d e) [] wrong in (
       turned-down zero (Search.search (modelOf d) .energy) WrongSize reply,
       (entries-kept e (Search.search (modelOf d) .configuration) WrongSize reply, λ _ same. absurd (c .if1 .taken same)),
     )
@@ -51,13 +49,14 @@ strand-bonds-requires : tie.Need-strand-bonds-requires
 strand-bonds-requires c κs =
     let a = c .before .before .before .before .before .before .before .before .before .before .args in
     let d : Design = lent (a .scaffold) (a .glues) (a .dg) (a .ds) (a .potentials) (a .ambient) in
-    sized d (admitted d (sym (c .before .before .design-reply .ensures) ∙ c .enum-told .given .1) .sizes)
+    few d (admitted d (sym (c .before .before .design-reply .ensures) ∙ c .enum-told .given .1))
 
 scaffold-bonds-requires : tie.Need-scaffold-bonds-requires
 scaffold-bonds-requires c κs =
     let a = c .before .before .before .before .before .before .before .before .before .before .before .args in
     let d : Design = lent (a .scaffold) (a .glues) (a .dg) (a .ds) (a .potentials) (a .ambient) in
-    sized d (admitted d (sym (c .before .before .before .design-reply .ensures) ∙ c .before .enum-told .given .1) .sizes)
+    let w = admitted d (sym (c .before .before .before .design-reply .ensures) ∙ c .before .enum-told .given .1) in
+    (few d w, short d w)
 
 slice-aggregate-lowest : tie.Need-slice-aggregate-lowest
 slice-aggregate-lowest c = search needs
@@ -78,8 +77,7 @@ returns-2 c =
     let d : Design = lent (a .scaffold) (a .glues) (a .dg) (a .ds) (a .potentials) (a .ambient) in
     let e = a .configuration .now in
     let refused = sym (c .before .before .before .design-reply .ensures) ∙ c .before .refusal .given .1 in
-    let reply = design-refused d (ownSize d e) [] (ap not (eq-eqb _ _ (c .before .before .before .before .if1 .left))) refused in
-    (
+    let reply = design-refused d (ownSize d e) [] (ap not (eq-eqb _ _ (c .before .before .before .before .if1 .left))) refused in (
       turned-down zero (Search.search (modelOf d) .energy) _ reply,
       (entries-kept e (Search.search (modelOf d) .configuration) _ reply, λ w _. absurd (not-admitted d refused w)),
     )
@@ -98,18 +96,17 @@ returns-3 c =
     let strand : fits binary64 (a .ambient .«strand_excess» .0) ≡ true = field .1 .0 .1 .1 .0 .1 in
     let scaffold : fits binary64 (a .ambient .«scaffold_excess» .0) ≡ true = field .1 .1 .0 .1 .1 .0 .1 in
     let doubles : Doubles d =
-      record {
-        dg = λ k _. known .before .before .shared-slice-known3 .given k;
-        ds = λ k _. known .before .shared-slice-known4 .given k;
-        potentials = λ k _. known .shared-slice-known5 .given k;
-        rt = rw rt tt;
-        strand-excess = rw strand tt;
-        scaffold-excess = rw scaffold tt;
-      } in
+    record {
+      dg = λ k _. known .before .before .shared-slice-known3 .given k;
+      ds = λ k _. known .before .shared-slice-known4 .given k;
+      potentials = λ k _. known .shared-slice-known5 .given k;
+      rt = rw rt tt;
+      strand-excess = rw strand tt;
+      scaffold-excess = rw scaffold tt;
+    } in
     let w : Admitted d = admitted d (sym (c .before .before .before .before .before .before .before .before .before .before .design-reply .ensures) ∙ c .before .before .before .before .before .before .before .before .enum-told .given .1) in
     let reply = design-admitted d (ownSize d e) [] (ap not (eq-eqb _ _ (c .before .before .before .before .before .before .before .before .before .before .before .if1 .left))) w in
-    let found = c .before .before .lowest .ensures (modelOf d) (tabled d w (c .before .before .before .before .before .before .before .strand-bonds .ensures) (c .before .before .before .before .before .before .scaffold-bonds .ensures)) in
-    (
+    let found = c .before .before .lowest .ensures (modelOf d) (tabled d w (c .before .before .before .before .before .before .before .strand-bonds .ensures) (c .before .before .before .before .before .before .scaffold-bonds .ensures)) in (
       ap given (found .least) ∙ answered zero (Search.search (modelOf d) .energy) reply,
       (found .shown ∙ entries-written e (Search.search (modelOf d) .configuration) reply, λ _ _. lowest-shown d w doubles found),
     )

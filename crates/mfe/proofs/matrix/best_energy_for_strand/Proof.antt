@@ -41,8 +41,7 @@ strand-bond-at-requires c κs =
 
 loop-holds : tie.Need-loop-holds Inv-loop μ-loop
 loop-holds c =
-    let a = c .before .before .before .before .before .before .before .args in
-    (
+    let a = c .before .before .before .before .before .before .before .args in (
       omega arith,
       omega arith,
       c .before .before .before .before .before .before .before .pre .0,
@@ -76,20 +75,19 @@ loop-again c =
     let l = c .before .before .before .before .before in
     let a = c .before .before .before .before .before .before .before .before .before .before .before .before .before .args in
     let inv = l .loop .inv in
-    let row = inv .2 in
-    (
+    let row = inv .2 in (
       omega arith,
       omega arith,
       inv .2,
       inv .3,
       elim (c .if2 .came) [ inl u ↦ rw (u .1) (inv .4) | inr u ↦ rw (u .1) (row .known (l .loop .k) (omega arith)) ],
       λ key keys.
-        let w = inv .5 key keys in
-        let new = ap (add binary64 (getD (a .energies .now) (l .loop .k) nan)) (c .before .strand-bond-at2 .ensures) ∙ keys (l .loop .k) (omega arith) in
-        elim (c .if2 .came) [
-          | inl u ↦ kept-more w (omega arith) (inv .2 .few) (u .1 ∙ later-stays key (w .energy-is) new (u .0 .taken)) (u .2 ∙ w .energy-is ∙ ap key (sym (u .1)))
-          | inr u ↦ kept-more w (omega arith) (inv .2 .few) (u .1 ∙ later-moves key (w .energy-is) new (u .0 .left)) (u .2 ∙ new ∙ ap key (sym (u .1)))
-        ],
+          let w = inv .5 key keys in
+          let new = ap (add binary64 (getD (a .energies .now) (l .loop .k) nan)) (c .before .strand-bond-at2 .ensures) ∙ keys (l .loop .k) (omega arith) in
+          elim (c .if2 .came) [
+            | inl u ↦ kept-more w (omega arith) (inv .2 .few) (u .1 ∙ later-stays key (w .energy-is) new (u .0 .taken)) (u .2 ∙ w .energy-is ∙ ap key (sym (u .1)))
+            | inr u ↦ kept-more w (omega arith) (inv .2 .few) (u .1 ∙ later-moves key (w .energy-is) new (u .0 .left)) (u .2 ∙ new ∙ ap key (sym (u .1)))
+          ],
     )
 
 returns-2 : tie.Need-returns-2 Inv-loop μ-loop

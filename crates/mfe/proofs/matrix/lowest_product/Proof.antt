@@ -36,8 +36,7 @@ shared-slice-read-energy c = search needs
 
 loop-holds : tie.Need-loop-holds Inv-loop μ-loop
 loop-holds c =
-    let a = c .before .before .before .before .args in
-    (
+    let a = c .before .before .before .before .args in (
       omega arith,
       omega arith,
       c .before .before .before .before .pre .0,
@@ -66,20 +65,19 @@ loop-again c =
     let l = c .before .before .before .before .before in
     let a = c .before .before .before .before .before .before .before .before .before .before .args in
     let inv = l .loop .inv in
-    let row = inv .2 in
-    (
+    let row = inv .2 in (
       omega arith,
       omega arith,
       inv .2,
       inv .3,
       elim (c .if2 .came) [ inl u ↦ rw (u .1) (row .known (l .loop .k) (omega arith)) | inr u ↦ rw (u .1) (inv .4) ],
       λ key keys.
-        let w = inv .5 key keys in
-        let new = keys (l .loop .k) (omega arith) in
-        elim (c .if2 .came) [
-          | inl u ↦ kept-more w (omega arith) (inv .2 .few) (u .1 ∙ earlier-moves key (w .energy-is) new (u .0 .taken)) (u .2 ∙ new ∙ ap key (sym (u .1)))
-          | inr u ↦ kept-more w (omega arith) (inv .2 .few) (u .1 ∙ earlier-stays key (w .energy-is) new (u .0 .left)) (u .2 ∙ w .energy-is ∙ ap key (sym (u .1)))
-        ],
+          let w = inv .5 key keys in
+          let new = keys (l .loop .k) (omega arith) in
+          elim (c .if2 .came) [
+            | inl u ↦ kept-more w (omega arith) (inv .2 .few) (u .1 ∙ earlier-moves key (w .energy-is) new (u .0 .taken)) (u .2 ∙ new ∙ ap key (sym (u .1)))
+            | inr u ↦ kept-more w (omega arith) (inv .2 .few) (u .1 ∙ earlier-stays key (w .energy-is) new (u .0 .left)) (u .2 ∙ w .energy-is ∙ ap key (sym (u .1)))
+          ],
     )
 
 returns-2 : tie.Need-returns-2 Inv-loop μ-loop

@@ -22,7 +22,7 @@ Inv-loop strand-bonds scaffold-bonds potentials position left energies count str
     × (length choice ≡ 64)
     × ((j : ℕ) → getD choice j 0 < 64)
     × ((m : Model) → Cells (length potentials) (position + 1) strand-bonds scaffold-bonds potentials m → Left m position count left energies
-      → Energies (entry m (optionsAt m) position) here k next × Choices (leftChoice m (optionsAt m) position) here k choice)
+    → Energies (entry m (optionsAt m) position) here k next × Choices (leftChoice m (optionsAt m) position) here k choice)
 
 abbrev μ-loop : tie.MeasureT-loop
 μ-loop strand-bonds scaffold-bonds potentials position left energies count strands here friend-count next₀ choice₀ k₀ next choice k = friend-count - k
@@ -151,21 +151,19 @@ loop-again c =
     let inv = l .loop .inv in
     let row = s .pre .1 .0 in
     let in-choice : x < length (l .loop .choice) = rw (inv .2) (omega arith) in
-    let in-next : k < length (l .loop .next) = rw (inv .1) (let f = s .pre .1 .1 .1 .few in omega arith) in
-    (
+    let in-next : k < length (l .loop .next) = rw (inv .1) (let f = s .pre .1 .1 .1 .few in omega arith) in (
       omega arith,
       length-set (l .loop .next) k _ ∙ inv .1,
       length-set (l .loop .choice) x _ ∙ inv .2,
       low-set (l .loop .choice) x (best .result .strand) (inv .3) (let b = best .ensures .1 in omega arith) in-choice,
       λ m t w.
-        let old = inv .4 m t w in
-        let att = friend-attaches m (a .count) (a .left .now) (a .energies .now) (row .few) (best .result) (a .position) x (λ y. getD (a .strand-bonds .now) (y * n + x) nan) some w
+          let old = inv .4 m t w in
+          let att = friend-attaches m (a .count) (a .left .now) (a .energies .now) (row .few) (best .result) (a .position) x (λ y. getD (a .strand-bonds .now) (y * n + x) nan) some w
           (λ j h. t .pairs (getD (a .left .now) j 0) x (row .known j h) low) (best .ensures .0) in
-        let v = friend-entry m (a .position) x some (att .energy) (t .sites (a .position) x (omega arith) low) (t .logs x low) in
-        (
-          energies-more (entry m (optionsAt m) (a .position)) here k (l .loop .next) _ in-next (old .0) (v ∙ ap (entry m (optionsAt m) (a .position)) is),
-          choices-more (leftChoice m (optionsAt m) (a .position)) here k x (l .loop .choice) _ is in-choice (old .1) (att .strand),
-        ),
+          let v = friend-entry m (a .position) x some (att .energy) (t .sites (a .position) x (omega arith) low) (t .logs x low) in (
+            energies-more (entry m (optionsAt m) (a .position)) here k (l .loop .next) _ in-next (old .0) (v ∙ ap (entry m (optionsAt m) (a .position)) is),
+            choices-more (leftChoice m (optionsAt m) (a .position)) here k x (l .loop .choice) _ is in-choice (old .1) (att .strand),
+          ),
     )
 
 best-energy-for-empty-requires : tie.Need-best-energy-for-empty-requires Inv-loop μ-loop
@@ -192,18 +190,17 @@ returns c =
     let row = s .pre .1 .0 in
     let best = c .best-energy-for-empty in
     let all : l .loop .k ≡ a .friends .count = omega arith in
-    let in-next : a .friends .count < length (l .loop .next) = rw (inv .1) (friends .few) in
-    (
+    let in-next : a .friends .count < length (l .loop .next) = rw (inv .1) (friends .few) in (
       λ m t w.
-        let old = rw all at (inv .4 m t w) in
-        let att = empty-attaches m (a .count) (a .left .now) (a .energies .now) (row .few) (best .result) (a .position) w (best .ensures .0) in
-        record {
-          entries =
-            energies-more (entry m (optionsAt m) (a .position)) here (a .friends .count) (l .loop .next) _ in-next (old .0)
-            (att .energy ∙ ap (entry m (optionsAt m) (a .position)) (sym (friends .empty)));
-          friends = old .1;
-          empty = att .strand;
-        },
+          let old = rw all at (inv .4 m t w) in
+          let att = empty-attaches m (a .count) (a .left .now) (a .energies .now) (row .few) (best .result) (a .position) w (best .ensures .0) in
+          record {
+            entries =
+                energies-more (entry m (optionsAt m) (a .position)) here (a .friends .count) (l .loop .next) _ in-next (old .0)
+                (att .energy ∙ ap (entry m (optionsAt m) (a .position)) (sym (friends .empty)));
+            friends = old .1;
+            empty = att .strand;
+          },
       record { sized = length-set (l .loop .next) (a .friends .count) (best .result .energy) ∙ inv .1; friends = inv .3; empty = best .ensures .1 },
     )
 

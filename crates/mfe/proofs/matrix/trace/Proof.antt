@@ -28,8 +28,7 @@ abbrev μ-loop : tie.MeasureT-loop
 
 loop-holds : tie.Need-loop-holds Inv-loop μ-loop
 loop-holds c =
-    let s = c .before in
-    (
+    let s = c .before in (
       omega arith,
       omega arith,
       refl,
@@ -56,8 +55,7 @@ loop-again : tie.Need-loop-again Inv-loop μ-loop
 loop-again c =
     let l = c .before .before in
     let a = l .before .before .args in
-    let inv = l .loop .inv in
-    (
+    let inv = l .loop .inv in (
       omega arith,
       inv .1,
       length-set (l .loop .configuration) (l .loop .position - 1) (l .loop .strand) ∙ inv .2,
@@ -66,7 +64,7 @@ loop-again c =
       inv .5,
       inv .6,
       rest-more (choiceIn (a .t1) (a .t2)) (length (a .configuration .now)) (a .last) (l .loop .position) (l .loop .strand) _ (l .loop .configuration)
-      (c .before .loop-test .taken) (omega arith) (inv .7) (sym (simp (eq-eqb _ _ (c .if1 .taken)))),
+          (c .before .loop-test .taken) (omega arith) (inv .7) (sym (simp (eq-eqb _ _ (c .if1 .taken)))),
     )
 
 wide-requires : tie.Need-wide-requires Inv-loop μ-loop
@@ -88,8 +86,7 @@ loop-again-2 : tie.Need-loop-again-2 Inv-loop μ-loop
 loop-again-2 c =
     let l = c .before .before .before .before in
     let a = l .before .before .args in
-    let inv = l .loop .inv in
-    (
+    let inv = l .loop .inv in (
       omega arith,
       inv .1,
       length-set (l .loop .configuration) (l .loop .position - 1) (l .loop .strand) ∙ inv .2,
@@ -98,8 +95,8 @@ loop-again-2 c =
       inv .5,
       inv .6,
       rest-more (choiceIn (a .t1) (a .t2)) (length (a .configuration .now)) (a .last) (l .loop .position) (l .loop .strand) _ (l .loop .configuration)
-      (c .before .before .before .loop-test .taken) (omega arith) (inv .7)
-      (ap (λ (x : ℕ). getD (getD (a .t1) (l .loop .position - 1) []) x 0) (c .before .wide .ensures) ∙ sym (simp (ne-eqb _ _ (c .before .before .if1 .left)))),
+          (c .before .before .before .loop-test .taken) (omega arith) (inv .7)
+          (ap (λ (x : ℕ). getD (getD (a .t1) (l .loop .position - 1) []) x 0) (c .before .wide .ensures) ∙ sym (simp (ne-eqb _ _ (c .before .before .if1 .left)))),
     )
 
 same-length : tie.Need-same-length Inv-loop μ-loop

@@ -1,0 +1,5 @@
+pub mod Sizes
+pub mod FriendLaws
+pub mod BoundLaws
+pub mod Lowest
+pub mod Replies

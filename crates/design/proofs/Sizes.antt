@@ -1,0 +1,44 @@
+-- What a design whose sizes are not wrong is. Assumes nothing.
+use mathlib.Core.Path.{_≡_}
+use mathlib.Core.Bool.{false, not, _||_}
+use Prim.Native.Nat.{ℕ, _*_, _<_, _≤_}
+use native.Mathlib.Omega.{arith}
+use lib.Dec.{ltb, eqb}
+use lib.ListN.{length, getD}
+use borrow.Author.Tests.{ltb-false, eqb-true, not-false}
+use Rattle.lists.specs.Find.{any}
+use Rattle.lists.proofs.Any.{neither, none-passes}
+use Rattle.design.specs.Design.{Design, positions, strands, scaffoldGlue}
+use Rattle.design.specs.Checks.{highGlue, wrongCounts, wrongLengths, wrongSizes, sizesOut}
+
+pub record Sized (d : Design) : Type 0 where
+  pub short : positions d ≤ 128
+  pub null : 0 < strands d
+  pub few : strands d ≤ 64
+  pub three : length (d .glues) ≡ 3 * strands d
+  pub dg-cells : length (d .dg) ≡ 4096
+  pub ds-cells : length (d .ds) ≡ 4096
+  pub scaffold-low : (i : ℕ) → i < positions d → scaffoldGlue d i < 64
+  pub glues-low : (k : ℕ) → k < 3 * strands d → getD (d .glues) k 0 < 64
+
+pub sized : (d : Design) → sizesOut d ≡ false → Sized d
+unfolding wrongSizes
+sized d e =
+    let counts = neither (wrongCounts (d .scaffold) (d .potentials)) (wrongLengths (d .glues) (d .dg) (d .ds) (d .potentials) || (any highGlue (d .scaffold) || any highGlue (d .glues))) e in
+    let lengths = neither (wrongLengths (d .glues) (d .dg) (d .ds) (d .potentials)) (any highGlue (d .scaffold) || any highGlue (d .glues)) (counts .1) in
+    let glues = neither (any highGlue (d .scaffold)) (any highGlue (d .glues)) (lengths .1) in
+    let c = neither (ltb 128 (positions d)) (ltb (strands d) 1 || ltb 64 (strands d)) (counts .0) in
+    let s = neither (ltb (strands d) 1) (ltb 64 (strands d)) (c .1) in
+    let l = neither (not (eqb (length (d .glues)) (3 * strands d))) (not (eqb (length (d .dg)) 4096) || not (eqb (length (d .ds)) 4096)) (lengths .0) in
+    let t = neither (not (eqb (length (d .dg)) 4096)) (not (eqb (length (d .ds)) 4096)) (l .1) in
+    let three : length (d .glues) ≡ 3 * strands d = eqb-true _ _ (not-false _ (l .0)) in
+    record {
+      short = ltb-false _ _ (c .0);
+      null = ltb-false _ _ (s .0);
+      few = ltb-false _ _ (s .1);
+      three = three;
+      dg-cells = eqb-true _ _ (not-false _ (t .0));
+      ds-cells = eqb-true _ _ (not-false _ (t .1));
+      scaffold-low = λ i h. omega (arith, ltb-false 63 (getD (d .scaffold) i 0) (none-passes highGlue 0 (d .scaffold) (glues .0) i h));
+      glues-low = λ k h. omega (arith, ltb-false 63 (getD (d .glues) k 0) (none-passes highGlue 0 (d .glues) (glues .1) k (rw three h)));
+    }

@@ -1,0 +1,162 @@
+-- The conditions on which a design, or what is asked of it, is refused, and each call's checks.
+use mathlib.Core.Path.{_≡_}
+use mathlib.Core.Bool.{Bool, not, false, _&&_, _||_}
+use mathlib.Core.List.{List, [], _∷_}
+use Prim.Native.Nat.{ℕ, _*_}
+use lib.Dec.{leb, ltb, eqb}
+use lib.ListN.{length, getD}
+use lib.Ieee.{Float}
+use Rattle.lists.specs.Build.{upTo, tabulate}
+use Rattle.lists.specs.Find.{any}
+use Rattle.doubles.specs.Decimal.{plus, minus, nearest, zero}
+use Rattle.doubles.specs.Range.{within}
+use Rattle.reply.specs.First.{Check, _if_}
+use Rattle.reply.specs.declared.Refusal.the-variants.{WrongSize, OutOfRange, NullBinds, NotAFriend, TooManyStates, RankTooHigh}
+use Rattle.units.specs.declared.Ambient.{Ambient}
+use Rattle.model.specs.States.{count}
+use Rattle.design.specs.Design.{Design, positions, strands, west, bottom, east, binding, befriends, modelOf}
+
+-- ---- size
+
+-- scaffold 0 to 128 positions; strands 1 to 64, strand 0 included
+abbrev pub wrongCounts : List ℕ → List Float → Bool
+wrongCounts scaffold potentials = ltb 128 (length scaffold) || (ltb (length potentials) 1 || ltb 64 (length potentials))
+
+-- three glues for each strand, and 64 by 64 cells
+abbrev pub wrongLengths : List ℕ → List Float → List Float → List Float → Bool
+wrongLengths glues dg ds potentials =
+    not (eqb (length glues) (3 * length potentials)) || (not (eqb (length dg) 4096) || not (eqb (length ds) 4096))
+
+-- a glue above 63
+abbrev pub highGlue : ℕ → Bool
+highGlue glue = ltb 63 glue
+
+unfoldable pub wrongSizes : List ℕ → List ℕ → List Float → List Float → List Float → Bool
+unfolding any
+wrongSizes scaffold glues dg ds potentials =
+    wrongCounts scaffold potentials || (wrongLengths glues dg ds potentials || (any highGlue scaffold || any highGlue glues))
+
+abbrev pub sizesOut : Design → Bool
+sizesOut d = wrongSizes (d .scaffold) (d .glues) (d .dg) (d .ds) (d .potentials)
+
+-- a strand or a position asked for by number that the design lacks
+abbrev pub noStrand : Design → ℕ → Bool
+noStrand d strand = leb (strands d) strand
+
+abbrev pub noPosition : Design → ℕ → Bool
+noPosition d i = leb (positions d) i
+
+-- ---- range: not finite, or outside its range, ends included
+
+abbrev pub outside : Float → Float → Float → Bool
+outside low high x = not (within low high x)
+
+-- outside ± a whole number
+abbrev pub beyond : ℕ → Float → Bool
+beyond most = outside (nearest (minus most 0)) (nearest (plus most 0))
+
+-- dG cells ±1,024 kcal/mol; dS cells ±8 kcal/mol/K
+unfoldable pub cellsOut : List Float → List Float → Bool
+unfolding any nearest
+cellsOut dg ds = any (beyond 1024) dg || any (beyond 8) ds
+
+-- RT 1/8 to 8; excess temperatures ±1,024
+unfoldable pub ambientOut : Ambient → Bool
+unfolding nearest
+ambientOut ambient =
+    outside (nearest (plus 125 3)) (nearest (plus 8 0)) (ambient .rt .0)
+    || (beyond 1024 (ambient .«strand_excess» .0) || beyond 1024 (ambient .«scaffold_excess» .0))
+
+-- the strand is a friend at a position, and at some position
+abbrev pub friendAt : List ℕ → List ℕ → List Float → List Float → ℕ → ℕ → Bool
+friendAt scaffold glues dg ds strand i = befriends (getD scaffold i 0) glues dg ds strand
+
+unfoldable pub somewhere : List ℕ → List ℕ → List Float → List Float → ℕ → Bool
+unfolding any tabulate befriends
+somewhere scaffold glues dg ds strand = any (friendAt scaffold glues dg ds strand) (upTo (length scaffold))
+
+-- potentials ±1,024; only those of strands that are somewhere friends are looked at
+abbrev pub unfit : List ℕ → List ℕ → List Float → List Float → List Float → ℕ → Bool
+unfit scaffold glues dg ds potentials strand = somewhere scaffold glues dg ds strand && beyond 1024 (getD potentials strand zero)
+
+unfoldable pub potentialsOut : Design → Bool
+unfolding any tabulate somewhere nearest
+potentialsOut d = any (unfit (d .scaffold) (d .glues) (d .dg) (d .ds) (d .potentials)) (upTo (strands d))
+
+-- ---- null: strand 0 has a nonzero glue, or row or column 0 of a glue table has a nonzero cell
+
+abbrev pub nullGlued : List ℕ → Bool
+nullGlued glues = not (eqb (west glues 0) 0) || (not (eqb (bottom glues 0) 0) || not (eqb (east glues 0) 0))
+
+abbrev pub nullCells : List Float → List Float → ℕ → Bool
+nullCells dg ds glue = binding dg ds 0 glue || binding dg ds glue 0
+
+unfoldable pub nullBinds : List ℕ → List Float → List Float → Bool
+unfolding any tabulate
+nullBinds glues dg ds = nullGlued glues || any (nullCells dg ds) (upTo 64)
+
+-- ---- stranger: a configuration holds, at some position, neither 0 nor a friend; a number that is no strand is no friend
+
+abbrev pub noFriend : ℕ → List ℕ → List Float → List Float → ℕ → ℕ → Bool
+noFriend glue glues dg ds strands occupant = not (eqb occupant 0) && not (ltb occupant strands && befriends glue glues dg ds occupant)
+
+abbrev pub stranger : List ℕ → List ℕ → List Float → List Float → ℕ → List ℕ → ℕ → Bool
+stranger scaffold glues dg ds strands s i = noFriend (getD scaffold i 0) glues dg ds strands (getD s i 0)
+
+unfoldable pub strangers : Design → List ℕ → Bool
+unfolding any tabulate befriends
+strangers d s = any (stranger (d .scaffold) (d .glues) (d .dg) (d .ds) (strands d) s) (upTo (positions d))
+
+-- ---- many, and rank
+
+-- more than 1,048,576 states
+abbrev pub tooManyStates : Design → Bool
+tooManyStates d = ltb 1048576 (count (modelOf d))
+
+-- at or above the number of states
+abbrev pub rankTooHigh : Design → ℕ → Bool
+rankTooHigh d rank = leb (count (modelOf d)) rank
+
+-- ---- a design is admitted if no condition on which the table refuses the search holds
+
+pub record Admitted (d : Design) : Type 0 where
+  pub sizes : sizesOut d ≡ false
+  pub cells : cellsOut (d .dg) (d .ds) ≡ false
+  pub ambient : ambientOut (d .ambient) ≡ false
+  pub potentials : potentialsOut d ≡ false
+  pub null : nullBinds (d .glues) (d .dg) (d .ds) ≡ false
+
+-- ---- the checks of each call, sorted by number
+
+-- What every call that takes a design checks: its sizes, with the call's own; the cells; the ambient; the potentials; what binds to
+-- null; then the call's own of higher numbers.
+abbrev pub designChecks : Bool → Design → List Check → List Check
+designChecks ownSize d own =
+    WrongSize if (ownSize || sizesOut d)
+    ∷ OutOfRange if cellsOut (d .dg) (d .ds)
+    ∷ OutOfRange if ambientOut (d .ambient)
+    ∷ OutOfRange if potentialsOut d
+    ∷ NullBinds if nullBinds (d .glues) (d .dg) (d .ds)
+    ∷ own
+
+abbrev pub strandBondChecks : Design → ℕ → ℕ → List Check
+strandBondChecks d x y = designChecks (noStrand d x || noStrand d y) d []
+
+abbrev pub scaffoldBondChecks : Design → ℕ → ℕ → List Check
+scaffoldBondChecks d i strand = designChecks (noPosition d i || noStrand d strand) d []
+
+-- the friends are written into 64 lent entries
+abbrev pub friendsChecks : Design → ℕ → List ℕ → List Check
+friendsChecks d i entries = designChecks (noPosition d i || not (eqb (length entries) 64)) d []
+
+abbrev pub countChecks : Design → List Check
+countChecks d = designChecks false d (TooManyStates if tooManyStates d ∷ [])
+
+-- a state is written into one lent entry for each position
+abbrev pub rankChecks : Design → ℕ → List ℕ → List Check
+rankChecks d rank entries =
+    designChecks (not (eqb (length entries) (positions d))) d (TooManyStates if tooManyStates d ∷ RankTooHigh if rankTooHigh d rank ∷ [])
+
+-- a configuration has one entry for each position
+abbrev pub energyChecks : Design → List ℕ → List Check
+energyChecks d s = designChecks (not (eqb (length s) (positions d))) d (NotAFriend if strangers d s ∷ [])
