@@ -1,27 +1,28 @@
 -- The model of an admitted design is bounded: each bond is finite and at most 80,000 in size. Assumes nothing.
-use mathlib.Core.Path.{_≡_, refl, sym, _∙_}
+use mathlib.Core.Path.{_≡_, refl, sym, _∙_, subst}
 use mathlib.Core.Bool.{Bool, true, false, _&&_, _||_}
 use Prim.Native.Nat.{ℕ, _+_, _*_, _<_, _≤_}
 use native.Mathlib.Omega.{arith}
+use mathlib.Core.List.{List}
 use lib.Dec.{T, lit≤}
-use lib.ListN.{length}
+use lib.ListN.{length, getD}
 use lib.Ieee.{Float, nan, binary64, fits, sub, mul}
 use borrow.Author.Tests.{not-false}
 use Rattle.lists.specs.Find.{any}
+use Rattle.lists.proofs.Default.{getD-default}
 use Rattle.lists.proofs.Any.{neither, none-passes, none-below}
 use Rattle.lists.proofs.Build.{length-tabulate}
-use Rattle.doubles.specs.Decimal.{plus, minus, nearest}
+use Rattle.doubles.specs.Decimal.{plus, minus, nearest, zero}
 use Rattle.doubles.specs.Range.{within, inRange}
 use Rattle.doubles.specs.Size.{Within}
 use Rattle.doubles.proofs.Sums.{weaken, sub-within}
 use Rattle.doubles.proofs.Products.{mul-within, div-within}
 use Rattle.doubles.proofs.Bounds.{in-range-within, rt-range}
 use Rattle.model.specs.Model.{Friend}
-use Rattle.design.specs.Design.{Design, positions, strands, scaffoldGlue, west, bottom, east, potential, cell, bondOf, strandBond, scaffoldBond, friendsOf, modelOf}
-use Rattle.design.specs.Checks.{outside, beyond, befriends, somewhere, unfit, cellsOut, ambientOut, potentialsOut, Admitted}
-use Rattle.design.specs.Sized.{Sized}
+use Rattle.design.specs.Design.{Design, positions, strands, scaffoldGlue, west, bottom, east, potential, cell, bondOf, strandBond, scaffoldBond, strandBondIn, scaffoldBondIn, isFriend, friendsOf, modelOf}
+use Rattle.design.specs.Checks.{outside, beyond, friendAt, somewhere, unfit, cellsOut, ambientOut, potentialsOut, Admitted}
 use Rattle.design.specs.Laws.{Doubles, BoundsRight}
-use Rattle.design.proofs.Sizes.{sized}
+use Rattle.design.proofs.Sizes.{Sized, sized}
 use Rattle.design.proofs.FriendLaws.{friends-right, friend-tested}
 
 -- a number that is not beyond a limit is within it
@@ -37,6 +38,10 @@ bond-within dg ds excess rt p q e t r =
     let w = rt-range rt t r in
     weaken 80000 (lit≤ tt) (div-within binary64 9216 8 (sub binary64 dg (mul binary64 excess ds)) rt energy (w .size .real) (w .eighths) (lit≤ tt))
 
+-- a number of a list is a double, whatever would stand past the list's end
+held : (xs : List Float) (k : ℕ) → k < length xs → T (fits binary64 (getD xs k nan)) → T (fits binary64 (getD xs k zero))
+held xs k h t = subst (λ (x : Float). T (fits binary64 x)) (getD-default xs k nan zero h) t
+
 module _ (d : Design) (doubles : Doubles d) (a : Admitted d) where
   z : Sized d
   z = sized d (a .sizes)
@@ -50,12 +55,12 @@ module _ (d : Design) (doubles : Doubles d) (a : Admitted d) where
   dg-in : (row column : ℕ) → row < 64 → column < 64 → Within binary64 1024 (cell (d .dg) row column)
   dg-in row column h k =
       let i : row * 64 + column < length (d .dg) = rw (z .dg-cells) (index row column h k) in
-      not-beyond 1024 (lit≤ tt) (cell (d .dg) row column) (doubles .dg (row * 64 + column) i) (none-passes (beyond 1024) nan (d .dg) (cells-in .0) (row * 64 + column) i)
+      not-beyond 1024 (lit≤ tt) (cell (d .dg) row column) (held (d .dg) (row * 64 + column) i (doubles .dg (row * 64 + column) i)) (none-passes (beyond 1024) zero (d .dg) (cells-in .0) (row * 64 + column) i)
 
   ds-in : (row column : ℕ) → row < 64 → column < 64 → Within binary64 8 (cell (d .ds) row column)
   ds-in row column h k =
       let i : row * 64 + column < length (d .ds) = rw (z .ds-cells) (index row column h k) in
-      not-beyond 8 (lit≤ tt) (cell (d .ds) row column) (doubles .ds (row * 64 + column) i) (none-passes (beyond 8) nan (d .ds) (cells-in .1) (row * 64 + column) i)
+      not-beyond 8 (lit≤ tt) (cell (d .ds) row column) (held (d .ds) (row * 64 + column) i (doubles .ds (row * 64 + column) i)) (none-passes (beyond 8) zero (d .ds) (cells-in .1) (row * 64 + column) i)
 
   rt-in : inRange (plus 125 3) (plus 8 0) (d .ambient .rt .0) ≡ true
   unfolding ambientOut inRange
@@ -69,35 +74,35 @@ module _ (d : Design) (doubles : Doubles d) (a : Admitted d) where
       neither (beyond 1024 (d .ambient .«strand_excess» .0)) (beyond 1024 (d .ambient .«scaffold_excess» .0))
       (neither (outside (nearest (plus 125 3)) (nearest (plus 8 0)) (d .ambient .rt .0)) (beyond 1024 (d .ambient .«strand_excess» .0) || beyond 1024 (d .ambient .«scaffold_excess» .0)) (a .ambient) .1)
 
-  pub strand-bond-within : (x y : ℕ) → x < strands d → y < strands d → Within binary64 80000 (strandBond d x y)
+  pub strand-bond-within : (x y : ℕ) → x < strands d → y < strands d → Within binary64 80000 (strandBondIn d x y)
   unfolding strandBond
   strand-bond-within x y h k =
-      let e : east d x < 64 = z .glues-low _ (omega arith) in
-      let w : west d y < 64 = z .glues-low _ (omega arith) in
-      bond-within (cell (d .dg) (east d x) (west d y)) (cell (d .ds) (east d x) (west d y)) _ _ (dg-in (east d x) (west d y) e w) (ds-in (east d x) (west d y) e w)
+      let e : east (d .glues) x < 64 = z .glues-low _ (omega arith) in
+      let w : west (d .glues) y < 64 = z .glues-low _ (omega arith) in
+      bond-within (cell (d .dg) (east (d .glues) x) (west (d .glues) y)) (cell (d .ds) (east (d .glues) x) (west (d .glues) y)) _ _ (dg-in (east (d .glues) x) (west (d .glues) y) e w) (ds-in (east (d .glues) x) (west (d .glues) y) e w)
       (not-beyond 1024 (lit≤ tt) _ (doubles .strand-excess) (excesses-in .0)) (doubles .rt) rt-in
 
-  pub scaffold-bond-within : (i x : ℕ) → i < positions d → x < strands d → Within binary64 80000 (scaffoldBond d i x)
+  pub scaffold-bond-within : (i x : ℕ) → i < positions d → x < strands d → Within binary64 80000 (scaffoldBondIn d i x)
   unfolding scaffoldBond
   scaffold-bond-within i x h k =
       let g : scaffoldGlue d i < 64 = z .scaffold-low i h in
-      let b : bottom d x < 64 = z .glues-low _ (omega arith) in
-      bond-within (cell (d .dg) (scaffoldGlue d i) (bottom d x)) (cell (d .ds) (scaffoldGlue d i) (bottom d x)) _ _ (dg-in (scaffoldGlue d i) (bottom d x) g b) (ds-in (scaffoldGlue d i) (bottom d x) g b)
+      let b : bottom (d .glues) x < 64 = z .glues-low _ (omega arith) in
+      bond-within (cell (d .dg) (scaffoldGlue d i) (bottom (d .glues) x)) (cell (d .ds) (scaffoldGlue d i) (bottom (d .glues) x)) _ _ (dg-in (scaffoldGlue d i) (bottom (d .glues) x) g b) (ds-in (scaffoldGlue d i) (bottom (d .glues) x) g b)
       (not-beyond 1024 (lit≤ tt) _ (doubles .scaffold-excess) (excesses-in .1)) (doubles .rt) rt-in
 
   -- a friend's potential was looked at
   potential-in : (i x : ℕ) → Friend (modelOf d) i x → Within binary64 1024 (potential d x)
   potential-in i x f = let w = friend-tested d i x f in fit x (w .1) (looked-at i x (w .0) (w .2))
     where
-      looked-at : (i x : ℕ) → i < positions d → befriends d x i ≡ true → somewhere d x ≡ true
-      looked-at i x h e = go (somewhere d x) refl
+      looked-at : (i x : ℕ) → i < positions d → isFriend d i x ≡ true → somewhere (d .scaffold) (d .glues) (d .dg) (d .ds) x ≡ true
+      looked-at i x h e = go (somewhere (d .scaffold) (d .glues) (d .dg) (d .ds) x) refl
         where
-          go : (t : Bool) → somewhere d x ≡ t → t ≡ true
+          go : (t : Bool) → somewhere (d .scaffold) (d .glues) (d .dg) (d .ds) x ≡ t → t ≡ true
           go true p = refl
-          go false p = let n : befriends d x i ≡ false = unfold somewhere in none-below (befriends d x) (positions d) p i h in sym n ∙ e
+          go false p = let n : isFriend d i x ≡ false = unfold somewhere in none-below (friendAt (d .scaffold) (d .glues) (d .dg) (d .ds) x) (positions d) p i h in sym n ∙ e
 
-      fit : (x : ℕ) → x < strands d → somewhere d x ≡ true → Within binary64 1024 (potential d x)
-      fit x h e = not-beyond 1024 (lit≤ tt) (potential d x) (doubles .potentials x h) (passes (somewhere d x) (beyond 1024 (potential d x)) e (unfold potentialsOut in none-below (unfit d) (strands d) (a .potentials) x h))
+      fit : (x : ℕ) → x < strands d → somewhere (d .scaffold) (d .glues) (d .dg) (d .ds) x ≡ true → Within binary64 1024 (potential d x)
+      fit x h e = not-beyond 1024 (lit≤ tt) (potential d x) (held (d .potentials) x h (doubles .potentials x h)) (passes (somewhere (d .scaffold) (d .glues) (d .dg) (d .ds) x) (beyond 1024 (potential d x)) e (unfold potentialsOut in none-below (unfit (d .scaffold) (d .glues) (d .dg) (d .ds) (d .potentials)) (strands d) (a .potentials) x h))
         where
           passes : (s b : Bool) → s ≡ true → (s && b) ≡ false → b ≡ false
           passes true b p q = q

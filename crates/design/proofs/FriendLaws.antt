@@ -19,7 +19,7 @@ use Rattle.lists.proofs.Build.{length-tabulate, getD-tabulate}
 use Rattle.lists.proofs.Any.{neither, none-below, all-below}
 use Rattle.lists.proofs.Keep.{kept, kept-below, kept-passes, kept-rise}
 use Rattle.model.specs.Model.{Friend, State, friendsAt}
-use Rattle.design.specs.Design.{Design, positions, strands, scaffoldGlue, west, bottom, east, cell, binding, isFriend, friendsOf, modelOf}
+use Rattle.design.specs.Design.{Design, positions, strands, scaffoldGlue, west, bottom, east, cell, binding, befriends, friendsTo, isFriend, friendsOf, modelOf}
 use Rattle.design.specs.Checks.{Admitted, nullGlued, nullCells, nullBinds, noFriend, stranger, strangers}
 use Rattle.design.specs.Laws.{Bound, FriendsRight}
 use Rattle.design.proofs.Sizes.{sized}
@@ -53,24 +53,24 @@ module _ (d : Design) where
       go (no h) = absurd (List·Memᴰ·not-nil (subst (λ (l : List ℕ). List·Memᴰ x l) (friends-past i (omega arith)) f))
 
   pub friend-tested : (i x : ℕ) → Friend (modelOf d) i x → (i < positions d) × (x < strands d) × (isFriend d i x ≡ true)
-  unfolding friendsOf
+  unfolding friendsTo
   friend-tested i x f = let w = friend-kept i x f in (w .0, kept-below (isFriend d i) (strands d) (w .1), kept-passes (isFriend d i) (strands d) (w .1))
 
   pub tested-friend : (i x : ℕ) → i < positions d → x < strands d → isFriend d i x ≡ true → Friend (modelOf d) i x
-  unfolding friendsOf
+  unfolding friendsTo
   tested-friend i x h k e = subst (λ (l : List ℕ). List·Memᴰ x l) (sym (friends-at i h)) (kept (isFriend d i) (strands d) x k e)
 
   exactly : (i x : ℕ) → Friend (modelOf d) i x ↔ Bound d i x
-  unfolding isFriend
+  unfolding befriends
   exactly i x =
-      let dg = ne (cell (d .dg) (scaffoldGlue d i) (bottom d x)) zero in
-      let ds = ne (cell (d .ds) (scaffoldGlue d i) (bottom d x)) zero in (
+      let dg = ne (cell (d .dg) (scaffoldGlue d i) (bottom (d .glues) x)) zero in
+      let ds = ne (cell (d .ds) (scaffoldGlue d i) (bottom (d .glues) x)) zero in (
         λ f. let w = friend-tested i x f in record { position = w .0; known = w .1; nonzero = either dg ds (w .2) },
         λ b. tested-friend i x (b .position) (b .known) (one-of dg ds (b .nonzero)),
       )
 
   rising : (i : ℕ) → Rising (friendsAt (modelOf d) i)
-  unfolding friendsOf
+  unfolding friendsTo
   rising i = go (decLt i (positions d))
     where
       go : Dec (i < positions d) → Rising (friendsAt (modelOf d) i)
@@ -79,13 +79,13 @@ module _ (d : Design) where
 
   -- strand 0 has the bottom glue 0, and column 0 has no nonzero cell
   not-null : Admitted d → (i : ℕ) → Friend (modelOf d) i 0 → ⊥
-  unfolding isFriend nullBinds
+  unfolding befriends nullBinds
   not-null a i f =
       let w = friend-tested i 0 f in
-      let n = neither (nullGlued d) (any (nullCells (d .dg) (d .ds)) (upTo 64)) (a .null) in
-      let g = neither (not (eqb (west d 0) 0)) (not (eqb (bottom d 0) 0) || not (eqb (east d 0) 0)) (n .0) in
-      let b = neither (not (eqb (bottom d 0) 0)) (not (eqb (east d 0) 0)) (g .1) in
-      let bottom-null : bottom d 0 ≡ 0 = eqb-true (bottom d 0) 0 (not-false _ (b .0)) in
+      let n = neither (nullGlued (d .glues)) (any (nullCells (d .dg) (d .ds)) (upTo 64)) (a .null) in
+      let g = neither (not (eqb (west (d .glues) 0) 0)) (not (eqb (bottom (d .glues) 0) 0) || not (eqb (east (d .glues) 0) 0)) (n .0) in
+      let b = neither (not (eqb (bottom (d .glues) 0) 0)) (not (eqb (east (d .glues) 0) 0)) (g .1) in
+      let bottom-null : bottom (d .glues) 0 ≡ 0 = eqb-true (bottom (d .glues) 0) 0 (not-false _ (b .0)) in
       let cells = none-below (nullCells (d .dg) (d .ds)) 64 (n .1) (scaffoldGlue d i) (sized d (a .sizes) .scaffold-low i (w .0)) in
       let column = neither (binding (d .dg) (d .ds) 0 (scaffoldGlue d i)) (binding (d .dg) (d .ds) (scaffoldGlue d i) 0) cells .1 in
       let bound : binding (d .dg) (d .ds) (scaffoldGlue d i) 0 ≡ true = subst (λ (k : ℕ). binding (d .dg) (d .ds) (scaffoldGlue d i) k ≡ true) bottom-null (w .2) in
@@ -105,7 +105,7 @@ module _ (d : Design) where
       go false true false p q r e = absurd (let z : _≡_ {A = ℕ} 0 1 = cc in omega arith)
       go false false g p q r e = absurd (let z : _≡_ {A = ℕ} 0 1 = cc in omega arith)
 
-  a-friend : (i x : ℕ) → (x ≡ 0) ⊎ Friend (modelOf d) i x → noFriend d i x ≡ false
+  a-friend : (i x : ℕ) → (x ≡ 0) ⊎ Friend (modelOf d) i x → noFriend (scaffoldGlue d i) (d .glues) (d .dg) (d .ds) (strands d) x ≡ false
   a-friend i x (inl e) = simp (eq-eqb x 0 e)
   a-friend i x (inr f) = let w = friend-tested i x f in go (eqb x 0) (lt-ltb x (strands d) (w .1)) (w .2)
     where
@@ -116,14 +116,14 @@ module _ (d : Design) where
   states : (s : List ℕ) → length s ≡ positions d → (strangers d s ≡ false) ↔ State (modelOf d) s
   unfolding strangers
   states s l = (
-    λ e. record { places = l ∙ sym positions-are; occupants = λ i h. occupant i (rw positions-are at h) (none-below (stranger d s) (positions d) e i (rw positions-are at h)) },
-    λ w. all-below (stranger d s) (positions d) (λ i h. a-friend i (getD s i 0) (w .occupants i (rw positions-are h))),
+    λ e. record { places = l ∙ sym positions-are; occupants = λ i h. occupant i (rw positions-are at h) (none-below (stranger (d .scaffold) (d .glues) (d .dg) (d .ds) (strands d) s) (positions d) e i (rw positions-are at h)) },
+    λ w. all-below (stranger (d .scaffold) (d .glues) (d .dg) (d .ds) (strands d) s) (positions d) (λ i h. a-friend i (getD s i 0) (w .occupants i (rw positions-are h))),
   )
     where
       positions-are : length (modelOf d .friends) ≡ positions d
       positions-are = unfold modelOf in length-tabulate (positions d) (friendsOf d)
 
-      occupant : (i : ℕ) → i < positions d → stranger d s i ≡ false → (getD s i 0 ≡ 0) ⊎ Friend (modelOf d) i (getD s i 0)
+      occupant : (i : ℕ) → i < positions d → stranger (d .scaffold) (d .glues) (d .dg) (d .ds) (strands d) s i ≡ false → (getD s i 0 ≡ 0) ⊎ Friend (modelOf d) i (getD s i 0)
       occupant i h e = elim (no-stranger (strands d) (getD s i 0) (isFriend d i (getD s i 0)) e) [
         | inl z ↦ inl z
         | inr w ↦ inr (tested-friend i (getD s i 0) h (w .0) (w .1))

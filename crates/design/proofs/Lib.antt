@@ -2,3 +2,4 @@ pub mod Sizes
 pub mod FriendLaws
 pub mod BoundLaws
 pub mod Lowest
+pub mod Replies

@@ -1,22 +1,31 @@
--- A design whose sizes are not wrong is sized. Assumes nothing.
+-- What a design whose sizes are not wrong is. Assumes nothing.
 use mathlib.Core.Path.{_≡_}
 use mathlib.Core.Bool.{false, not, _||_}
-use Prim.Native.Nat.{_*_}
+use Prim.Native.Nat.{ℕ, _*_, _<_, _≤_}
 use native.Mathlib.Omega.{arith}
 use lib.Dec.{ltb, eqb}
 use lib.ListN.{length, getD}
 use borrow.Author.Tests.{ltb-false, eqb-true, not-false}
 use Rattle.lists.specs.Find.{any}
 use Rattle.lists.proofs.Any.{neither, none-passes}
-use Rattle.design.specs.Design.{Design, positions, strands}
-use Rattle.design.specs.Checks.{highGlue, wrongCounts, wrongLengths, wrongSizes}
-use Rattle.design.specs.Sized.{Sized}
+use Rattle.design.specs.Design.{Design, positions, strands, scaffoldGlue}
+use Rattle.design.specs.Checks.{highGlue, wrongCounts, wrongLengths, wrongSizes, sizesOut}
 
-pub sized : (d : Design) → wrongSizes d ≡ false → Sized d
+pub record Sized (d : Design) : Type 0 where
+  pub short : positions d ≤ 128
+  pub null : 0 < strands d
+  pub few : strands d ≤ 64
+  pub three : length (d .glues) ≡ 3 * strands d
+  pub dg-cells : length (d .dg) ≡ 4096
+  pub ds-cells : length (d .ds) ≡ 4096
+  pub scaffold-low : (i : ℕ) → i < positions d → scaffoldGlue d i < 64
+  pub glues-low : (k : ℕ) → k < 3 * strands d → getD (d .glues) k 0 < 64
+
+pub sized : (d : Design) → sizesOut d ≡ false → Sized d
 unfolding wrongSizes
 sized d e =
-    let counts = neither (wrongCounts d) (wrongLengths d || (any highGlue (d .scaffold) || any highGlue (d .glues))) e in
-    let lengths = neither (wrongLengths d) (any highGlue (d .scaffold) || any highGlue (d .glues)) (counts .1) in
+    let counts = neither (wrongCounts (d .scaffold) (d .potentials)) (wrongLengths (d .glues) (d .dg) (d .ds) (d .potentials) || (any highGlue (d .scaffold) || any highGlue (d .glues))) e in
+    let lengths = neither (wrongLengths (d .glues) (d .dg) (d .ds) (d .potentials)) (any highGlue (d .scaffold) || any highGlue (d .glues)) (counts .1) in
     let glues = neither (any highGlue (d .scaffold)) (any highGlue (d .glues)) (lengths .1) in
     let c = neither (ltb 128 (positions d)) (ltb (strands d) 1 || ltb 64 (strands d)) (counts .0) in
     let s = neither (ltb (strands d) 1) (ltb 64 (strands d)) (c .1) in

@@ -11,7 +11,7 @@ use Rattle.reply.specs.declared.Place.{Place}
 use Rattle.reply.specs.declared.Place.the-variants.{Nowhere}
 use Rattle.model.specs.States.{count, stateAt}
 use Rattle.model.specs.Energy.{stateEnergy, chainEnergy, chainProduct}
-use Rattle.design.specs.Design.{Design, strandBond, scaffoldBond, friendsOf, modelOf}
+use Rattle.design.specs.Design.{Design, strandBondIn, scaffoldBondIn, friendsOf, modelOf}
 use Rattle.design.specs.Checks.{strandBondChecks, scaffoldBondChecks, friendsChecks, countChecks, rankChecks, energyChecks}
 
 -- document 01's number, the place of a refusal that has one, and what the call gives
@@ -30,10 +30,10 @@ refused blank number = record { number = number; place = Nowhere; figure = blank
 -- ---- bonds
 
 abbrev pub strandBondAnswer : Design → ℕ → ℕ → Figures Float
-strandBondAnswer d x y = answer (firstOf (strandBondChecks d x y)) (refused zero) (given (strandBond d x y))
+strandBondAnswer d x y = answer (firstOf (strandBondChecks d x y)) (refused zero) (given (strandBondIn d x y))
 
 abbrev pub scaffoldBondAnswer : Design → ℕ → ℕ → Figures Float
-scaffoldBondAnswer d i strand = answer (firstOf (scaffoldBondChecks d i strand)) (refused zero) (given (scaffoldBond d i strand))
+scaffoldBondAnswer d i strand = answer (firstOf (scaffoldBondChecks d i strand)) (refused zero) (given (scaffoldBondIn d i strand))
 
 -- ---- friends
 

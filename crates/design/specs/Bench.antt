@@ -14,7 +14,7 @@ use Rattle.reply.specs.declared.Refusal.the-variants.{RankTooHigh}
 use Rattle.units.specs.declared.Ambient.{Ambient}
 use Rattle.model.specs.States.{listing, choices, choiceAt, states, count}
 use Rattle.model.specs.Energy.{chainTerms, chainEnergy, chainProduct}
-use Rattle.design.specs.Design.{Design, design, strandBond, scaffoldBond, isFriend, friendsOf, modelOf}
+use Rattle.design.specs.Design.{Design, design, strandBond, scaffoldBond, befriends, friendsTo, modelOf}
 use Rattle.design.specs.Checks.{wrongSizes, cellsOut, ambientOut, somewhere, potentialsOut, nullBinds}
 use Rattle.design.specs.Answers.{given, refused, countAnswer, rankAnswer, rankEntries}
 
@@ -49,33 +49,33 @@ unfolding bare modelOf tabulate listing
 no-position-states = refl
 
 pub no-position-count : countAnswer bare ≡ given 1
-unfolding bare modelOf tabulate product count any nearest wrongSizes cellsOut ambientOut potentialsOut nullBinds isFriend le lt eq ne
+unfolding bare modelOf tabulate product count any nearest wrongSizes cellsOut ambientOut potentialsOut nullBinds befriends le lt eq ne
 no-position-count = refl
 
 -- ---- friends 1, then 2: ranks 0, 2, 3, 4
 
 pub rank-0 : rankEntries twoPositions 0 (9 ∷ 9 ∷ []) ≡ 1 ∷ 2 ∷ []
-unfolding twoPositions modelOf friendsOf isFriend tabulate keep product count choices choiceAt any nearest wrongSizes cellsOut ambientOut somewhere potentialsOut nullBinds le lt eq ne
+unfolding twoPositions modelOf friendsTo befriends tabulate keep product count choices choiceAt any nearest wrongSizes cellsOut ambientOut somewhere potentialsOut nullBinds le lt eq ne
 rank-0 = refl
 
 pub rank-2 : rankEntries twoPositions 2 (9 ∷ 9 ∷ []) ≡ 0 ∷ 2 ∷ []
-unfolding twoPositions modelOf friendsOf isFriend tabulate keep product count choices choiceAt any nearest wrongSizes cellsOut ambientOut somewhere potentialsOut nullBinds le lt eq ne
+unfolding twoPositions modelOf friendsTo befriends tabulate keep product count choices choiceAt any nearest wrongSizes cellsOut ambientOut somewhere potentialsOut nullBinds le lt eq ne
 rank-2 = refl
 
 pub rank-3 : rankEntries twoPositions 3 (9 ∷ 9 ∷ []) ≡ 0 ∷ 0 ∷ []
-unfolding twoPositions modelOf friendsOf isFriend tabulate keep product count choices choiceAt any nearest wrongSizes cellsOut ambientOut somewhere potentialsOut nullBinds le lt eq ne
+unfolding twoPositions modelOf friendsTo befriends tabulate keep product count choices choiceAt any nearest wrongSizes cellsOut ambientOut somewhere potentialsOut nullBinds le lt eq ne
 rank-3 = refl
 
 pub rank-3-answer : rankAnswer twoPositions 3 (9 ∷ 9 ∷ []) ≡ given tt
-unfolding twoPositions modelOf friendsOf isFriend tabulate keep product count choices choiceAt any nearest wrongSizes cellsOut ambientOut somewhere potentialsOut nullBinds le lt eq ne
+unfolding twoPositions modelOf friendsTo befriends tabulate keep product count choices choiceAt any nearest wrongSizes cellsOut ambientOut somewhere potentialsOut nullBinds le lt eq ne
 rank-3-answer = refl
 
 pub rank-4 : rankAnswer twoPositions 4 (9 ∷ 9 ∷ []) ≡ refused tt (numberOf RankTooHigh)
-unfolding twoPositions modelOf friendsOf isFriend tabulate keep product count choices choiceAt any nearest wrongSizes cellsOut ambientOut somewhere potentialsOut nullBinds le lt eq ne
+unfolding twoPositions modelOf friendsTo befriends tabulate keep product count choices choiceAt any nearest wrongSizes cellsOut ambientOut somewhere potentialsOut nullBinds le lt eq ne
 rank-4 = refl
 
 pub rank-4-entries : rankEntries twoPositions 4 (9 ∷ 9 ∷ []) ≡ 9 ∷ 9 ∷ []
-unfolding twoPositions modelOf friendsOf isFriend tabulate keep product count choices choiceAt any nearest wrongSizes cellsOut ambientOut somewhere potentialsOut nullBinds le lt eq ne
+unfolding twoPositions modelOf friendsTo befriends tabulate keep product count choices choiceAt any nearest wrongSizes cellsOut ambientOut somewhere potentialsOut nullBinds le lt eq ne
 rank-4-entries = refl
 
 -- ---- RT times the chain energy of the configurations that the search compares

@@ -8,30 +8,36 @@ use lib.ListN.{length, getD}
 use lib.Ieee.{Float}
 use Rattle.lists.specs.Build.{upTo, tabulate}
 use Rattle.lists.specs.Find.{any}
-use Rattle.doubles.specs.Decimal.{plus, minus, nearest}
+use Rattle.doubles.specs.Decimal.{plus, minus, nearest, zero}
 use Rattle.doubles.specs.Range.{within}
 use Rattle.reply.specs.First.{Check, _if_}
 use Rattle.reply.specs.declared.Refusal.the-variants.{WrongSize, OutOfRange, NullBinds, NotAFriend, TooManyStates, RankTooHigh}
 use Rattle.units.specs.declared.Ambient.{Ambient}
 use Rattle.model.specs.States.{count}
-use Rattle.design.specs.Design.{Design, positions, strands, west, bottom, east, potential, binding, isFriend, modelOf}
+use Rattle.design.specs.Design.{Design, positions, strands, west, bottom, east, binding, befriends, modelOf}
 
 -- ---- size
 
-abbrev pub wrongLengths : Design → Bool
-wrongLengths d = not (eqb (length (d .glues)) (3 * strands d)) || (not (eqb (length (d .dg)) 4096) || not (eqb (length (d .ds)) 4096))
-
 -- scaffold 0 to 128 positions; strands 1 to 64, strand 0 included
-abbrev pub wrongCounts : Design → Bool
-wrongCounts d = ltb 128 (positions d) || (ltb (strands d) 1 || ltb 64 (strands d))
+abbrev pub wrongCounts : List ℕ → List Float → Bool
+wrongCounts scaffold potentials = ltb 128 (length scaffold) || (ltb (length potentials) 1 || ltb 64 (length potentials))
+
+-- three glues for each strand, and 64 by 64 cells
+abbrev pub wrongLengths : List ℕ → List Float → List Float → List Float → Bool
+wrongLengths glues dg ds potentials =
+    not (eqb (length glues) (3 * length potentials)) || (not (eqb (length dg) 4096) || not (eqb (length ds) 4096))
 
 -- a glue above 63
 abbrev pub highGlue : ℕ → Bool
 highGlue glue = ltb 63 glue
 
-unfoldable pub wrongSizes : Design → Bool
+unfoldable pub wrongSizes : List ℕ → List ℕ → List Float → List Float → List Float → Bool
 unfolding any
-wrongSizes d = wrongCounts d || (wrongLengths d || (any highGlue (d .scaffold) || any highGlue (d .glues)))
+wrongSizes scaffold glues dg ds potentials =
+    wrongCounts scaffold potentials || (wrongLengths glues dg ds potentials || (any highGlue scaffold || any highGlue glues))
+
+abbrev pub sizesOut : Design → Bool
+sizesOut d = wrongSizes (d .scaffold) (d .glues) (d .dg) (d .ds) (d .potentials)
 
 -- a strand or a position asked for by number that the design lacks
 abbrev pub noStrand : Design → ℕ → Bool
@@ -61,45 +67,45 @@ ambientOut ambient =
     outside (nearest (plus 125 3)) (nearest (plus 8 0)) (ambient .rt .0)
     || (beyond 1024 (ambient .«strand_excess» .0) || beyond 1024 (ambient .«scaffold_excess» .0))
 
-abbrev pub befriends : Design → ℕ → ℕ → Bool
-befriends d strand i = isFriend d i strand
+-- the strand is a friend at a position, and at some position
+abbrev pub friendAt : List ℕ → List ℕ → List Float → List Float → ℕ → ℕ → Bool
+friendAt scaffold glues dg ds strand i = befriends (getD scaffold i 0) glues dg ds strand
 
--- the strand is a friend at some position
-unfoldable pub somewhere : Design → ℕ → Bool
-unfolding any tabulate isFriend
-somewhere d strand = any (befriends d strand) (upTo (positions d))
+unfoldable pub somewhere : List ℕ → List ℕ → List Float → List Float → ℕ → Bool
+unfolding any tabulate befriends
+somewhere scaffold glues dg ds strand = any (friendAt scaffold glues dg ds strand) (upTo (length scaffold))
 
 -- potentials ±1,024; only those of strands that are somewhere friends are looked at
-abbrev pub unfit : Design → ℕ → Bool
-unfit d strand = somewhere d strand && beyond 1024 (potential d strand)
+abbrev pub unfit : List ℕ → List ℕ → List Float → List Float → List Float → ℕ → Bool
+unfit scaffold glues dg ds potentials strand = somewhere scaffold glues dg ds strand && beyond 1024 (getD potentials strand zero)
 
 unfoldable pub potentialsOut : Design → Bool
 unfolding any tabulate somewhere nearest
-potentialsOut d = any (unfit d) (upTo (strands d))
+potentialsOut d = any (unfit (d .scaffold) (d .glues) (d .dg) (d .ds) (d .potentials)) (upTo (strands d))
 
 -- ---- null: strand 0 has a nonzero glue, or row or column 0 of a glue table has a nonzero cell
 
-abbrev pub nullGlued : Design → Bool
-nullGlued d = not (eqb (west d 0) 0) || (not (eqb (bottom d 0) 0) || not (eqb (east d 0) 0))
+abbrev pub nullGlued : List ℕ → Bool
+nullGlued glues = not (eqb (west glues 0) 0) || (not (eqb (bottom glues 0) 0) || not (eqb (east glues 0) 0))
 
 abbrev pub nullCells : List Float → List Float → ℕ → Bool
 nullCells dg ds glue = binding dg ds 0 glue || binding dg ds glue 0
 
-unfoldable pub nullBinds : Design → Bool
+unfoldable pub nullBinds : List ℕ → List Float → List Float → Bool
 unfolding any tabulate
-nullBinds d = nullGlued d || any (nullCells (d .dg) (d .ds)) (upTo 64)
+nullBinds glues dg ds = nullGlued glues || any (nullCells dg ds) (upTo 64)
 
 -- ---- stranger: a configuration holds, at some position, neither 0 nor a friend; a number that is no strand is no friend
 
-abbrev pub noFriend : Design → ℕ → ℕ → Bool
-noFriend d i occupant = not (eqb occupant 0) && not (ltb occupant (strands d) && isFriend d i occupant)
+abbrev pub noFriend : ℕ → List ℕ → List Float → List Float → ℕ → ℕ → Bool
+noFriend glue glues dg ds strands occupant = not (eqb occupant 0) && not (ltb occupant strands && befriends glue glues dg ds occupant)
 
-abbrev pub stranger : Design → List ℕ → ℕ → Bool
-stranger d s i = noFriend d i (getD s i 0)
+abbrev pub stranger : List ℕ → List ℕ → List Float → List Float → ℕ → List ℕ → ℕ → Bool
+stranger scaffold glues dg ds strands s i = noFriend (getD scaffold i 0) glues dg ds strands (getD s i 0)
 
 unfoldable pub strangers : Design → List ℕ → Bool
-unfolding any tabulate isFriend
-strangers d s = any (stranger d s) (upTo (positions d))
+unfolding any tabulate befriends
+strangers d s = any (stranger (d .scaffold) (d .glues) (d .dg) (d .ds) (strands d) s) (upTo (positions d))
 
 -- ---- many, and rank
 
@@ -114,11 +120,11 @@ rankTooHigh d rank = leb (count (modelOf d)) rank
 -- ---- a design is admitted if no condition on which the table refuses the search holds
 
 pub record Admitted (d : Design) : Type 0 where
-  pub sizes : wrongSizes d ≡ false
+  pub sizes : sizesOut d ≡ false
   pub cells : cellsOut (d .dg) (d .ds) ≡ false
   pub ambient : ambientOut (d .ambient) ≡ false
   pub potentials : potentialsOut d ≡ false
-  pub null : nullBinds d ≡ false
+  pub null : nullBinds (d .glues) (d .dg) (d .ds) ≡ false
 
 -- ---- the checks of each call, sorted by number
 
@@ -126,11 +132,11 @@ pub record Admitted (d : Design) : Type 0 where
 -- null; then the call's own of higher numbers.
 abbrev pub designChecks : Bool → Design → List Check → List Check
 designChecks ownSize d own =
-    WrongSize if (ownSize || wrongSizes d)
+    WrongSize if (ownSize || sizesOut d)
     ∷ OutOfRange if cellsOut (d .dg) (d .ds)
     ∷ OutOfRange if ambientOut (d .ambient)
     ∷ OutOfRange if potentialsOut d
-    ∷ NullBinds if nullBinds d
+    ∷ NullBinds if nullBinds (d .glues) (d .dg) (d .ds)
     ∷ own
 
 abbrev pub strandBondChecks : Design → ℕ → ℕ → List Check

@@ -3,7 +3,7 @@ use mathlib.Core.Bool.{Bool, _||_}
 use mathlib.Core.List.{List}
 use Prim.Native.Nat.{ℕ, _+_, _*_}
 use lib.ListN.{length, getD}
-use lib.Ieee.{Float, nan, binary64, sub, mul, div, ne}
+use lib.Ieee.{Float, binary64, sub, mul, div, ne}
 use denote.Ref.{RefT, now}
 use Rattle.lists.specs.Build.{tabulate, upTo, keep}
 use Rattle.doubles.specs.Decimal.{zero}
@@ -37,28 +37,30 @@ positions d = length (d .scaffold)
 abbrev pub strands : Design → ℕ
 strands d = length (d .potentials)
 
-abbrev pub scaffoldGlue : Design → ℕ → ℕ
-scaffoldGlue d i = getD (d .scaffold) i 0
-
--- the glue of a strand at a side: west 0, bottom 1, east 2
-abbrev pub glue : Design → ℕ → ℕ → ℕ
-glue d strand side = getD (d .glues) (3 * strand + side) 0
-
-abbrev pub west : Design → ℕ → ℕ
-west d strand = glue d strand 0
-
-abbrev pub bottom : Design → ℕ → ℕ
-bottom d strand = glue d strand 1
-
-abbrev pub east : Design → ℕ → ℕ
-east d strand = glue d strand 2
-
-abbrev pub potential : Design → ℕ → Float
-potential d strand = getD (d .potentials) strand nan
+-- ---- what the tables hold
 
 -- the cell [row][column] of a glue table
 abbrev pub cell : List Float → ℕ → ℕ → Float
-cell table row column = getD table (row * 64 + column) nan
+cell table row column = getD table (row * 64 + column) zero
+
+-- the glue of a strand at a side: west 0, bottom 1, east 2
+abbrev pub side : List ℕ → ℕ → ℕ → ℕ
+side glues strand which = getD glues (3 * strand + which) 0
+
+abbrev pub west : List ℕ → ℕ → ℕ
+west glues strand = side glues strand 0
+
+abbrev pub bottom : List ℕ → ℕ → ℕ
+bottom glues strand = side glues strand 1
+
+abbrev pub east : List ℕ → ℕ → ℕ
+east glues strand = side glues strand 2
+
+abbrev pub scaffoldGlue : Design → ℕ → ℕ
+scaffoldGlue d i = getD (d .scaffold) i 0
+
+abbrev pub potential : Design → ℕ → Float
+potential d strand = getD (d .potentials) strand zero
 
 -- ---- bonds
 
@@ -66,14 +68,17 @@ cell table row column = getD table (row * 64 + column) nan
 abbrev pub bondOf : Float → Float → Float → Float → Float
 bondOf dg ds excess rt = div binary64 (sub binary64 dg (mul binary64 excess ds)) rt
 
--- Document 01's strand bond (x, y): at [east of x][west of y], with the strand excess.
-unfoldable pub strandBond : Design → ℕ → ℕ → Float
-strandBond d x y = bondOf (cell (d .dg) (east d x) (west d y)) (cell (d .ds) (east d x) (west d y)) (d .ambient .«strand_excess» .0) (d .ambient .rt .0)
+-- the same at a cell
+abbrev pub bondAt : List Float → List Float → ℕ → ℕ → Float → Float → Float
+bondAt dg ds row column excess rt = bondOf (cell dg row column) (cell ds row column) excess rt
 
--- Document 01's scaffold bond (position, strand): at [scaffold glue][bottom glue], with the scaffold excess.
-unfoldable pub scaffoldBond : Design → ℕ → ℕ → Float
-scaffoldBond d i strand =
-    bondOf (cell (d .dg) (scaffoldGlue d i) (bottom d strand)) (cell (d .ds) (scaffoldGlue d i) (bottom d strand)) (d .ambient .«scaffold_excess» .0) (d .ambient .rt .0)
+-- Document 01's strand bond (x, y): at [east of x][west of y], with the strand excess.
+unfoldable pub strandBond : List ℕ → List Float → List Float → Ambient → ℕ → ℕ → Float
+strandBond glues dg ds ambient x y = bondAt dg ds (east glues x) (west glues y) (ambient .«strand_excess» .0) (ambient .rt .0)
+
+-- Document 01's scaffold bond, of the glue at a position and a strand: at [scaffold glue][bottom glue], with the scaffold excess.
+unfoldable pub scaffoldBond : ℕ → List ℕ → List Float → List Float → Ambient → ℕ → Float
+scaffoldBond glue glues dg ds ambient strand = bondAt dg ds glue (bottom glues strand) (ambient .«scaffold_excess» .0) (ambient .rt .0)
 
 -- ---- friends
 
@@ -81,24 +86,43 @@ scaffoldBond d i strand =
 abbrev pub binding : List Float → List Float → ℕ → ℕ → Bool
 binding dg ds row column = ne (cell dg row column) zero || ne (cell ds row column) zero
 
--- Document 01's friend: a strand whose dG or dS at [scaffold glue][bottom glue] is nonzero. Strand 0 is asked like any other.
-unfoldable pub isFriend : Design → ℕ → ℕ → Bool
-isFriend d i strand = binding (d .dg) (d .ds) (scaffoldGlue d i) (bottom d strand)
+-- Document 01's friend, of a scaffold glue: a strand whose dG or dS at [scaffold glue][bottom glue] is nonzero. Strand 0 is asked like any other.
+unfoldable pub befriends : ℕ → List ℕ → List Float → List Float → ℕ → Bool
+befriends glue glues dg ds strand = binding dg ds glue (bottom glues strand)
 
--- the friends at a position, in rising order
-unfoldable pub friendsOf : Design → ℕ → List ℕ
-unfolding keep tabulate isFriend
-friendsOf d i = keep (isFriend d i) (upTo (strands d))
+-- the friends of a scaffold glue, in rising order
+unfoldable pub friendsTo : ℕ → List ℕ → List Float → List Float → ℕ → List ℕ
+unfolding keep tabulate befriends
+friendsTo glue glues dg ds strands = keep (befriends glue glues dg ds) (upTo strands)
 
--- ---- the model of a design
+-- those of a position, and of each
+abbrev pub friendsIn : List ℕ → List ℕ → List Float → List Float → ℕ → ℕ → List ℕ
+friendsIn scaffold glues dg ds strands i = friendsTo (getD scaffold i 0) glues dg ds strands
+
+abbrev pub friendLists : List ℕ → List ℕ → List Float → List Float → ℕ → List (List ℕ)
+friendLists scaffold glues dg ds strands = tabulate (length scaffold) (friendsIn scaffold glues dg ds strands)
+
+-- ---- of a design
+
+abbrev pub strandBondIn : Design → ℕ → ℕ → Float
+strandBondIn d = strandBond (d .glues) (d .dg) (d .ds) (d .ambient)
+
+abbrev pub scaffoldBondIn : Design → ℕ → ℕ → Float
+scaffoldBondIn d i = scaffoldBond (scaffoldGlue d i) (d .glues) (d .dg) (d .ds) (d .ambient)
+
+abbrev pub isFriend : Design → ℕ → ℕ → Bool
+isFriend d i = befriends (scaffoldGlue d i) (d .glues) (d .dg) (d .ds)
+
+abbrev pub friendsOf : Design → ℕ → List ℕ
+friendsOf d = friendsIn (d .scaffold) (d .glues) (d .dg) (d .ds) (strands d)
 
 unfoldable pub modelOf : Design → Model
-unfolding tabulate friendsOf scaffoldBond strandBond
+unfolding tabulate friendsTo scaffoldBond strandBond
 modelOf d =
     record {
-      friends = tabulate (positions d) (friendsOf d);
-      site = scaffoldBond d;
-      pair = strandBond d;
+      friends = friendLists (d .scaffold) (d .glues) (d .dg) (d .ds) (strands d);
+      site = scaffoldBondIn d;
+      pair = strandBondIn d;
       potential = potential d;
       rt = d .ambient .rt .0;
     }

@@ -19,7 +19,7 @@ use Rattle.design.specs.Checks.{Admitted, strangers}
 pub record Bound (d : Design) (i strand : ℕ) : Type 0 where
   pub position : i < positions d
   pub known : strand < strands d
-  pub nonzero : (ne (cell (d .dg) (scaffoldGlue d i) (bottom d strand)) zero ≡ true) ⊎ (ne (cell (d .ds) (scaffoldGlue d i) (bottom d strand)) zero ≡ true)
+  pub nonzero : (ne (cell (d .dg) (scaffoldGlue d i) (bottom (d .glues) strand)) zero ≡ true) ⊎ (ne (cell (d .ds) (scaffoldGlue d i) (bottom (d .glues) strand)) zero ≡ true)
 
 pub record FriendsRight (d : Design) : Type 0 where
   -- a strand is a friend at a position exactly if it is one of the design's and a cell is nonzero

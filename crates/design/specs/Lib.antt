@@ -1,6 +1,5 @@
 pub mod Design
 pub mod Checks
 pub mod Answers
-pub mod Sized
 pub mod Laws
 pub mod Bench

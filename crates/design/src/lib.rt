@@ -1,2 +1,8 @@
-// Designs of a scaffold and strands, as document 01 has them: their bonds, friends and model, the checks and the answer of each call.
-// Definitions and laws; no code.
+// Designs of a scaffold and strands: their bonds, their friends, and the checks that every call makes of one.
+//
+// What the Rust reads off `self` is lent: the scaffold's glues, three glues for each strand, the dG and the dS table, a potential for each strand,
+// and the ambient. Each function takes what it reads of these, and has an answer for every content: past the end of a slice it reads 0.
+pub mod bonds;
+pub mod checks;
+pub mod friends;
+pub mod reads;

@@ -7,4 +7,5 @@ pub mod Any
 pub mod Keep
 pub mod Front
 pub mod Each
+pub mod Default
 pub mod Grid

@@ -5,14 +5,13 @@ use mathlib.Core.List.{List, [], _∷_, _++_, List·Memᴰ, List·Memᴰ·head, 
 use Prim.Native.Nat.{ℕ, zero, suc, _+_, _<_}
 use native.Mathlib.Nat.{not-suc-le-zero, le-of-suc-le-suc}
 use native.Mathlib.Omega.{arith}
-use lib.ListN.{length, getD, take, drop, replicate, length-replicate, getD-replicate, List·getD-append, length-append}
+use lib.ListN.{length, getD, take, drop, replicate, length-replicate, getD-replicate, List·getD-append}
+use lib.Ieee.{Float}
 use lib.Seq.{drop-cons, getD-take, take-append-add, getD-at}
-use Rattle.lists.specs.Build.{upTo, keep}
 use Rattle.lists.proofs.Keep.{kept-below, kept-passes}
 use Rattle.model.specs.Model.{optionsOf}
-use Rattle.design.specs.Design.{Design, positions, strands, isFriend, friendsOf}
+use Rattle.design.specs.Design.{befriends, friendsTo}
 use Rattle.mfe.specs.declared.friends.Friends.{Friends}
-use Rattle.mfe.specs.Tables.{Searchable}
 use Rattle.mfe.specs.Entries.{Occupied, FriendsHere}
 
 -- written over zeros
@@ -30,33 +29,31 @@ member [] k h = absurd (not-suc-le-zero h)
 member (x ∷ xs) zero h = List·Memᴰ·head refl
 member (x ∷ xs) (suc k) h = List·Memᴰ·tail (member xs k (le-of-suc-le-suc h))
 
-module _ {d : Design} {i : ℕ} {r : Friends} (w : FriendsHere d i r) where
-  pub option-at : (k : ℕ) → k < r .count + 1 → getD (r .strands) k 0 ≡ getD (optionsOf (friendsOf d i)) k 0
+module _ {friends : List ℕ} {r : Friends} (w : FriendsHere friends r) where
+  option-at : (k : ℕ) → k < r .count + 1 → getD (r .strands) k 0 ≡ getD (optionsOf friends) k 0
   option-at k h = sym (getD-take (r .count + 1) (r .strands) k 0 h) ∙ ap (λ (xs : List ℕ). getD xs k 0) (w .options)
 
-  pub friend-at : (k : ℕ) → k < r .count → getD (r .strands) k 0 ≡ getD (friendsOf d i) k 0
-  friend-at k h = option-at k (omega arith) ∙ List·getD-append (friendsOf d i) (0 ∷ []) 0 k (omega (arith, w .number))
+  pub friend-at : (k : ℕ) → k < r .count → getD (r .strands) k 0 ≡ getD friends k 0
+  friend-at k h = option-at k (omega arith) ∙ List·getD-append friends (0 ∷ []) 0 k (omega (arith, w .number))
 
   -- behind the friends
-  pub empty-at : getD (r .strands) (r .count) 0 ≡ 0
-  empty-at = option-at (r .count) (omega arith) ∙ getD-at (friendsOf d i) 0 [] 0 (r .count) (sym (w .number))
+  empty-at : getD (r .strands) (r .count) 0 ≡ 0
+  empty-at = option-at (r .count) (omega arith) ∙ getD-at friends 0 [] 0 (r .count) (sym (w .number))
 
-  pub options-length : length (optionsOf (friendsOf d i)) ≡ r .count + 1
-  options-length = length-append (friendsOf d i) (0 ∷ []) ∙ ap (λ (k : ℕ). k + 1) (sym (w .number))
+  listed : (k : ℕ) → k < r .count → List·Memᴰ (getD (r .strands) k 0) friends
+  listed k l = subst (λ (x : ℕ). List·Memᴰ x friends) (sym (friend-at k l)) (member friends k (omega (arith, w .number)))
 
-  module _ (s : Searchable d) (h : i < positions d) where
-    listed : (k : ℕ) → k < r .count → List·Memᴰ (getD (r .strands) k 0) (keep (isFriend d i) (upTo (strands d)))
-    unfolding friendsOf
-    listed k l = subst (λ (x : ℕ). List·Memᴰ x (friendsOf d i)) (sym (friend-at k l)) (member (friendsOf d i) k (omega (arith, w .number)))
+clash : {t : Bool} → t ≡ false → t ≡ true → ⊥
+clash p q = let z : _≡_ {A = ℕ} 0 1 = cc in omega arith
 
-    clash : {t : Bool} → t ≡ false → t ≡ true → ⊥
-    clash p q = let z : _≡_ {A = ℕ} 0 1 = cc in omega arith
-
-    -- strand 0 is no friend
-    pub occupied : Occupied (strands d) r
-    occupied = record {
+-- where strand 0 is no friend, none of them is 0
+pub occupied : (glue : ℕ) (glues : List ℕ) (dg ds : List Float) (strands : ℕ) {r : Friends} → FriendsHere (friendsTo glue glues dg ds strands) r → befriends glue glues dg ds 0 ≡ false → Occupied strands r
+unfolding friendsTo
+occupied glue glues dg ds strands w null =
+    let test = befriends glue glues dg ds in
+    record {
       few = w .few;
-      known = λ k l. kept-below (isFriend d i) (strands d) (listed k l);
-      some = λ k l e. clash (ap (isFriend d i) e ∙ s .not-null i h) (kept-passes (isFriend d i) (strands d) (listed k l));
-      empty = empty-at;
+      known = λ k l. kept-below test strands (listed w k l);
+      some = λ k l e. clash (ap test e ∙ null) (kept-passes test strands (listed w k l));
+      empty = empty-at w;
     }

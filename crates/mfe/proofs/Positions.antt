@@ -22,13 +22,13 @@ use Rattle.model.specs.Model.{Model, friendsAt, optionsOf}
 use Rattle.model.specs.Model as Model
 use Rattle.model.specs.Search.{entry, compared, leftChoice, traced, product, optionsAt, timesRt, searchOver, search}
 use Rattle.model.proofs.Traced.{traced-same}
-use Rattle.design.specs.Design.{Design, positions, strands, friendsOf}
+use Rattle.design.specs.Design.{friendsIn}
 use Rattle.mfe.specs.declared.friends.Friends.{Friends}
 use Rattle.mfe.specs.declared.matrix.Attached.{Attached}
 use Rattle.mfe.specs.declared.matrix.MfeValues.{MfeValues}
-use Rattle.mfe.specs.Tables.{Searchable, Cells, Tabled}
-use Rattle.mfe.specs.Entries.{keyOf, Chosen, Row, FriendsHere, Left, Values, LowValues, choiceIn, Low, tracedBack, Found}
-use Rattle.mfe.proofs.Here.{friend-at, occupied}
+use Rattle.mfe.specs.Tables.{Cells, Tabled}
+use Rattle.mfe.specs.Entries.{keyOf, Chosen, Row, Occupied, FriendsHere, Left, Values, LowValues, choiceIn, Low, tracedBack, Found}
+use Rattle.mfe.proofs.Here.{friend-at}
 use Rattle.mfe.proofs.Vector.{some-options, low-none}
 
 -- ---- the one picked is one of the list
@@ -68,11 +68,15 @@ choice-option m i x =
 
 -- ---- the options of a tabled model are the design's
 
-options-are : {d : Design} {strandBonds scaffoldBonds : List Float} {m : Model} → Tabled d strandBonds scaffoldBonds m → (i : ℕ) → i < positions d → optionsAt m i ≡ optionsOf (friendsOf d i)
-options-are {d} t i h = ap (λ (friends : List (List ℕ)). optionsOf (getD friends i [])) (t .friends) ∙ ap optionsOf (getD-tabulate (positions d) (friendsOf d) [] i h)
+module _ {scaffold glues : List ℕ} {dg ds potentials : List Float} {rt : Float} {strandBonds scaffoldBonds : List Float} {m : Model}
+    (t : Tabled scaffold glues dg ds potentials rt strandBonds scaffoldBonds m) where
+  options-are : (i : ℕ) → i < length scaffold → optionsAt m i ≡ optionsOf (friendsIn scaffold glues dg ds (length potentials) i)
+  options-are i h =
+      ap (λ (friends : List (List ℕ)). optionsOf (getD friends i [])) (t .friends)
+      ∙ ap optionsOf (getD-tabulate (length scaffold) (friendsIn scaffold glues dg ds (length potentials)) [] i h)
 
-positions-are : {d : Design} {strandBonds scaffoldBonds : List Float} {m : Model} → Tabled d strandBonds scaffoldBonds m → Model.positions m ≡ positions d
-positions-are {d} t = ap length (t .friends) ∙ length-tabulate (positions d) (friendsOf d)
+  positions-are : Model.positions m ≡ length scaffold
+  positions-are = ap length (t .friends) ∙ length-tabulate (length scaffold) (friendsIn scaffold glues dg ds (length potentials))
 
 pub cells-upto : {n p : ℕ} {strandBonds scaffoldBonds potentials : List Float} {m : Model} (i : ℕ) → i < p → Cells n p strandBonds scaffoldBonds potentials m → Cells n (i + 1) strandBonds scaffoldBonds potentials m
 cells-upto i h w = record { pairs = w .pairs; sites = λ j x k l. w .sites j x (omega arith) l; logs = w .logs }
@@ -93,48 +97,48 @@ index-of : {x : ℕ} {xs : List ℕ} → List·Memᴰ x xs → Index x xs
 index-of (List·Memᴰ·head e) = record { place = 0; inside = omega arith; is = sym e }
 index-of (List·Memᴰ·tail m) = let w = index-of m in let l = w .inside in record { place = suc (w .place); inside = omega arith; is = w .is }
 
-module _ {d : Design} (position : ℕ) (h : position < positions d) {r : Friends} (w : FriendsHere d position r) where
-  module _ {v : MfeValues} {strandBonds scaffoldBonds : List Float} {m : Model} (t : Tabled d strandBonds scaffoldBonds m) (vals : Values m position r v) where
-    -- the left choice of a friend
-    friend-choice : (x : ℕ) → List·Memᴰ x (friendsOf d position) → getD (v .choice) x 0 ≡ leftChoice m (optionsAt m) position x
-    friend-choice x f =
-        let k = index-of f in
-        let l : k .place < r .count = rw (w .number) (k .inside) in
-        let is : getD (r .strands) (k .place) 0 ≡ x = friend-at w (k .place) l ∙ k .is in
-        rw is at (vals .friends (k .place) l)
+module _ {scaffold glues : List ℕ} {dg ds potentials : List Float} {rt : Float} {strandBonds scaffoldBonds : List Float} {m : Model}
+    (t : Tabled scaffold glues dg ds potentials rt strandBonds scaffoldBonds m) (position : ℕ) (h : position < length scaffold) {r : Friends}
+    (w : FriendsHere (friendsIn scaffold glues dg ds (length potentials) position) r) {v : MfeValues} (vals : Values m position r v) where
+  -- the left choice of a friend
+  friend-choice : (x : ℕ) → List·Memᴰ x (friendsIn scaffold glues dg ds (length potentials) position) → getD (v .choice) x 0 ≡ leftChoice m (optionsAt m) position x
+  friend-choice x f =
+      let k = index-of f in
+      let l : k .place < r .count = rw (w .number) (k .inside) in
+      let is : getD (r .strands) (k .place) 0 ≡ x = friend-at w (k .place) l ∙ k .is in
+      rw is at (vals .friends (k .place) l)
 
-    of-options : (x : ℕ) → (x ≡ 0 → ⊥) → List·Memᴰ x (optionsAt m position) → List·Memᴰ x (friendsOf d position)
-    of-options x some o = go (List·Memᴰ·append-cases (friendsOf d position) (rw (options-are t position h) at o))
-      where
-        go : List·Memᴰ x (friendsOf d position) ⊎ List·Memᴰ x (0 ∷ []) → List·Memᴰ x (friendsOf d position)
-        go (inl f) = f
-        go (inr z) = absurd (some (List·Memᴰ·eq-of-singleton z))
+  of-options : (x : ℕ) → (x ≡ 0 → ⊥) → List·Memᴰ x (optionsAt m position) → List·Memᴰ x (friendsIn scaffold glues dg ds (length potentials) position)
+  of-options x some o = go (List·Memᴰ·append-cases (friendsIn scaffold glues dg ds (length potentials) position) (rw (options-are t position h) at o))
+    where
+      go : List·Memᴰ x (friendsIn scaffold glues dg ds (length potentials) position) ⊎ List·Memᴰ x (0 ∷ []) → List·Memᴰ x (friendsIn scaffold glues dg ds (length potentials) position)
+      go (inl f) = f
+      go (inr z) = absurd (some (List·Memᴰ·eq-of-singleton z))
 
-    pub left-more : Left m (position + 1) (r .count + 1) (r .strands) (v .energies)
-    left-more = rw add-one (record { options = w .options ∙ sym (options-are t position h); entries = vals .entries })
+  pub left-more : Left m (position + 1) (r .count + 1) (r .strands) (v .energies)
+  left-more = rw add-one (record { options = w .options ∙ sym (options-are t position h); entries = vals .entries })
 
-    pub table-more : (choice : List (List ℕ)) (empty : List ℕ) → position < length choice → position < length empty → Table m position choice empty
-        → Table m (position + 1) (set choice position (v .choice)) (set empty position (v .empty))
-    table-more choice empty a b old =
-        below-more (λ (i : ℕ). (x : ℕ) → List·Memᴰ x (optionsAt m i) → choiceIn (set choice position (v .choice)) (set empty position (v .empty)) i x ≡ leftChoice m (optionsAt m) i x) position earlier
-        (λ x o. here x o (ℕ-discrete x 0))
-      where
-        earlier : (i : ℕ) → i < position → (x : ℕ) → List·Memᴰ x (optionsAt m i) → choiceIn (set choice position (v .choice)) (set empty position (v .empty)) i x ≡ leftChoice m (optionsAt m) i x
-        earlier i l x o = rw (getD-set-other choice position i (v .choice) [] (ne-of-lt l), getD-set-other empty position i (v .empty) 0 (ne-of-lt l)) (old i l x o)
+  pub table-more : (choice : List (List ℕ)) (empty : List ℕ) → position < length choice → position < length empty → Table m position choice empty
+      → Table m (position + 1) (set choice position (v .choice)) (set empty position (v .empty))
+  table-more choice empty a b old =
+      below-more (λ (i : ℕ). (x : ℕ) → List·Memᴰ x (optionsAt m i) → choiceIn (set choice position (v .choice)) (set empty position (v .empty)) i x ≡ leftChoice m (optionsAt m) i x) position earlier
+      (λ x o. here x o (ℕ-discrete x 0))
+    where
+      earlier : (i : ℕ) → i < position → (x : ℕ) → List·Memᴰ x (optionsAt m i) → choiceIn (set choice position (v .choice)) (set empty position (v .empty)) i x ≡ leftChoice m (optionsAt m) i x
+      earlier i l x o = rw (getD-set-other choice position i (v .choice) [] (ne-of-lt l), getD-set-other empty position i (v .empty) 0 (ne-of-lt l)) (old i l x o)
 
-        here : (x : ℕ) → List·Memᴰ x (optionsAt m position) → Dec (x ≡ 0) → choiceIn (set choice position (v .choice)) (set empty position (v .empty)) position x ≡ leftChoice m (optionsAt m) position x
-        here x o (yes e) = rw (getD-set-same choice position (v .choice) [] a, getD-set-same empty position (v .empty) 0 b, e) (vals .empty)
-        here x o (no some) = rw (getD-set-same choice position (v .choice) [] a, getD-set-same empty position (v .empty) 0 b, ne-eqb x 0 some) (friend-choice x (of-options x some o))
+      here : (x : ℕ) → List·Memᴰ x (optionsAt m position) → Dec (x ≡ 0) → choiceIn (set choice position (v .choice)) (set empty position (v .empty)) position x ≡ leftChoice m (optionsAt m) position x
+      here x o (yes e) = rw (getD-set-same choice position (v .choice) [] a, getD-set-same empty position (v .empty) 0 b, e) (vals .empty)
+      here x o (no some) = rw (getD-set-same choice position (v .choice) [] a, getD-set-same empty position (v .empty) 0 b, ne-eqb x 0 some) (friend-choice x (of-options x some o))
 
-  pub row-more : (s : Searchable d) → Row (strands d) (r .count + 1) (r .strands)
-  row-more s =
-      let e = w .sized in
-      let o = occupied w s h in
-      let few = w .few in
-      record {
-        few = omega arith;
-        known = below-more (λ (k : ℕ). getD (r .strands) k 0 < strands d) (r .count) (o .known) (rw (o .empty) (s .size .null));
-      }
+pub row-more : {friends : List ℕ} {r : Friends} (strands : ℕ) → FriendsHere friends r → Occupied strands r → 0 < strands → Row strands (r .count + 1) (r .strands)
+row-more {friends} {r} strands w o some =
+    let e = w .sized in
+    let few = w .few in
+    record {
+      few = omega arith;
+      known = below-more (λ (k : ℕ). getD (r .strands) k 0 < strands) (r .count) (o .known) (rw (o .empty) some);
+    }
 
 pub low-more : (position : ℕ) {v : MfeValues} (choice : List (List ℕ)) (empty : List ℕ) → position < length choice → position < length empty → Low choice empty → LowValues v
     → Low (set choice position (v .choice)) (set empty position (v .empty))
@@ -159,9 +163,10 @@ low-zeros n k e = record { friends = λ i j. rows n i j; empties = λ i. low-non
 
 -- ---- at the end
 
-module _ {d : Design} {strandBonds scaffoldBonds : List Float} {m : Model} (t : Tabled d strandBonds scaffoldBonds m) (choice : List (List ℕ)) (empty left : List ℕ) (energies : List Float) (count : ℕ)
+module _ {scaffold glues : List ℕ} {dg ds potentials : List Float} {rt : Float} {strandBonds scaffoldBonds : List Float} {m : Model}
+    (t : Tabled scaffold glues dg ds potentials rt strandBonds scaffoldBonds m) (choice : List (List ℕ)) (empty left : List ℕ) (energies : List Float) (count : ℕ)
     (r : Attached) (written : List ℕ)
-    (chosen : (key : ℕ → Float) → ((k : ℕ) → k < count → mul binary64 (getD energies k nan) (d .ambient .rt .0) ≡ key (getD left k 0)) → Chosen key (take count left) (firstLeast key (take count left)) r) where
+    (chosen : (key : ℕ → Float) → ((k : ℕ) → k < count → mul binary64 (getD energies k nan) rt ≡ key (getD left k 0)) → Chosen key (take count left) (firstLeast key (take count left)) r) where
   found-over : (position : ℕ) → Model.positions m ≡ position → count ≤ length left → Left m position count left energies → Table m position choice empty → written ≡ tracedBack (choiceIn choice empty) position (r .strand)
       → (written ≡ searchOver m (optionsAt m) (timesRt m) position .configuration) × (r .energy ≡ searchOver m (optionsAt m) (timesRt m) position .energy)
   unfolding searchOver tracedBack keyOf
@@ -171,7 +176,7 @@ module _ {d : Design} {strandBonds scaffoldBonds : List Float} {m : Model} (t : 
       (is, c .energy)
   found-over (suc last) e few w table is =
       let key = product m (optionsAt m) (timesRt m) last in
-      let c = rw (w .options) at (chosen key (λ k h. ap (λ (x : Float). mul binary64 x (d .ambient .rt .0)) (w .entries k h) ∙ ap (mul binary64 (entry m (optionsAt m) last (getD left k 0))) (t .rt))) in
+      let c = rw (w .options) at (chosen key (λ k h. ap (λ (x : Float). mul binary64 x rt) (w .entries k h) ∙ ap (mul binary64 (entry m (optionsAt m) last (getD left k 0))) (t .rt-is))) in
       let x = firstLeast key (optionsAt m last) in
       let o = pick-option (orEarlier key) (λ kept y. swapped (either-of (lt (key y) (key kept)) y kept)) m last in (
         is
@@ -180,7 +185,7 @@ module _ {d : Design} {strandBonds scaffoldBonds : List Float} {m : Model} (t : 
         c .energy ∙ some-options m last key x,
       )
 
-  pub found : (position : ℕ) → position ≡ positions d → count ≤ length left → Left m position count left energies → Table m position choice empty → written ≡ tracedBack (choiceIn choice empty) position (r .strand)
+  pub found : (position : ℕ) → position ≡ length scaffold → count ≤ length left → Left m position count left energies → Table m position choice empty → written ≡ tracedBack (choiceIn choice empty) position (r .strand)
       → Found m written (r .energy)
   unfolding search
   found position e few w table is =

@@ -9,7 +9,6 @@ use lib.Ieee.{Float, nan}
 use Rattle.doubles.specs.Decimal as Decimal
 use Rattle.model.specs.Model.{Model, optionsOf}
 use Rattle.model.specs.Search.{entry, leftChoice, traced, optionsAt, search}
-use Rattle.design.specs.Design.{Design, friendsOf}
 use Rattle.mfe.specs.declared.matrix.Attached.{Attached}
 use Rattle.mfe.specs.declared.friends.Friends.{Friends}
 use Rattle.mfe.specs.declared.matrix.MfeValues.{MfeValues}
@@ -40,11 +39,11 @@ pub record Occupied (total : ℕ) (r : Friends) : Type 0 where
   pub empty : getD (r .strands) (r .count) 0 ≡ 0
 
 -- the friends of a position
-pub record FriendsHere (d : Design) (i : ℕ) (r : Friends) : Type 0 where
+pub record FriendsHere (friends : List ℕ) (r : Friends) : Type 0 where
   pub sized : length (r .strands) ≡ 64
-  pub number : r .count ≡ length (friendsOf d i)
+  pub number : r .count ≡ length friends
   pub few : r .count < 64
-  pub options : take (r .count + 1) (r .strands) ≡ optionsOf (friendsOf d i)
+  pub options : take (r .count + 1) (r .strands) ≡ optionsOf friends
 
 -- ---- the entries to the left of a position; at position 0 there are none
 

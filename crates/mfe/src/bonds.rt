@@ -1,65 +1,51 @@
 // The bonds of a design, each worked out once: strands by strands, and positions by strands, row first.
-use super::friends::BOTTOM_GLUE_INDEX;
-use super::friends::EAST_GLUE_INDEX;
-use super::friends::WEST_GLUE_INDEX;
-use super::friends::cell_index;
-use sdc1d::bonds::bond;
+use design::bonds::scaffold_bond;
+use design::bonds::strand_bond;
 use units::Ambient;
-use units::KcalPerMol;
-use units::KcalPerMolKelvin;
 ghost use mathlib.Core.Path.{_≡_};
-ghost use Prim.Native.Nat.{_+_, _<_};
+ghost use Prim.Native.Nat.{_+_, _<_, _≤_};
+ghost use lib.ListN.{length};
 ghost use lib.Ieee.{nan};
 ghost use Rattle.lists.specs.Grid.{Grid};
-ghost use Rattle.design.specs.Design.{lent, positions, strands, strandBond, scaffoldBond};
-ghost use Rattle.design.specs.Sized.{Sized};
+ghost use Rattle.design.specs.Design.{strandBond};
+ghost use Rattle.mfe.specs.Tables.{scaffoldBondsOf};
 
 // One row for x: its bonds with each strand to the east of it.
 fn fill_strand_row(
-    scaffold: &[u8],
     glues: &[u8],
     dg: &[f64],
     ds: &[f64],
-    potentials: &[f64],
     ambient: Ambient,
+    strands: usize,
     x: usize,
     cells: &mut [f64],
 )
-    requires { ⌜ Sized (lent scaffold glues dg ds potentials ambient) ⌝ }
-    requires { ⌜ x < strands (lent scaffold glues dg ds potentials ambient) ⌝ }
-    requires { ⌜ Grid (strandBond (lent scaffold glues dg ds potentials ambient)) nan (strands (lent scaffold glues dg ds potentials ambient)) 4096 x 0 (now cells) ⌝ }
-    ensures { λ _. ⌜ Grid (strandBond (lent (scaffold .entry) (glues .entry) (dg .entry) (ds .entry) (potentials .entry) ambient)) nan (strands (lent (scaffold .entry) (glues .entry) (dg .entry) (ds .entry) (potentials .entry) ambient)) 4096 (x + 1) 0 (now (cells .exit)) ⌝ }
+    requires { ⌜ strands ≤ 64 ⌝ }
+    requires { ⌜ x < strands ⌝ }
+    requires { ⌜ Grid (strandBond (now glues) (now dg) (now ds) ambient) nan strands 4096 x 0 (now cells) ⌝ }
+    ensures { λ _. ⌜ Grid (strandBond (now (glues .entry)) (now (dg .entry)) (now (ds .entry)) ambient) nan strands 4096 (x + 1) 0 (now (cells .exit)) ⌝ }
 {
-    let strands = potentials.len();
-    let x_east_glue = glues[3 * x + EAST_GLUE_INDEX];
     let mut y = 0;
     while y < strands {
-        let at = cell_index(x_east_glue, glues[3 * y + WEST_GLUE_INDEX]);
-        cells[x * strands + y] = bond(
-            KcalPerMol(dg[at]),
-            KcalPerMolKelvin(ds[at]),
-            ambient.strand_excess,
-            ambient.rt,
-        );
+        cells[x * strands + y] = strand_bond(glues, dg, ds, ambient, x as u8, y as u8);
         y += 1;
     }
 }
 
 pub(crate) fn strand_bonds(
-    scaffold: &[u8],
     glues: &[u8],
     dg: &[f64],
     ds: &[f64],
-    potentials: &[f64],
     ambient: Ambient,
+    strands: usize,
 ) -> [f64; 4096]
-    requires { ⌜ Sized (lent scaffold glues dg ds potentials ambient) ⌝ }
-    ensures { λ r. ⌜ Grid (strandBond (lent (scaffold .entry) (glues .entry) (dg .entry) (ds .entry) (potentials .entry) ambient)) nan (strands (lent (scaffold .entry) (glues .entry) (dg .entry) (ds .entry) (potentials .entry) ambient)) 4096 (strands (lent (scaffold .entry) (glues .entry) (dg .entry) (ds .entry) (potentials .entry) ambient)) 0 r ⌝ }
+    requires { ⌜ strands ≤ 64 ⌝ }
+    ensures { λ r. ⌜ Grid (strandBond (now (glues .entry)) (now (dg .entry)) (now (ds .entry)) ambient) nan strands 4096 strands 0 r ⌝ }
 {
     let mut cells = [0.0; 4096];
     let mut x = 0;
-    while x < potentials.len() {
-        fill_strand_row(scaffold, glues, dg, ds, potentials, ambient, x, &mut cells);
+    while x < strands {
+        fill_strand_row(glues, dg, ds, ambient, strands, x, &mut cells);
         x += 1;
     }
     cells
@@ -71,26 +57,27 @@ fn fill_scaffold_row(
     glues: &[u8],
     dg: &[f64],
     ds: &[f64],
-    potentials: &[f64],
     ambient: Ambient,
+    strands: usize,
     position: usize,
     cells: &mut [f64],
 )
-    requires { ⌜ Sized (lent scaffold glues dg ds potentials ambient) ⌝ }
-    requires { ⌜ position < positions (lent scaffold glues dg ds potentials ambient) ⌝ }
-    requires { ⌜ Grid (scaffoldBond (lent scaffold glues dg ds potentials ambient)) nan (strands (lent scaffold glues dg ds potentials ambient)) 8192 position 0 (now cells) ⌝ }
-    ensures { λ _. ⌜ Grid (scaffoldBond (lent (scaffold .entry) (glues .entry) (dg .entry) (ds .entry) (potentials .entry) ambient)) nan (strands (lent (scaffold .entry) (glues .entry) (dg .entry) (ds .entry) (potentials .entry) ambient)) 8192 (position + 1) 0 (now (cells .exit)) ⌝ }
+    requires { ⌜ strands ≤ 64 ⌝ }
+    requires { ⌜ length (now scaffold) ≤ 128 ⌝ }
+    requires { ⌜ position < length (now scaffold) ⌝ }
+    requires { ⌜ Grid (scaffoldBondsOf (now scaffold) (now glues) (now dg) (now ds) ambient) nan strands 8192 position 0 (now cells) ⌝ }
+    ensures { λ _. ⌜ Grid (scaffoldBondsOf (now (scaffold .entry)) (now (glues .entry)) (now (dg .entry)) (now (ds .entry)) ambient) nan strands 8192 (position + 1) 0 (now (cells .exit)) ⌝ }
 {
-    let strands = potentials.len();
     let scaffold_glue = scaffold[position];
     let mut strand = 0;
     while strand < strands {
-        let at = cell_index(scaffold_glue, glues[3 * strand + BOTTOM_GLUE_INDEX]);
-        cells[position * strands + strand] = bond(
-            KcalPerMol(dg[at]),
-            KcalPerMolKelvin(ds[at]),
-            ambient.scaffold_excess,
-            ambient.rt,
+        cells[position * strands + strand] = scaffold_bond(
+            scaffold_glue,
+            glues,
+            dg,
+            ds,
+            ambient,
+            strand as u8,
         );
         strand += 1;
     }
@@ -101,11 +88,12 @@ pub(crate) fn scaffold_bonds(
     glues: &[u8],
     dg: &[f64],
     ds: &[f64],
-    potentials: &[f64],
     ambient: Ambient,
+    strands: usize,
 ) -> [f64; 8192]
-    requires { ⌜ Sized (lent scaffold glues dg ds potentials ambient) ⌝ }
-    ensures { λ r. ⌜ Grid (scaffoldBond (lent (scaffold .entry) (glues .entry) (dg .entry) (ds .entry) (potentials .entry) ambient)) nan (strands (lent (scaffold .entry) (glues .entry) (dg .entry) (ds .entry) (potentials .entry) ambient)) 8192 (positions (lent (scaffold .entry) (glues .entry) (dg .entry) (ds .entry) (potentials .entry) ambient)) 0 r ⌝ }
+    requires { ⌜ strands ≤ 64 ⌝ }
+    requires { ⌜ length (now scaffold) ≤ 128 ⌝ }
+    ensures { λ r. ⌜ Grid (scaffoldBondsOf (now (scaffold .entry)) (now (glues .entry)) (now (dg .entry)) (now (ds .entry)) ambient) nan strands 8192 (length (now (scaffold .entry))) 0 r ⌝ }
 {
     let mut cells = [0.0; 8192];
     let mut position = 0;
@@ -115,8 +103,8 @@ pub(crate) fn scaffold_bonds(
             glues,
             dg,
             ds,
-            potentials,
             ambient,
+            strands,
             position,
             &mut cells,
         );

@@ -35,25 +35,19 @@ pub fn mfe_configuration(
     if configuration.len() != scaffold.len() {
         return Settled::Refused(Refusal::WrongSize, Place::Nowhere);
     }
-    match sdc1d::checks::design_reply(scaffold, glues, dg, ds, potentials, ambient) {
+    match design::checks::design_reply(scaffold, glues, dg, ds, potentials, ambient) {
         Reply::Refused(refusal) => Settled::Refused(refusal, Place::Nowhere),
         Reply::Admitted => {
-            let strand_bonds = bonds::strand_bonds(scaffold, glues, dg, ds, potentials, ambient);
-            let scaffold_bonds = bonds::scaffold_bonds(
-                scaffold,
-                glues,
-                dg,
-                ds,
-                potentials,
-                ambient,
-            );
+            let strands = potentials.len();
+            let strand_bonds = bonds::strand_bonds(glues, dg, ds, ambient, strands);
+            let scaffold_bonds = bonds::scaffold_bonds(scaffold, glues, dg, ds, ambient, strands);
             Settled::Energy(matrix::lowest(
                 scaffold,
                 glues,
                 dg,
                 ds,
                 potentials,
-                ambient,
+                ambient.rt,
                 &strand_bonds,
                 &scaffold_bonds,
                 configuration,

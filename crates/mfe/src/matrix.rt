@@ -2,7 +2,6 @@
 use super::friends::Friends;
 use super::friends::friends_btm;
 use super::friends::wide;
-use units::Ambient;
 use units::KcalPerMol;
 ghost use mathlib.Core.Path.{_≡_};
 ghost use Prim.Native.Nat.{ℕ, _+_, _*_, _<_, _≤_};
@@ -11,7 +10,6 @@ ghost use lib.Ieee as Ieee;
 ghost use lib.Ieee.{Float, binary64, nan};
 ghost use Rattle.doubles.specs.Least.{lastLeast, firstLeast};
 ghost use Rattle.model.specs.Model.{Model};
-ghost use Rattle.design.specs.Design.{lent, positions, strands};
 ghost use Rattle.mfe.specs.Tables.{Searchable, Roomy, Cells, Tabled};
 ghost use Rattle.mfe.specs.Entries.{Chosen, Row, Occupied, Left, Values, LowValues, choiceIn, Low, tracedBack, Found};
 
@@ -201,15 +199,15 @@ pub(crate) fn lowest(
     dg: &[f64],
     ds: &[f64],
     potentials: &[f64],
-    ambient: Ambient,
+    rt: KcalPerMol,
     strand_bonds: &[f64],
     scaffold_bonds: &[f64],
     configuration: &mut [u8],
 ) -> KcalPerMol
-    requires { ⌜ Searchable (lent scaffold glues dg ds potentials ambient) ⌝ }
-    requires { ⌜ Roomy (strands (lent scaffold glues dg ds potentials ambient)) (positions (lent scaffold glues dg ds potentials ambient)) (now «strand_bonds») (now «scaffold_bonds») ⌝ }
-    requires { ⌜ length (now configuration) ≡ positions (lent scaffold glues dg ds potentials ambient) ⌝ }
-    ensures { λ r. ⌜ ((m : Model) → Tabled (lent (scaffold .entry) (glues .entry) (dg .entry) (ds .entry) (potentials .entry) ambient) (now («strand_bonds» .entry)) (now («scaffold_bonds» .entry)) m → Found m (now (configuration .exit)) (r .0)) ⌝ }
+    requires { ⌜ Searchable (now scaffold) (now glues) (now dg) (now ds) (length (now potentials)) ⌝ }
+    requires { ⌜ Roomy (length (now potentials)) (length (now scaffold)) (now «strand_bonds») (now «scaffold_bonds») ⌝ }
+    requires { ⌜ length (now configuration) ≡ length (now scaffold) ⌝ }
+    ensures { λ r. ⌜ ((m : Model) → Tabled (now (scaffold .entry)) (now (glues .entry)) (now (dg .entry)) (now (ds .entry)) (now (potentials .entry)) (rt .0) (now («strand_bonds» .entry)) (now («scaffold_bonds» .entry)) m → Found m (now (configuration .exit)) (r .0)) ⌝ }
 {
     let mut choice = [[0u8; 64]; 128];
     let mut empty = [0u8; 128];
@@ -218,7 +216,7 @@ pub(crate) fn lowest(
     let mut count = 0;
     let mut position = 0;
     while position < scaffold.len() {
-        let friends = friends_btm(scaffold, glues, dg, ds, potentials, ambient, position);
+        let friends = friends_btm(scaffold[position], glues, dg, ds, potentials.len());
         let next = mfe_next_vector(
             strand_bonds,
             scaffold_bonds,
@@ -237,7 +235,7 @@ pub(crate) fn lowest(
         count = friends.count + 1;
         position += 1;
     }
-    let last = lowest_product(&left, &energies, count, ambient.rt);
+    let last = lowest_product(&left, &energies, count, rt);
     trace(choice, empty, last.strand, configuration);
     KcalPerMol(last.energy)
 }

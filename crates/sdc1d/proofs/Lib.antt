@@ -1,4 +1,2 @@
-pub mod Cells
 pub mod Options
-pub mod Replies
 pub mod Counted

@@ -1,6 +1,8 @@
 // Both energies of a configuration, summed in the Rust's order from 0.0.
-use super::bonds::scaffold_bond;
-use super::bonds::strand_bond;
+use design::bonds::scaffold_bond;
+use design::bonds::strand_bond;
+use design::reads::byte_at;
+use design::reads::number_at;
 use units::Ambient;
 ghost use mathlib.Core.Path.{_≡_};
 ghost use Prim.Native.Nat.{_+_, _<_};
@@ -8,14 +10,7 @@ ghost use lib.ListN.{getD, drop};
 ghost use Rattle.doubles.specs.Decimal.{zero};
 ghost use Rattle.doubles.specs.Sum.{sumFrom};
 ghost use Rattle.model.specs.Energy.{statePlace, stateTerms, leftOf, chainPlace, chainEnergy};
-ghost use Rattle.design.specs.Design.{lent, positions, modelOf};
-ghost use Rattle.design.specs.Sized.{Sized, Placed};
-
-fn wide(occupant: u8) -> usize
-    ensures { λ r. ⌜ r ≡ occupant ⌝ }
-{
-    occupant as usize
-}
+ghost use Rattle.design.specs.Design.{lent, modelOf};
 
 // The sum of `g_system` after one more place.
 fn add_place(
@@ -29,33 +24,21 @@ fn add_place(
     id: usize,
     sumg: f64,
 ) -> f64
-    requires { ⌜ Sized (lent scaffold glues dg ds potentials ambient) ⌝ }
-    requires { ⌜ Placed (lent scaffold glues dg ds potentials ambient) (now attachments) ⌝ }
-    requires { ⌜ id < positions (lent scaffold glues dg ds potentials ambient) ⌝ }
+    requires { ⌜ id < length (now attachments) ⌝ }
     ensures { λ r. ⌜ r ≡ sumFrom sumg (statePlace (modelOf (lent (scaffold .entry) (glues .entry) (dg .entry) (ds .entry) (potentials .entry) ambient)) id (getD (now (attachments .entry)) id 0) (drop (id + 1) (now (attachments .entry)))) ⌝ }
 {
-    let strand = wide(attachments[id]);
+    let strand = attachments[id];
     if strand == 0 {
         return sumg;
     }
-    let bonded = sumg + scaffold_bond(scaffold, glues, dg, ds, potentials, ambient, id, strand);
+    let site = scaffold_bond(byte_at(scaffold, id), glues, dg, ds, ambient, strand);
+    let potential = number_at(potentials, strand as usize);
     let right = id + 1;
     if right < attachments.len() {
-        let neighbour = wide(attachments[right]);
-        let joined = bonded
-            + strand_bond(
-                scaffold,
-                glues,
-                dg,
-                ds,
-                potentials,
-                ambient,
-                strand,
-                neighbour,
-            );
-        return joined - potentials[strand];
+        let pair = strand_bond(glues, dg, ds, ambient, strand, attachments[right]);
+        return sumg + site + pair - potential;
     }
-    bonded - potentials[strand]
+    sumg + site - potential
 }
 
 pub(crate) fn state_sum(
@@ -67,8 +50,6 @@ pub(crate) fn state_sum(
     ambient: Ambient,
     attachments: &[u8],
 ) -> f64
-    requires { ⌜ Sized (lent scaffold glues dg ds potentials ambient) ⌝ }
-    requires { ⌜ Placed (lent scaffold glues dg ds potentials ambient) (now attachments) ⌝ }
     ensures { λ r. ⌜ r ≡ sumFrom zero (stateTerms (modelOf (lent (scaffold .entry) (glues .entry) (dg .entry) (ds .entry) (potentials .entry) ambient)) 0 (now (attachments .entry))) ⌝ }
 {
     let mut sumg = 0.0;
@@ -102,31 +83,20 @@ fn chain_place(
     position: usize,
     sum: f64,
 ) -> f64
-    requires { ⌜ Sized (lent scaffold glues dg ds potentials ambient) ⌝ }
-    requires { ⌜ Placed (lent scaffold glues dg ds potentials ambient) (now configuration) ⌝ }
-    requires { ⌜ position < positions (lent scaffold glues dg ds potentials ambient) ⌝ }
+    requires { ⌜ position < length (now configuration) ⌝ }
     ensures { λ r. ⌜ r ≡ sumFrom sum (chainPlace (modelOf (lent (scaffold .entry) (glues .entry) (dg .entry) (ds .entry) (potentials .entry) ambient)) position (leftOf (now (configuration .entry)) position) (getD (now (configuration .entry)) position 0)) ⌝ }
 {
-    let strand = wide(configuration[position]);
+    let strand = configuration[position];
     if strand == 0 {
         return sum;
     }
-    let bond = scaffold_bond(
-        scaffold,
-        glues,
-        dg,
-        ds,
-        potentials,
-        ambient,
-        position,
-        strand,
-    );
+    let site = scaffold_bond(byte_at(scaffold, position), glues, dg, ds, ambient, strand);
+    let potential = number_at(potentials, strand as usize);
     if position == 0 {
-        return sum + bond - potentials[strand];
+        return sum + site - potential;
     }
-    let left = wide(configuration[position - 1]);
-    sum + strand_bond(scaffold, glues, dg, ds, potentials, ambient, left, strand) + bond
-        - potentials[strand]
+    let pair = strand_bond(glues, dg, ds, ambient, configuration[position - 1], strand);
+    sum + pair + site - potential
 }
 
 pub(crate) fn chain_sum(
@@ -138,8 +108,6 @@ pub(crate) fn chain_sum(
     ambient: Ambient,
     configuration: &[u8],
 ) -> f64
-    requires { ⌜ Sized (lent scaffold glues dg ds potentials ambient) ⌝ }
-    requires { ⌜ Placed (lent scaffold glues dg ds potentials ambient) (now configuration) ⌝ }
     ensures { λ r. ⌜ r ≡ chainEnergy (modelOf (lent (scaffold .entry) (glues .entry) (dg .entry) (ds .entry) (potentials .entry) ambient)) (now (configuration .entry)) ⌝ }
 {
     let mut sum = 0.0;

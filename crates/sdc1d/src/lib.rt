@@ -1,13 +1,14 @@
-// Designs of a scaffold and strands (sdc1d.rs): their checks, bonds, friends, states, and both energies.
+// Bonds, friends, states and energies of a design of a scaffold and strands (sdc1d.rs).
 //
 // What the Rust reads off `self` is lent in six parameters, in one order: the scaffold's glues, three glues for each strand, the dG and the dS
 // table, a potential for each strand, and the ambient.
-pub mod bonds;
-pub mod checks;
 mod energies;
 mod friends;
 mod states;
 
+use design::bonds::scaffold_bond;
+use design::bonds::strand_bond;
+use design::checks::design_reply;
 use reply::Place;
 use reply::Refusal;
 use reply::Reply;
@@ -64,29 +65,20 @@ pub fn bond_between_strands(
     ds: &[f64],
     potentials: &[f64],
     ambient: Ambient,
-    x: usize,
-    y: usize,
+    x: u8,
+    y: u8,
 ) -> BondAnswer
     ensures { λ r. ⌜ bondFigures r ≡ strandBondAnswer (lent (scaffold .entry) (glues .entry) (dg .entry) (ds .entry) (potentials .entry) ambient) x y ⌝ }
 {
-    if potentials.len() <= x {
+    if potentials.len() <= x as usize {
         return BondAnswer::Refused(Refusal::WrongSize, Place::Nowhere);
     }
-    if potentials.len() <= y {
+    if potentials.len() <= y as usize {
         return BondAnswer::Refused(Refusal::WrongSize, Place::Nowhere);
     }
-    match checks::design_reply(scaffold, glues, dg, ds, potentials, ambient) {
+    match design_reply(scaffold, glues, dg, ds, potentials, ambient) {
         Reply::Refused(refusal) => BondAnswer::Refused(refusal, Place::Nowhere),
-        Reply::Admitted => BondAnswer::Bond(bonds::strand_bond(
-            scaffold,
-            glues,
-            dg,
-            ds,
-            potentials,
-            ambient,
-            x,
-            y,
-        )),
+        Reply::Admitted => BondAnswer::Bond(strand_bond(glues, dg, ds, ambient, x, y)),
     }
 }
 
@@ -99,28 +91,20 @@ pub fn bond_with_scaffold(
     potentials: &[f64],
     ambient: Ambient,
     position: usize,
-    strand: usize,
+    strand: u8,
 ) -> BondAnswer
     ensures { λ r. ⌜ bondFigures r ≡ scaffoldBondAnswer (lent (scaffold .entry) (glues .entry) (dg .entry) (ds .entry) (potentials .entry) ambient) position strand ⌝ }
 {
     if scaffold.len() <= position {
         return BondAnswer::Refused(Refusal::WrongSize, Place::Nowhere);
     }
-    if potentials.len() <= strand {
+    if potentials.len() <= strand as usize {
         return BondAnswer::Refused(Refusal::WrongSize, Place::Nowhere);
     }
-    match checks::design_reply(scaffold, glues, dg, ds, potentials, ambient) {
+    let glue = scaffold[position];
+    match design_reply(scaffold, glues, dg, ds, potentials, ambient) {
         Reply::Refused(refusal) => BondAnswer::Refused(refusal, Place::Nowhere),
-        Reply::Admitted => BondAnswer::Bond(bonds::scaffold_bond(
-            scaffold,
-            glues,
-            dg,
-            ds,
-            potentials,
-            ambient,
-            position,
-            strand,
-        )),
+        Reply::Admitted => BondAnswer::Bond(scaffold_bond(glue, glues, dg, ds, ambient, strand)),
     }
 }
 
@@ -144,18 +128,13 @@ pub fn friends_btm(
     if entries.len() != FRIENDS {
         return FriendsAnswer::Refused(Refusal::WrongSize, Place::Nowhere);
     }
-    match checks::design_reply(scaffold, glues, dg, ds, potentials, ambient) {
+    let glue = scaffold[position];
+    match design_reply(scaffold, glues, dg, ds, potentials, ambient) {
         Reply::Refused(refusal) => FriendsAnswer::Refused(refusal, Place::Nowhere),
-        Reply::Admitted => FriendsAnswer::Friends(friends::write_friends(
-            scaffold,
-            glues,
-            dg,
-            ds,
-            potentials,
-            ambient,
-            position,
-            entries,
-        )),
+        Reply::Admitted => {
+            let strands = potentials.len() as u8;
+            FriendsAnswer::Friends(friends::write_friends(glue, glues, dg, ds, strands, entries))
+        }
     }
 }
 
@@ -170,14 +149,14 @@ pub fn number_of_states(
 ) -> CountAnswer
     ensures { λ r. ⌜ countFigures r ≡ countAnswer (lent (scaffold .entry) (glues .entry) (dg .entry) (ds .entry) (potentials .entry) ambient) ⌝ }
 {
-    match checks::design_reply(scaffold, glues, dg, ds, potentials, ambient) {
+    match design_reply(scaffold, glues, dg, ds, potentials, ambient) {
         Reply::Refused(refusal) => CountAnswer::Refused(refusal, Place::Nowhere),
         Reply::Admitted => {
-            let count = states::state_count(scaffold, glues, dg, ds, potentials, ambient);
-            if MOST_STATES < count {
+            let number = states::state_count(scaffold, glues, dg, ds, potentials.len() as u8);
+            if MOST_STATES < number {
                 return CountAnswer::Refused(Refusal::TooManyStates, Place::Nowhere);
             }
-            CountAnswer::States(count)
+            CountAnswer::States(number)
         }
     }
 }
@@ -199,27 +178,18 @@ pub fn state_at_rank(
     if entries.len() != scaffold.len() {
         return StateAnswer::Refused(Refusal::WrongSize, Place::Nowhere);
     }
-    match checks::design_reply(scaffold, glues, dg, ds, potentials, ambient) {
+    match design_reply(scaffold, glues, dg, ds, potentials, ambient) {
         Reply::Refused(refusal) => StateAnswer::Refused(refusal, Place::Nowhere),
         Reply::Admitted => {
-            let count = states::state_count(scaffold, glues, dg, ds, potentials, ambient);
+            let strands = potentials.len() as u8;
+            let count = states::state_count(scaffold, glues, dg, ds, strands);
             if MOST_STATES < count {
                 return StateAnswer::Refused(Refusal::TooManyStates, Place::Nowhere);
             }
             if count <= rank {
                 return StateAnswer::Refused(Refusal::RankTooHigh, Place::Nowhere);
             }
-            states::write_state(
-                scaffold,
-                glues,
-                dg,
-                ds,
-                potentials,
-                ambient,
-                count,
-                rank,
-                entries,
-            );
+            states::write_state(scaffold, glues, dg, ds, strands, count, rank, entries);
             StateAnswer::Written
         }
     }
@@ -240,18 +210,11 @@ pub fn g_system(
     if attachments.len() != scaffold.len() {
         return EnergyAnswer::Refused(Refusal::WrongSize, Place::Nowhere);
     }
-    match checks::design_reply(scaffold, glues, dg, ds, potentials, ambient) {
+    match design_reply(scaffold, glues, dg, ds, potentials, ambient) {
         Reply::Refused(refusal) => EnergyAnswer::Refused(refusal, Place::Nowhere),
         Reply::Admitted => {
-            let stranger = states::first_stranger(
-                scaffold,
-                glues,
-                dg,
-                ds,
-                potentials,
-                ambient,
-                attachments,
-            );
+            let strands = potentials.len() as u8;
+            let stranger = states::first_stranger(scaffold, glues, dg, ds, strands, attachments);
             if stranger < scaffold.len() {
                 return EnergyAnswer::Refused(Refusal::NotAFriend, Place::Nowhere);
             }
@@ -284,18 +247,11 @@ pub fn chain_energy(
     if configuration.len() != scaffold.len() {
         return ChainAnswer::Refused(Refusal::WrongSize, Place::Nowhere);
     }
-    match checks::design_reply(scaffold, glues, dg, ds, potentials, ambient) {
+    match design_reply(scaffold, glues, dg, ds, potentials, ambient) {
         Reply::Refused(refusal) => ChainAnswer::Refused(refusal, Place::Nowhere),
         Reply::Admitted => {
-            let stranger = states::first_stranger(
-                scaffold,
-                glues,
-                dg,
-                ds,
-                potentials,
-                ambient,
-                configuration,
-            );
+            let strands = potentials.len() as u8;
+            let stranger = states::first_stranger(scaffold, glues, dg, ds, strands, configuration);
             if stranger < scaffold.len() {
                 return ChainAnswer::Refused(Refusal::NotAFriend, Place::Nowhere);
             }

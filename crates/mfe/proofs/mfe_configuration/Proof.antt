@@ -16,9 +16,8 @@ use Rattle.design.specs.Design.{Design, lent, positions, modelOf}
 use Rattle.design.specs.Checks.{Admitted}
 use Rattle.design.specs.Answers.{given}
 use Rattle.design.specs.Laws.{Doubles}
-use Rattle.design.proofs.Sizes.{sized}
-use Rattle.sdc1d.proofs.Replies.{admitted, own-size, design-refused, design-admitted, answered, turned-down, entries-written, entries-kept}
-use Rattle.mfe.proofs.Shown.{not-admitted, searchable, roomy, tabled, lowest-shown}
+use Rattle.design.proofs.Replies.{admitted, own-size, design-refused, design-admitted, answered, turned-down, entries-written, entries-kept}
+use Rattle.mfe.proofs.Shown.{not-admitted, few, short, searchable, roomy, tabled, lowest-shown}
 use Rattle.mfe.proofs.mfe_configuration.Statement.{statement}
 use Rattle.mfe.proofs.mfe_configuration.Tie as tie
 
@@ -50,13 +49,14 @@ strand-bonds-requires : tie.Need-strand-bonds-requires
 strand-bonds-requires c κs =
     let a = c .before .before .before .before .before .before .before .before .before .before .args in
     let d : Design = lent (a .scaffold) (a .glues) (a .dg) (a .ds) (a .potentials) (a .ambient) in
-    sized d (admitted d (sym (c .before .before .design-reply .ensures) ∙ c .enum-told .given .1) .sizes)
+    few d (admitted d (sym (c .before .before .design-reply .ensures) ∙ c .enum-told .given .1))
 
 scaffold-bonds-requires : tie.Need-scaffold-bonds-requires
 scaffold-bonds-requires c κs =
     let a = c .before .before .before .before .before .before .before .before .before .before .before .args in
     let d : Design = lent (a .scaffold) (a .glues) (a .dg) (a .ds) (a .potentials) (a .ambient) in
-    sized d (admitted d (sym (c .before .before .before .design-reply .ensures) ∙ c .before .enum-told .given .1) .sizes)
+    let w = admitted d (sym (c .before .before .before .design-reply .ensures) ∙ c .before .enum-told .given .1) in
+    (few d w, short d w)
 
 slice-aggregate-lowest : tie.Need-slice-aggregate-lowest
 slice-aggregate-lowest c = search needs

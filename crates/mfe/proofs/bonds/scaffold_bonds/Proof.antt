@@ -7,16 +7,16 @@ use lib.Ieee.{Float, binary64, nan, ofBits}
 use borrow.Author.Needs.{needs}
 use Rattle.lists.specs.Grid.{Grid}
 use Rattle.lists.proofs.Grid.{grid-none}
-use Rattle.design.specs.Design.{design, scaffoldBond}
+use Rattle.mfe.specs.Tables.{scaffoldBondsOf}
 use Rattle.mfe.proofs.bonds.scaffold_bonds.Statement.{statement}
 use Rattle.mfe.proofs.bonds.scaffold_bonds.Tie as tie
 
 abbrev Inv-loop : tie.InvT-loop
-Inv-loop scaffold glues dg ds potentials ambient cells₀ position₀ cells position =
-    (position ≤ length scaffold) × Grid (scaffoldBond (design scaffold glues dg ds potentials ambient)) nan (length potentials) 8192 position 0 cells
+Inv-loop scaffold glues dg ds ambient strands cells₀ position₀ cells position =
+    (position ≤ length scaffold) × Grid (scaffoldBondsOf scaffold glues dg ds ambient) nan strands 8192 position 0 cells
 
 abbrev μ-loop : tie.MeasureT-loop
-μ-loop scaffold glues dg ds potentials ambient cells₀ position₀ cells position = length scaffold - position
+μ-loop scaffold glues dg ds ambient strands cells₀ position₀ cells position = length scaffold - position
 
 loop-holds : tie.Need-loop-holds Inv-loop μ-loop
 loop-holds c = (omega arith, grid-none (length-replicate {A = Float} 8192 (ofBits binary64 0)))
@@ -25,7 +25,7 @@ slice-aggregate-fill-scaffold-row : tie.Need-slice-aggregate-fill-scaffold-row I
 slice-aggregate-fill-scaffold-row c = search needs
 
 fill-scaffold-row-requires : tie.Need-fill-scaffold-row-requires Inv-loop μ-loop
-fill-scaffold-row-requires c κs = (c .before .before .before .before .before .before .before .before .pre, (c .before .loop-test .taken, c .before .before .loop .inv .1))
+fill-scaffold-row-requires c κs = (c .before .before .before .before .before .before .before .pre .0, (c .before .before .before .before .before .before .before .pre .1, (c .before .loop-test .taken, c .before .before .loop .inv .1)))
 
 add-position : tie.Need-add-position Inv-loop μ-loop
 add-position c = search needs
@@ -39,7 +39,7 @@ loop-again c = (omega arith, c .before .fill-scaffold-row .ensures)
 returns : tie.Need-returns Inv-loop μ-loop
 returns c =
     let l = c .before in
-    let end : l .loop .position ≡ length (c .before .before .before .before .before .before .before .args .scaffold .now) = omega arith in
+    let end : l .loop .position ≡ length (c .before .before .before .before .before .before .args .scaffold .now) = omega arith in
     rw end at (l .loop .inv .1)
 
 pub scaffold-bonds-spec : {M : Type 1} → statement M

@@ -2,21 +2,21 @@
 use mathlib.Core.Path.{_≡_}
 use Prim.Native.Nat.{_≤_, _-_}
 use native.Mathlib.Omega.{arith}
-use lib.ListN.{length, length-replicate}
+use lib.ListN.{length-replicate}
 use lib.Ieee.{Float, binary64, nan, ofBits}
 use borrow.Author.Needs.{needs}
 use Rattle.lists.specs.Grid.{Grid}
 use Rattle.lists.proofs.Grid.{grid-none}
-use Rattle.design.specs.Design.{design, strandBond}
+use Rattle.design.specs.Design.{strandBond}
 use Rattle.mfe.proofs.bonds.strand_bonds.Statement.{statement}
 use Rattle.mfe.proofs.bonds.strand_bonds.Tie as tie
 
 abbrev Inv-loop : tie.InvT-loop
-Inv-loop scaffold glues dg ds potentials ambient cells₀ x₀ cells x =
-    (x ≤ length potentials) × Grid (strandBond (design scaffold glues dg ds potentials ambient)) nan (length potentials) 4096 x 0 cells
+Inv-loop glues dg ds ambient strands cells₀ x₀ cells x =
+    (x ≤ strands) × Grid (strandBond glues dg ds ambient) nan strands 4096 x 0 cells
 
 abbrev μ-loop : tie.MeasureT-loop
-μ-loop scaffold glues dg ds potentials ambient cells₀ x₀ cells x = length potentials - x
+μ-loop glues dg ds ambient strands cells₀ x₀ cells x = strands - x
 
 loop-holds : tie.Need-loop-holds Inv-loop μ-loop
 loop-holds c = (omega arith, grid-none (length-replicate {A = Float} 4096 (ofBits binary64 0)))
@@ -25,7 +25,7 @@ slice-aggregate-fill-strand-row : tie.Need-slice-aggregate-fill-strand-row Inv-l
 slice-aggregate-fill-strand-row c = search needs
 
 fill-strand-row-requires : tie.Need-fill-strand-row-requires Inv-loop μ-loop
-fill-strand-row-requires c κs = (c .before .before .before .before .before .before .before .before .pre, (c .before .loop-test .taken, c .before .before .loop .inv .1))
+fill-strand-row-requires c κs = (c .before .before .before .before .before .before .pre, (c .before .loop-test .taken, c .before .before .loop .inv .1))
 
 add-x : tie.Need-add-x Inv-loop μ-loop
 add-x c = search needs
@@ -39,7 +39,7 @@ loop-again c = (omega arith, c .before .fill-strand-row .ensures)
 returns : tie.Need-returns Inv-loop μ-loop
 returns c =
     let l = c .before in
-    let end : l .loop .x ≡ length (c .before .before .before .before .before .before .before .args .potentials .now) = omega arith in
+    let end : l .loop .x ≡ c .before .before .before .before .before .args .strands = omega arith in
     rw end at (l .loop .inv .1)
 
 pub strand-bonds-spec : {M : Type 1} → statement M

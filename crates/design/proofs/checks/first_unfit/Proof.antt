@@ -1,0 +1,122 @@
+-- The search for a strand whose potential is out of range meets its contract. The invariant: what is found from a strand on, as many
+-- strands further, is what is found. Assumes nothing.
+use mathlib.Core.Path.{_≡_, sym, ap, _∙_}
+use mathlib.Core.Logic.{inl, inr}
+use mathlib.Core.Bool.{Bool, true, false, not, _&&_}
+use mathlib.Core.List.{List}
+use Prim.Native.Nat.{ℕ, _≤_, _+_, _-_}
+use native.Mathlib.Omega.{arith}
+use lib.ListN.{drop}
+use lib.Ieee.{Float, neg, ofBits}
+use borrow.Author.Needs.{needs}
+use Rattle.doubles.specs.Decimal.{nearest}
+use Rattle.lists.specs.Build.{upTo}
+use Rattle.lists.specs.Find.{firstIndex}
+use Rattle.lists.proofs.Build.{first-here, first-later, first-past}
+use Rattle.design.specs.Checks.{somewhere, beyond, unfit}
+use Rattle.design.proofs.checks.first_unfit.Statement.{statement}
+use Rattle.design.proofs.checks.first_unfit.Tie as tie
+use Rattle.design.proofs.checks.first_unfit.Reads as reads
+use Rattle.design.proofs.checks.first_unfit.Lts as lts
+use Rattle.design.proofs.friends.is_friend_somewhere.Reads as is-friend-somewhere-reads
+use Rattle.design.proofs.reads.number_at.Reads as number-at-reads
+use Rattle.doubles.proofs.in_range.Reads as in-range-reads
+
+-- a strand that is somewhere a friend is unfit exactly if its potential is out of range, and any other is not
+looked-at : (s b t : Bool) → s ≡ true → b ≡ t → (s && b) ≡ t
+looked-at s b t e f = rw (e, f)
+
+passed-over : (s b : Bool) → s ≡ false → (s && b) ≡ false
+passed-over s b e = rw e
+
+abbrev Inv-loop : tie.InvT-loop
+Inv-loop scaffold glues dg ds potentials strands strand₀ strand =
+    (strand ≤ strands)
+    × (firstIndex (unfit scaffold glues dg ds potentials) (upTo strands) ≡ strand + firstIndex (unfit scaffold glues dg ds potentials) (drop strand (upTo strands)))
+
+abbrev μ-loop : tie.MeasureT-loop
+μ-loop scaffold glues dg ds potentials strands strand₀ strand = strands - strand
+
+-- src/checks.rt:121:5
+loop-holds : tie.Need-loop-holds Inv-loop μ-loop
+loop-holds c = search needs
+
+-- src/checks.rt:122:12
+is-friend-somewhere-requires : tie.Need-is-friend-somewhere-requires Inv-loop μ-loop
+is-friend-somewhere-requires c κs = search needs
+
+-- src/checks.rt:123:51
+cast-number-at : tie.Need-cast-number-at Inv-loop μ-loop
+cast-number-at c = search needs
+
+-- src/checks.rt:123:17
+number-at-requires : tie.Need-number-at-requires Inv-loop μ-loop
+number-at-requires c κs = search needs
+
+-- src/checks.rt:124:17
+in-range-requires : tie.Need-in-range-requires Inv-loop μ-loop
+in-range-requires c κs = search needs
+
+-- src/checks.rt:125:17
+returns : tie.Need-returns Inv-loop μ-loop
+unfolding nearest neg ofBits
+returns c =
+    let a = c .before .before .before .before .before .before .before .before .before .before .before .before .args in
+    let l = c .before .before .before .before .before .before in
+    let t = unfit (a .scaffold .now) (a .glues .now) (a .dg .now) (a .ds .now) (a .potentials .now) in
+    let range = c .before .in-range .ensures in
+    let out = ap (beyond 1024) (sym (c .before .before .number-at .ensures)) ∙ ap not (sym range) ∙ c .if2 .taken in
+    let here = looked-at _ _ true (sym (c .before .before .before .before .is-friend-somewhere .ensures) ∙ c .before .before .before .if1 .taken) out in
+    omega (arith, first-here t (a .strands) (l .loop .strand) (c .before .before .before .before .before .loop-test .taken) here, l .loop .inv .1)
+
+-- src/checks.rt:128:9
+add-strand : tie.Need-add-strand Inv-loop μ-loop
+add-strand c = search needs
+
+-- src/checks.rt:121:5
+loop-less : tie.Need-loop-less Inv-loop μ-loop
+loop-less c = search needs
+
+-- src/checks.rt:121:5
+loop-again : tie.Need-loop-again Inv-loop μ-loop
+unfolding nearest neg ofBits
+loop-again c =
+    let a = c .before .before .before .before .before .before .before .before .before .args in
+    let l = c .before .before .before in
+    let t = unfit (a .scaffold .now) (a .glues .now) (a .dg .now) (a .ds .now) (a .potentials .now) in
+    let somewhere-is = sym (c .before .is-friend-somewhere .ensures) in
+    elim (c .if1 .came) [
+      | inl w ↦ (
+        omega arith,
+        omega (arith, first-later t (a .strands) (l .loop .strand) (c .before .before .loop-test .taken) (looked-at _ _ false (somewhere-is ∙ w .0 .taken) (ap (beyond 1024) (sym (w .1 .ensures)) ∙ ap not (sym (w .2 .ensures)) ∙ w .3 .left)), l .loop .inv .1),
+      )
+      | inr w ↦ (
+        omega arith,
+        omega (arith, first-later t (a .strands) (l .loop .strand) (c .before .before .loop-test .taken) (passed-over _ _ (somewhere-is ∙ w .left)), l .loop .inv .1),
+      )
+    ]
+
+-- src/checks.rt:117:1
+returns-2 : tie.Need-returns-2 Inv-loop μ-loop
+returns-2 c =
+    let a = c .before .before .before .before .before .before .before .args in
+    let l = c .before in
+    let t = unfit (a .scaffold .now) (a .glues .now) (a .dg .now) (a .ds .now) (a .potentials .now) in
+    omega (arith, first-past t (a .strands) (l .loop .strand) (c .loop-test .left), l .loop .inv .1)
+
+pub first-unfit-spec : {M : Type 1} → statement M
+first-unfit-spec =
+    tie.close
+    (tie.spec
+    Inv-loop
+    μ-loop
+    loop-holds
+    is-friend-somewhere-requires
+    cast-number-at
+    number-at-requires
+    in-range-requires
+    returns
+    add-strand
+    loop-less
+    loop-again
+    returns-2)

@@ -1,0 +1,23 @@
+-- A read with 0 past the end meets its contract. Assumes nothing.
+use borrow.Author.Needs.{needs}
+use mathlib.Core.Path.{sym}
+use lib.ListN.{List·getD-eq-default}
+use Rattle.design.proofs.reads.byte_at.Statement.{statement}
+use Rattle.design.proofs.reads.byte_at.Tie as tie
+use Rattle.design.proofs.reads.byte_at.Reads as reads
+use Rattle.design.proofs.reads.byte_at.Lts as lts
+
+-- src/reads.rt:23:16
+shared-slice-read-result : tie.Need-shared-slice-read-result
+shared-slice-read-result c = search needs
+
+-- src/reads.rt:23:9
+returns : tie.Need-returns
+returns c = search needs
+
+-- src/reads.rt:19:1
+returns-2 : tie.Need-returns-2
+returns-2 c = sym (List·getD-eq-default (c .before .args .bytes .now) 0 (c .if1 .left))
+
+pub byte-at-spec : {M : Type 1} → statement M
+byte-at-spec = tie.close (tie.spec shared-slice-read-result returns returns-2)

@@ -1,0 +1,62 @@
+// What a lent slice holds at a place, and 0 past its end.
+ghost use mathlib.Core.Path.{_≡_};
+ghost use Prim.Native.Nat.{_+_, _*_};
+ghost use lib.ListN.{getD};
+ghost use Rattle.doubles.specs.Decimal.{zero};
+ghost use Rattle.design.specs.Design.{cell, side};
+
+// A glue table has a row and a column for each glue.
+const GLUES: usize = 64;
+
+// A strand has three glues.
+const SIDES: usize = 3;
+
+// Which of them.
+pub const WEST_GLUE_INDEX: usize = 0;
+
+pub const BOTTOM_GLUE_INDEX: usize = 1;
+
+pub const EAST_GLUE_INDEX: usize = 2;
+
+pub fn byte_at(bytes: &[u8], place: usize) -> u8
+    ensures { λ r. ⌜ r ≡ getD (now (bytes .entry)) place 0 ⌝ }
+{
+    if place < bytes.len() {
+        return bytes[place];
+    }
+    0
+}
+
+pub fn number_at(numbers: &[f64], place: usize) -> f64
+    ensures { λ r. ⌜ r ≡ getD (now (numbers .entry)) place zero ⌝ }
+{
+    if place < numbers.len() {
+        return numbers[place];
+    }
+    0.0
+}
+
+// The cell [row][column] of a glue table.
+pub fn cell_at(table: &[f64], row: u8, column: u8) -> f64
+    ensures { λ r. ⌜ r ≡ cell (now (table .entry)) row column ⌝ }
+{
+    number_at(table, (row as usize) * GLUES + column as usize)
+}
+
+pub fn west_glue(glues: &[u8], strand: u8) -> u8
+    ensures { λ r. ⌜ r ≡ side (now (glues .entry)) strand 0 ⌝ }
+{
+    byte_at(glues, SIDES * (strand as usize) + WEST_GLUE_INDEX)
+}
+
+pub fn bottom_glue(glues: &[u8], strand: u8) -> u8
+    ensures { λ r. ⌜ r ≡ side (now (glues .entry)) strand 1 ⌝ }
+{
+    byte_at(glues, SIDES * (strand as usize) + BOTTOM_GLUE_INDEX)
+}
+
+pub fn east_glue(glues: &[u8], strand: u8) -> u8
+    ensures { λ r. ⌜ r ≡ side (now (glues .entry)) strand 2 ⌝ }
+{
+    byte_at(glues, SIDES * (strand as usize) + EAST_GLUE_INDEX)
+}
