@@ -3,7 +3,7 @@ use super::friends::binds;
 use super::friends::is_friend_somewhere;
 use super::reads::bottom_glue;
 use super::reads::east_glue;
-use super::reads::number_at;
+use super::reads::potential_of;
 use super::reads::west_glue;
 use reply::Refusal;
 use reply::Reply;
@@ -131,7 +131,7 @@ fn first_unfit(
     let mut strand = 0;
     while strand < strands {
         if is_friend_somewhere(scaffold, glues, dg, ds, strand) {
-            let potential = number_at(potentials, strand as usize);
+            let potential = potential_of(potentials, strand);
             if !doubles::in_range(-POTENTIAL, POTENTIAL, potential) {
                 return strand;
             }

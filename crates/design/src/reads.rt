@@ -60,3 +60,9 @@ pub fn east_glue(glues: &[u8], strand: u8) -> u8
 {
     byte_at(glues, SIDES * (strand as usize) + EAST_GLUE_INDEX)
 }
+
+pub fn potential_of(potentials: &[f64], strand: u8) -> f64
+    ensures { λ r. ⌜ r ≡ getD (now (potentials .entry)) strand zero ⌝ }
+{
+    number_at(potentials, strand as usize)
+}

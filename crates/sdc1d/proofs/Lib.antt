@@ -1,2 +1,3 @@
 pub mod Options
 pub mod Counted
+pub mod Calls

@@ -2,7 +2,7 @@
 use design::bonds::scaffold_bond;
 use design::bonds::strand_bond;
 use design::reads::byte_at;
-use design::reads::number_at;
+use design::reads::potential_of;
 use units::Ambient;
 ghost use mathlib.Core.Path.{_≡_};
 ghost use Prim.Native.Nat.{_+_, _<_};
@@ -32,7 +32,7 @@ fn add_place(
         return sumg;
     }
     let site = scaffold_bond(byte_at(scaffold, id), glues, dg, ds, ambient, strand);
-    let potential = number_at(potentials, strand as usize);
+    let potential = potential_of(potentials, strand);
     let right = id + 1;
     if right < attachments.len() {
         let pair = strand_bond(glues, dg, ds, ambient, strand, attachments[right]);
@@ -91,7 +91,7 @@ fn chain_place(
         return sum;
     }
     let site = scaffold_bond(byte_at(scaffold, position), glues, dg, ds, ambient, strand);
-    let potential = number_at(potentials, strand as usize);
+    let potential = potential_of(potentials, strand);
     if position == 0 {
         return sum + site - potential;
     }

@@ -5,20 +5,13 @@ use Prim.Native.Nat.{ℕ}
 use Rattle.design.specs.Design.{bondAt, scaffoldBond}
 use Rattle.design.proofs.bonds.scaffold_bond.Statement.{statement}
 use Rattle.design.proofs.bonds.scaffold_bond.Tie as tie
-use Rattle.design.proofs.bonds.scaffold_bond.Reads as reads
-use Rattle.design.proofs.bonds.scaffold_bond.Lts as lts
-use Rattle.design.proofs.bonds.bond_at.Reads as bond-at-reads
-use Rattle.design.proofs.reads.bottom_glue.Reads as bottom-glue-reads
 
--- src/bonds.rt:37:9
 bottom-glue-requires : tie.Need-bottom-glue-requires
 bottom-glue-requires c κs = search needs
 
--- src/bonds.rt:38:5
 bond-at-requires : tie.Need-bond-at-requires
 bond-at-requires c κs = search needs
 
--- src/bonds.rt:34:1
 returns : tie.Need-returns
 unfolding scaffoldBond
 returns c =

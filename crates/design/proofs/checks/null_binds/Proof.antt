@@ -1,24 +1,16 @@
 -- The test of what binds to null meets its contract: its tests are those of the definition, in their order. Assumes nothing.
 use borrow.Author.Needs.{needs}
-use mathlib.Core.Path.{sym, _∙_}
+use mathlib.Core.Path.{sym, _∙_, _≡_}
 use borrow.Author.Tests.{eq-eqb, ne-eqb}
-use Rattle.design.specs.Checks.{nullBinds}
-use mathlib.Core.Path.{_≡_}
+use Rattle.design.specs.Checks.{nullBinds, nullGlued, nullCells}
 use mathlib.Core.Bool.{Bool, false, _||_}
 use mathlib.Core.List.{List}
 use Prim.Native.Nat.{ℕ}
 use Rattle.lists.specs.Build.{upTo}
 use Rattle.lists.specs.Find.{any}
 use Rattle.design.specs.Design.{west, bottom, east}
-use Rattle.design.specs.Checks.{nullGlued, nullCells}
 use Rattle.design.proofs.checks.null_binds.Statement.{statement}
 use Rattle.design.proofs.checks.null_binds.Tie as tie
-use Rattle.design.proofs.checks.null_binds.Reads as reads
-use Rattle.design.proofs.checks.null_binds.Lts as lts
-use Rattle.design.proofs.checks.null_cells.Reads as null-cells-reads
-use Rattle.design.proofs.reads.bottom_glue.Reads as bottom-glue-reads
-use Rattle.design.proofs.reads.east_glue.Reads as east-glue-reads
-use Rattle.design.proofs.reads.west_glue.Reads as west-glue-reads
 
 no-glue : (glues : List ℕ) → west glues 0 ≡ 0 → bottom glues 0 ≡ 0 → east glues 0 ≡ 0 → nullGlued glues ≡ false
 no-glue glues w b e = simp (eq-eqb _ _ w, eq-eqb _ _ b, eq-eqb _ _ e)
@@ -26,39 +18,31 @@ no-glue glues w b e = simp (eq-eqb _ _ w, eq-eqb _ _ b, eq-eqb _ _ e)
 cells-decide : (a b : Bool) → a ≡ false → b ≡ (a || b)
 cells-decide a b e = rw e
 
--- src/checks.rt:153:8
 west-glue-requires : tie.Need-west-glue-requires
 west-glue-requires c κs = search needs
 
--- src/checks.rt:154:9
 returns : tie.Need-returns
 unfolding nullBinds
 returns c = simp (← c .before .west-glue .ensures, ne-eqb _ _ (c .if1 .taken))
 
--- src/checks.rt:156:8
 bottom-glue-requires : tie.Need-bottom-glue-requires
 bottom-glue-requires c κs = search needs
 
--- src/checks.rt:157:9
 returns-2 : tie.Need-returns-2
 unfolding nullBinds
 returns-2 c = simp (← c .before .before .before .west-glue .ensures, eq-eqb _ _ (c .before .before .if1 .left), ← c .before .bottom-glue .ensures, ne-eqb _ _ (c .if2 .taken))
 
--- src/checks.rt:159:8
 east-glue-requires : tie.Need-east-glue-requires
 east-glue-requires c κs = search needs
 
--- src/checks.rt:160:9
 returns-3 : tie.Need-returns-3
 unfolding nullBinds
 returns-3 c =
     simp (← c .before .before .before .before .before .west-glue .ensures, eq-eqb _ _ (c .before .before .before .before .if1 .left), ← c .before .before .before .bottom-glue .ensures, eq-eqb _ _ (c .before .before .if2 .left), ← c .before .east-glue .ensures, ne-eqb _ _ (c .if3 .taken))
 
--- src/checks.rt:162:5
 null-cells-requires : tie.Need-null-cells-requires
 null-cells-requires c κs = search needs
 
--- src/checks.rt:150:1
 returns-4 : tie.Need-returns-4
 unfolding nullBinds
 returns-4 c =

@@ -1,27 +1,19 @@
 -- The test of a cell meets its contract. Assumes nothing.
 use borrow.Author.Needs.{needs}
-use mathlib.Core.Path.{sym}
 use lib.Ieee.{ofBits}
 use Rattle.design.proofs.friends.binds.Statement.{statement}
 use Rattle.design.proofs.friends.binds.Tie as tie
-use Rattle.design.proofs.friends.binds.Reads as reads
-use Rattle.design.proofs.friends.binds.Lts as lts
-use Rattle.design.proofs.reads.cell_at.Reads as cell-at-reads
 
--- src/friends.rt:12:8
 cell-at-requires : tie.Need-cell-at-requires
 cell-at-requires c κs = search needs
 
--- src/friends.rt:13:9
 returns : tie.Need-returns
 unfolding ofBits
 returns c = simp (← c .before .cell-at .ensures, c .if1 .taken)
 
--- src/friends.rt:15:5
 cell-at-requires-2 : tie.Need-cell-at-requires-2
 cell-at-requires-2 c κs = search needs
 
--- src/friends.rt:9:1
 returns-2 : tie.Need-returns-2
 unfolding ofBits
 returns-2 c = simp (← c .before .before .cell-at .ensures, c .before .if1 .left, ← c .cell-at2 .ensures)

@@ -2,23 +2,15 @@
 use borrow.Author.Needs.{needs}
 use mathlib.Core.Path.{ap, _∙_}
 use Rattle.design.specs.Design.{befriends, binding}
-use Prim.Native.Nat.{ℕ}
 use Rattle.design.proofs.friends.is_friend.Statement.{statement}
 use Rattle.design.proofs.friends.is_friend.Tie as tie
-use Rattle.design.proofs.friends.is_friend.Reads as reads
-use Rattle.design.proofs.friends.is_friend.Lts as lts
-use Rattle.design.proofs.friends.binds.Reads as binds-reads
-use Rattle.design.proofs.reads.bottom_glue.Reads as bottom-glue-reads
 
--- src/friends.rt:21:34
 bottom-glue-requires : tie.Need-bottom-glue-requires
 bottom-glue-requires c κs = search needs
 
--- src/friends.rt:21:5
 binds-requires : tie.Need-binds-requires
 binds-requires c κs = search needs
 
--- src/friends.rt:18:1
 returns : tie.Need-returns
 unfolding befriends
 returns c =

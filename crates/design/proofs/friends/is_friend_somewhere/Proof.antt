@@ -12,10 +12,6 @@ use Rattle.design.specs.Design.{befriends}
 use Rattle.design.specs.Checks.{friendAt, somewhere}
 use Rattle.design.proofs.friends.is_friend_somewhere.Statement.{statement}
 use Rattle.design.proofs.friends.is_friend_somewhere.Tie as tie
-use Rattle.design.proofs.friends.is_friend_somewhere.Reads as reads
-use Rattle.design.proofs.friends.is_friend_somewhere.Lts as lts
-use Rattle.design.proofs.friends.is_friend.Reads as is-friend-reads
-use Rattle.design.proofs.reads.byte_at.Reads as byte-at-reads
 
 abbrev Inv-loop : tie.InvT-loop
 Inv-loop scaffold glues dg ds strand position₀ position =
@@ -24,20 +20,16 @@ Inv-loop scaffold glues dg ds strand position₀ position =
 abbrev μ-loop : tie.MeasureT-loop
 μ-loop scaffold glues dg ds strand position₀ position = length scaffold - position
 
--- src/friends.rt:29:5
 loop-holds : tie.Need-loop-holds Inv-loop μ-loop
 unfolding somewhere
 loop-holds c = (omega arith, refl)
 
--- src/friends.rt:30:22
 byte-at-requires : tie.Need-byte-at-requires Inv-loop μ-loop
 byte-at-requires c κs = search needs
 
--- src/friends.rt:30:12
 is-friend-requires : tie.Need-is-friend-requires Inv-loop μ-loop
 is-friend-requires c κs = search needs
 
--- src/friends.rt:31:13
 returns : tie.Need-returns Inv-loop μ-loop
 returns c =
     let a = c .before .before .before .before .before .before .before .before .before .args in
@@ -46,15 +38,12 @@ returns c =
     let is = c .before .is-friend .ensures ∙ ap (λ (glue : ℕ). befriends glue (a .glues .now) (a .dg .now) (a .ds .now) (a .strand)) (c .before .before .byte-at .ensures) in
     sym (l .loop .inv .1 ∙ any-here t (length (a .scaffold .now)) (l .loop .position) (c .before .before .before .loop-test .taken) (sym is ∙ c .if1 .taken))
 
--- src/friends.rt:33:9
 add-position : tie.Need-add-position Inv-loop μ-loop
 add-position c = search needs
 
--- src/friends.rt:29:5
 loop-less : tie.Need-loop-less Inv-loop μ-loop
 loop-less c = search needs
 
--- src/friends.rt:29:5
 loop-again : tie.Need-loop-again Inv-loop μ-loop
 loop-again c =
     let a = c .before .before .before .before .before .before .before .before .before .args in
@@ -63,7 +52,6 @@ loop-again c =
     let is = c .before .is-friend .ensures ∙ ap (λ (glue : ℕ). befriends glue (a .glues .now) (a .dg .now) (a .ds .now) (a .strand)) (c .before .before .byte-at .ensures) in
     (omega arith, l .loop .inv .1 ∙ any-later t (length (a .scaffold .now)) (l .loop .position) (c .before .before .before .loop-test .taken) (sym is ∙ c .if1 .left))
 
--- src/friends.rt:25:1
 returns-2 : tie.Need-returns-2 Inv-loop μ-loop
 returns-2 c =
     let a = c .before .before .before .before .before .before .args in

@@ -4,18 +4,13 @@ use mathlib.Core.Path.{sym}
 use lib.ListN.{List·getD-eq-default}
 use Rattle.design.proofs.reads.byte_at.Statement.{statement}
 use Rattle.design.proofs.reads.byte_at.Tie as tie
-use Rattle.design.proofs.reads.byte_at.Reads as reads
-use Rattle.design.proofs.reads.byte_at.Lts as lts
 
--- src/reads.rt:23:16
 shared-slice-read-result : tie.Need-shared-slice-read-result
 shared-slice-read-result c = search needs
 
--- src/reads.rt:23:9
 returns : tie.Need-returns
 returns c = search needs
 
--- src/reads.rt:19:1
 returns-2 : tie.Need-returns-2
 returns-2 c = sym (List·getD-eq-default (c .before .args .bytes .now) 0 (c .if1 .left))
 

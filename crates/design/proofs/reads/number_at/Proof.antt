@@ -7,22 +7,16 @@ use Rattle.doubles.specs.Decimal.{zero}
 use Rattle.lists.proofs.Default.{getD-default}
 use Rattle.design.proofs.reads.number_at.Statement.{statement}
 use Rattle.design.proofs.reads.number_at.Tie as tie
-use Rattle.design.proofs.reads.number_at.Reads as reads
-use Rattle.design.proofs.reads.number_at.Lts as lts
 
--- src/reads.rt:32:16
 mul-result : tie.Need-mul-result
 mul-result c = search needs
 
--- src/reads.rt:32:16
 shared-slice-read-result : tie.Need-shared-slice-read-result
 shared-slice-read-result c = search needs
 
--- src/reads.rt:32:9
 returns : tie.Need-returns
 returns c = getD-default (c .before .before .args .numbers .now) (c .before .before .args .place) nan zero (c .before .if1 .taken)
 
--- src/reads.rt:28:1
 returns-2 : tie.Need-returns-2
 unfolding ofBits
 returns-2 c = sym (List·getD-eq-default (c .before .args .numbers .now) zero (c .if1 .left))
