@@ -94,10 +94,10 @@ fn best_energy_for_empty(left: &[u8], energies: &[f64], count: usize) -> Attache
     let mut k = 1;
     while k < count {
         let next = left[k];
-        let nenergy = energies[k];
-        if energy < nenergy {} else {
+        let lenergy = energies[k];
+        if energy < lenergy {} else {
             strand = next;
-            energy = nenergy;
+            energy = lenergy;
         }
         k += 1;
     }

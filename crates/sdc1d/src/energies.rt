@@ -6,7 +6,7 @@ use design::reads::potential_of;
 use units::Ambient;
 ghost use mathlib.Core.Path.{_≡_};
 ghost use Prim.Native.Nat.{_+_, _<_};
-ghost use lib.ListN.{getD, drop};
+ghost use lib.ListN.{length, getD, drop};
 ghost use Rattle.doubles.specs.Decimal.{zero};
 ghost use Rattle.doubles.specs.Sum.{sumFrom};
 ghost use Rattle.model.specs.Energy.{statePlace, stateTerms, leftOf, chainPlace, chainEnergy};

@@ -48,11 +48,11 @@ loop-holds c =
 shared-slice-read-next : tie.Need-shared-slice-read-next Inv-loop μ-loop
 shared-slice-read-next c = search needs
 
-mul-nenergy : tie.Need-mul-nenergy Inv-loop μ-loop
-mul-nenergy c = search needs
+mul-lenergy : tie.Need-mul-lenergy Inv-loop μ-loop
+mul-lenergy c = search needs
 
-shared-slice-read-nenergy : tie.Need-shared-slice-read-nenergy Inv-loop μ-loop
-shared-slice-read-nenergy c = search needs
+shared-slice-read-lenergy : tie.Need-shared-slice-read-lenergy Inv-loop μ-loop
+shared-slice-read-lenergy c = search needs
 
 add-k : tie.Need-add-k Inv-loop μ-loop
 add-k c = search needs
@@ -96,8 +96,8 @@ best-energy-for-empty-spec =
     shared-slice-read-energy
     loop-holds
     shared-slice-read-next
-    mul-nenergy
-    shared-slice-read-nenergy
+    mul-lenergy
+    shared-slice-read-lenergy
     add-k
     loop-less
     loop-again
