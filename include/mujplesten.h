@@ -104,12 +104,12 @@ size_t mj_deck_write_count(const uint8_t *configuration, size_t n, uint32_t *wor
 
 /* The bond between strand x and strand y to the east of it: an energy over RT
  * (bond_between_strands). Replies 1, 9, 10. */
-uint32_t mj_strand_bond_reply(MJ_DESIGN, size_t x, size_t y);
-uint64_t mj_strand_bond(MJ_DESIGN, size_t x, size_t y);
+uint32_t mj_strand_bond_reply(MJ_DESIGN, uint8_t x, uint8_t y);
+uint64_t mj_strand_bond(MJ_DESIGN, uint8_t x, uint8_t y);
 
 /* The bond between the scaffold at a position and a strand (bond_with_scaffold). Replies 1, 9, 10. */
-uint32_t mj_scaffold_bond_reply(MJ_DESIGN, size_t position, size_t strand);
-uint64_t mj_scaffold_bond(MJ_DESIGN, size_t position, size_t strand);
+uint32_t mj_scaffold_bond_reply(MJ_DESIGN, size_t position, uint8_t strand);
+uint64_t mj_scaffold_bond(MJ_DESIGN, size_t position, uint8_t strand);
 
 /* The friends of a position, in rising order, into 64 lent entries, of which it fills as many as
  * there are friends; the rest is kept, and on a refusal all is. Both functions leave the same behind.

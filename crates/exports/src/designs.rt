@@ -33,8 +33,8 @@ pub extern "C" fn mj_strand_bond_reply(
     rt: f64,
     strand_excess: f64,
     scaffold_excess: f64,
-    x: usize,
-    y: usize,
+    x: u8,
+    y: u8,
 ) -> u32
     ensures { λ r. ⌜ r ≡ strandBondAnswer (lentAt (scaffold .entry) (glues .entry) (dg .entry) (ds .entry) (potentials .entry) rt «strand_excess» «scaffold_excess») x y .number ⌝ }
 {
@@ -60,8 +60,8 @@ pub extern "C" fn mj_strand_bond(
     rt: f64,
     strand_excess: f64,
     scaffold_excess: f64,
-    x: usize,
-    y: usize,
+    x: u8,
+    y: u8,
 ) -> u64
     ensures { λ r. ⌜ r ≡ Ieee.toBits binary64 (strandBondAnswer (lentAt (scaffold .entry) (glues .entry) (dg .entry) (ds .entry) (potentials .entry) rt «strand_excess» «scaffold_excess») x y .figure) ⌝ }
 {
@@ -89,7 +89,7 @@ pub extern "C" fn mj_scaffold_bond_reply(
     strand_excess: f64,
     scaffold_excess: f64,
     position: usize,
-    strand: usize,
+    strand: u8,
 ) -> u32
     ensures { λ r. ⌜ r ≡ scaffoldBondAnswer (lentAt (scaffold .entry) (glues .entry) (dg .entry) (ds .entry) (potentials .entry) rt «strand_excess» «scaffold_excess») position strand .number ⌝ }
 {
@@ -116,7 +116,7 @@ pub extern "C" fn mj_scaffold_bond(
     strand_excess: f64,
     scaffold_excess: f64,
     position: usize,
-    strand: usize,
+    strand: u8,
 ) -> u64
     ensures { λ r. ⌜ r ≡ Ieee.toBits binary64 (scaffoldBondAnswer (lentAt (scaffold .entry) (glues .entry) (dg .entry) (ds .entry) (potentials .entry) rt «strand_excess» «scaffold_excess») position strand .figure) ⌝ }
 {

@@ -4,3 +4,4 @@ pub mod Rest
 pub mod Vector
 pub mod Positions
 pub mod Shown
+pub mod Replies

@@ -64,10 +64,10 @@ macro_rules! functions_of_a_design {
 }
 
 functions_of_a_design! {
-    mj_strand_bond_reply(x: usize, y: usize) -> u32;
-    mj_strand_bond(x: usize, y: usize) -> u64;
-    mj_scaffold_bond_reply(position: usize, strand: usize) -> u32;
-    mj_scaffold_bond(position: usize, strand: usize) -> u64;
+    mj_strand_bond_reply(x: u8, y: u8) -> u32;
+    mj_strand_bond(x: u8, y: u8) -> u64;
+    mj_scaffold_bond_reply(position: usize, strand: u8) -> u32;
+    mj_scaffold_bond(position: usize, strand: u8) -> u64;
     mj_friends_reply(position: usize, entries: *mut u8, lent: usize) -> u32;
     mj_friends_count(position: usize, entries: *mut u8, lent: usize) -> usize;
     mj_states_reply() -> u32;
@@ -85,19 +85,19 @@ functions_of_a_design! {
 // SAFETY, for every call in this file: pointers and lengths are those of live slices; what is
 // lent to be written is lent to the call alone, all else is only read, and none is kept.
 
-pub fn strand_bond_reply(design: Design, x: usize, y: usize) -> u32 {
+pub fn strand_bond_reply(design: Design, x: u8, y: u8) -> u32 {
     unsafe { mj_strand_bond_reply(design, x, y) }
 }
 
-pub fn strand_bond(design: Design, x: usize, y: usize) -> u64 {
+pub fn strand_bond(design: Design, x: u8, y: u8) -> u64 {
     unsafe { mj_strand_bond(design, x, y) }
 }
 
-pub fn scaffold_bond_reply(design: Design, position: usize, strand: usize) -> u32 {
+pub fn scaffold_bond_reply(design: Design, position: usize, strand: u8) -> u32 {
     unsafe { mj_scaffold_bond_reply(design, position, strand) }
 }
 
-pub fn scaffold_bond(design: Design, position: usize, strand: usize) -> u64 {
+pub fn scaffold_bond(design: Design, position: usize, strand: u8) -> u64 {
     unsafe { mj_scaffold_bond(design, position, strand) }
 }
 

@@ -147,8 +147,8 @@ impl Lent {
         match words[0] {
             "sbond" => Ok(self.strand_bond(whole(words[1])?, whole(words[2])?)),
             "cbond" => Ok(self.scaffold_bond(whole(words[1])?, whole(words[2])?)),
-            "sbonds" => rows(strands, strands, |x, y| self.strand_bond(x, y)),
-            "cbonds" => rows(positions, strands, |i, x| self.scaffold_bond(i, x)),
+            "sbonds" => rows(strands, strands, |x, y| self.strand_bond(x as u8, y as u8)),
+            "cbonds" => rows(positions, strands, |i, x| self.scaffold_bond(i, x as u8)),
             "friends" => rows(positions, 1, |i, _| self.friends(i, FRIENDS, false)),
             "raw.friends" => Ok(self.friends(whole(words[1])?, whole(words[2])?, true)),
             "nstates" => Ok(self.count()),
@@ -166,13 +166,13 @@ impl Lent {
         }
     }
 
-    fn strand_bond(&self, x: usize, y: usize) -> Reply {
+    fn strand_bond(&self, x: u8, y: u8) -> Reply {
         let design = self.design();
         let figures = [mj::strand_bond(design, x, y)];
         reply(mj::strand_bond_reply(design, x, y), &figures)
     }
 
-    fn scaffold_bond(&self, position: usize, strand: usize) -> Reply {
+    fn scaffold_bond(&self, position: usize, strand: u8) -> Reply {
         let design = self.design();
         let figures = [mj::scaffold_bond(design, position, strand)];
         reply(mj::scaffold_bond_reply(design, position, strand), &figures)

@@ -296,13 +296,15 @@ fn every_argument(ask: &mut Ask) {
         change(&mut arguments);
         ask_every_call(&lent, &arguments, ask);
     };
+    for strand in (0..6).chain([63, 64, 255]) {
+        put(&|it| it.pair.0 = strand);
+        put(&|it| it.pair.1 = strand);
+        put(&|it| it.site.1 = strand);
+    }
     let far = [63, 64, 255, 256, 1 << 32, usize::MAX];
-    for number in (0..6).chain(far) {
-        put(&|it| it.pair.0 = number);
-        put(&|it| it.pair.1 = number);
-        put(&|it| it.site.0 = number);
-        put(&|it| it.site.1 = number);
-        put(&|it| it.friends.0 = number);
+    for position in (0..6).chain(far) {
+        put(&|it| it.site.0 = position);
+        put(&|it| it.friends.0 = position);
     }
     for lent in [0, 1, 2, 4, 63, 65, 128] {
         put(&|it| it.friends.1 = lent);

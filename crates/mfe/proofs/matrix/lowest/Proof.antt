@@ -139,7 +139,8 @@ trace-requires : tie.Need-trace-requires Inv-loop μ-loop
 trace-requires c κs =
     let s = c .before .before .before .before .before .before .before .before .before .before .before .before .before .before in
     let short = s .pre .0 .short in
-    (rw (s .pre .1 .1) short, (c .before .lowest-product .ensures .1, c .before .before .before .before .before .loop .inv .6))
+    let low = c .before .lowest-product .ensures .1 in
+    (rw (s .pre .1 .1) short, (omega arith, c .before .before .before .before .before .loop .inv .6))
 
 same-length : tie.Need-same-length Inv-loop μ-loop
 same-length c = search needs

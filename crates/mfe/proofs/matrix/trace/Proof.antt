@@ -32,7 +32,7 @@ loop-holds c =
       omega arith,
       omega arith,
       refl,
-      s .pre .1 .0,
+      omega arith,
       search needs,
       search needs,
       s .pre .1 .1,
