@@ -1,2 +1,4 @@
 pub mod Find
 pub mod Map
+pub mod Build
+pub mod Counted

@@ -1,0 +1,4 @@
+pub mod Bases
+pub mod Held
+pub mod Fit
+pub mod Given
