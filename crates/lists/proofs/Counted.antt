@@ -7,7 +7,7 @@ use native.Mathlib.Nat.{le-of-suc-le-suc, not-suc-le-zero}
 use native.Mathlib.Numerals.{add-one}
 use native.Mathlib.Omega.{arith}
 use lib.ListN.{length, getD, drop, set, length-append, length-drop, drop-of-length-le}
-use lib.Seq.{drop-cons, set-at}
+use lib.Seq.{drop-cons, set-at, getD-at}
 use Rattle.lists.specs.Find.{any, firstIndex}
 use Rattle.lists.specs.Fold.{foldl}
 use Rattle.lists.specs.Build.{tabulate}
@@ -93,6 +93,10 @@ module _ {A : Type 0} where
   pub stored-more : (f : ℕ → A) (i : ℕ) (xs : List A) (v : A) → i < length xs → v ≡ f i → set (stored f i xs) i v ≡ stored f (i + 1) xs
   stored-more f i xs v h e =
       rw (drop-cons xs i v, set-at (tabulate i f) (getD xs i v) (drop (suc i) xs) v i (length-tabulate i f), add-one, tabulate-suc i f, append-assoc) (rw e)
+
+  -- the next element is still the list's own
+  pub stored-next : (f : ℕ → A) (i : ℕ) (xs : List A) (d : A) → i < length xs → getD (stored f i xs) i d ≡ getD xs i d
+  stored-next f i xs d h = rw (drop-cons xs i d) (getD-at (tabulate i f) (getD xs i d) (drop (suc i) xs) d i (length-tabulate i f))
 
   pub stored-whole : (f : ℕ → A) (i : ℕ) (xs : List A) → i ≡ length xs → stored f i xs ≡ tabulate (length xs) f
   stored-whole f i xs e = let past : length xs ≤ length xs = omega arith in rw (e, drop-of-length-le xs past) (append-nil (tabulate (length xs) f))

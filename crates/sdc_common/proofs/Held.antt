@@ -19,7 +19,7 @@ use Rattle.lists.proofs.Build.{length-tabulate}
 use Rattle.lists.proofs.Counted.{tabulate-suc, tabulate-same}
 use Rattle.sdc_common.specs.Names.{Name, baseLength, baseOf, starsOf, isFrom, sameName}
 use Rattle.sdc_common.specs.Lent.{partOf, unfitName, unfitGlue, isAbsent, isPresent, Fit, Names, glueOf, glueAt}
-use Rattle.sdc_common.specs.Numbers.{isKnown, learn, numberAt, nameNumber, glueNumber}
+use Rattle.sdc_common.specs.Numbers.{isKnown, learn, numberAt, baseNumber, nameNumber, glueNumber}
 use Rattle.sdc_common.specs.Table.{heldAt, held, Table}
 use Rattle.sdc_common.specs.Calls.{selfAndInverse, givenName}
 use Rattle.sdc_common.proofs.Bases.{base-le}
@@ -142,11 +142,11 @@ unfolding learn
 learn-new bases name e = rw e
 
 pub number-known : (bases : List Name) (name : Name) → isKnown bases (baseOf name) ≡ true → numberAt (firstIndex (sameName (baseOf name)) bases) (starsOf name) ≡ nameNumber bases name
-unfolding nameNumber
+unfolding baseNumber
 number-known bases name e = rw e
 
 pub number-unknown : (bases : List Name) (name : Name) → isKnown bases (baseOf name) ≡ false → 0 ≡ nameNumber bases name
-unfolding nameNumber
+unfolding baseNumber
 number-unknown bases name e = rw e
 
 -- the number of the glue at a place, read off the table

@@ -2,3 +2,4 @@ pub mod Bases
 pub mod Held
 pub mod Fit
 pub mod Given
+pub mod Replies

@@ -26,10 +26,13 @@ basesOf glues = foldl learn [] glues
 abbrev pub numberAt : ℕ → ℕ → ℕ
 numberAt place stars = 1 + 2 * place + stars % 2
 
+-- the number of a base with so many stars; 0 where the base is not known
+unfoldable pub baseNumber : List Name → Name → ℕ → ℕ
+baseNumber bases base stars = cond (isKnown bases base) (numberAt (firstIndex (sameName base) bases) stars) 0
+
 -- the number of a name, reduced to its base or base*; 0 where it is not known
-unfoldable pub nameNumber : List Name → Name → ℕ
-nameNumber bases name =
-    cond (isKnown bases (baseOf name)) (numberAt (firstIndex (sameName (baseOf name)) bases) (starsOf name)) 0
+abbrev pub nameNumber : List Name → Name → ℕ
+nameNumber bases name = baseNumber bases (baseOf name) (starsOf name)
 
 -- "an absent glue is 0"
 unfoldable pub glueNumber : List Name → Glue → ℕ
