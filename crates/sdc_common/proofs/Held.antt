@@ -3,7 +3,7 @@ use mathlib.Core.Path.{_≡_, refl, ap, sym, _∙_}
 use mathlib.Core.Bool.{Bool, true, false, not, _&&_, _||_}
 use mathlib.Core.List.{List, [], _∷_, _++_}
 use mathlib.Core.Option.{none, some}
-use Prim.Native.Nat.{ℕ, zero, suc, _+_, _-_, _%_, _<_, _≤_}
+use Prim.Native.Nat.{ℕ, _+_, _-_, _%_, _<_, _≤_}
 use native.Mathlib.Nat.{ne-of-lt}
 use native.Mathlib.Numerals.{add-one}
 use native.Mathlib.Omega.{arith}
@@ -13,7 +13,6 @@ use lib.Seq.{length-take-le, take-take, getD-set-same, getD-set-other}
 use borrow.Author.Count.{below-more}
 use borrow.Author.Tests.{ltb-false, eq-eqb, ne-eqb}
 use Rattle.lists.specs.Find.{firstIndex}
-use Rattle.lists.specs.Build.{tabulate}
 use Rattle.lists.proofs.Find.{any-true, any-false}
 use Rattle.lists.proofs.Build.{length-tabulate}
 use Rattle.lists.proofs.Counted.{tabulate-suc, tabulate-same}

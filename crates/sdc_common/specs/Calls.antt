@@ -8,7 +8,7 @@ use Rattle.reply.specs.Number.{numberOf, answered}
 use Rattle.reply.specs.First.{Check, _if_, firstOf, answer}
 use Rattle.reply.specs.declared.Refusal.the-variants.{WrongSize, TooManyGlues}
 use Rattle.reply.specs.declared.Reply.{Reply}
-use Rattle.sdc_common.specs.Names.{Name, baseLength, isFrom}
+use Rattle.sdc_common.specs.Names.{baseLength, isFrom}
 use Rattle.sdc_common.specs.Lent.{Names, Glue, partOf, unfitName, unfitNames, gluesOf}
 use Rattle.sdc_common.specs.Numbers.{basesOf, numbersAmong}
 use Rattle.sdc_common.specs.declared.NameAnswer.{NameAnswer}

@@ -3,11 +3,8 @@ mod names;
 mod table;
 
 ghost use mathlib.Core.Path.{_≡_};
-ghost use Prim.Native.Nat.{_<_, _≤_, _*_};
 ghost use lib.ListN.{length};
-ghost use Rattle.sdc_common.specs.Lent.{namesOf, gluesOf};
-ghost use Rattle.sdc_common.specs.Numbers.{numbersAmong, basesOf};
-ghost use Rattle.sdc_common.specs.Table.{Table, held};
+ghost use Rattle.sdc_common.specs.Lent.{namesOf};
 ghost use Rattle.sdc_common.specs.Calls.{nameFigures, selfAndInverse, unfitStrands, numbersFigures, nameNumbers, numbersAfter, strandGlues, gluesAfter};
 use names::base_length;
 use names::unfit_name;

@@ -1,7 +1,7 @@
 // Names as parts of a text: their bases, whether two are the same, and whether lent names are as they should be.
 ghost use mathlib.Core.Path.{_≡_};
-ghost use Prim.Native.Nat.{_<_, _≤_};
-ghost use lib.ListN.{length, take};
+ghost use Prim.Native.Nat.{_≤_};
+ghost use lib.ListN.{length};
 ghost use Rattle.sdc_common.specs.Names.{baseLength, sameName};
 ghost use Rattle.sdc_common.specs.Lent.{unfitName, unfitGlue, namesOf, unfitNames};
 

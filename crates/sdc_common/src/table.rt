@@ -1,7 +1,6 @@
 // The table of bases: each by its start and length in the text, in the order of first appearance, and the numbers read off it.
 ghost use mathlib.Core.Path.{_≡_};
-ghost use mathlib.Core.Bool.{false};
-ghost use Prim.Native.Nat.{ℕ, _<_, _≤_, _+_, _*_};
+ghost use Prim.Native.Nat.{_<_, _≤_, _+_, _*_};
 ghost use lib.ListN.{length};
 ghost use mathlib.Core.List.{map};
 ghost use Rattle.lists.specs.Find.{firstIndex};

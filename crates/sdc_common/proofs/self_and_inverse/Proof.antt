@@ -1,15 +1,11 @@
 -- `sdc_common::self_and_inverse` meets its contract: the part of the text is the name as spelled. Assumes nothing.
 use borrow.Author.Needs.{needs}
-use mathlib.Core.Path.{_≡_, sym, ap, _∙_}
-use mathlib.Core.Bool.{true, false}
-use Prim.Native.Nat.{ℕ, _+_, _-_, _≤_, _%_}
+use mathlib.Core.Path.{_≡_, sym, _∙_}
+use mathlib.Core.Bool.{true}
 use native.Mathlib.Omega.{arith}
-use lib.Dec.{eqb}
-use lib.ListN.{length, take, drop}
 use denote.Ref.{now}
-use Rattle.sdc_common.specs.Names.{baseLength, starsOf, isFrom}
-use Rattle.sdc_common.specs.Lent.{partOf, unfitName}
-use Rattle.sdc_common.specs.Calls.{selfAndInverse, givenName}
+use Rattle.sdc_common.specs.Lent.{unfitName}
+use Rattle.sdc_common.specs.Calls.{selfAndInverse}
 use Rattle.sdc_common.proofs.Held.{fits, named}
 use Rattle.sdc_common.proofs.self_and_inverse.Statement.{statement}
 use Rattle.sdc_common.proofs.self_and_inverse.Tie as tie

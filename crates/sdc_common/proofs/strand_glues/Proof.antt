@@ -1,19 +1,14 @@
 -- `sdc_common::strand_glues` meets its contract: the names are fit, and at most 31 bases have numbers that fit a byte. Assumes nothing.
 use borrow.Author.Needs.{needs}
-use mathlib.Core.Path.{_≡_, refl, sym, ap, _∙_}
-use mathlib.Core.Bool.{Bool, true, false, _||_}
-use mathlib.Core.List.{List, map}
-use Prim.Native.Nat.{ℕ, _*_, _≤_}
+use mathlib.Core.Path.{_≡_, sym, _∙_}
+use mathlib.Core.Bool.{true, false}
 use native.Mathlib.Omega.{arith}
-use lib.ListN.{length}
 use denote.Ref.{now}
-use borrow.Author.Tests.{lt-ltb, le-ltb, eq-eqb, ne-eqb}
-use Rattle.sdc_common.specs.Lent.{namesOf, unfitNames, gluesOf}
-use Rattle.sdc_common.specs.Numbers.{basesOf, glueNumber, numbersAmong}
-use Rattle.sdc_common.specs.Table.{held}
-use Rattle.sdc_common.specs.Calls.{unfitStrands, nameNumbers, numbersAfter, strandGlues, gluesAfter}
-use Rattle.sdc_common.proofs.Given.{numbers-given, glues-many, glues-given}
-use Rattle.sdc_common.proofs.Fit.{as-many, fit-names, few-strands, fit-strands, strand-glues}
+use borrow.Author.Tests.{ne-eqb}
+use Rattle.sdc_common.specs.Lent.{namesOf}
+use Rattle.sdc_common.specs.Calls.{unfitStrands, strandGlues, gluesAfter}
+use Rattle.sdc_common.proofs.Given.{glues-many, glues-given}
+use Rattle.sdc_common.proofs.Fit.{few-strands, fit-strands, strand-glues}
 use Rattle.sdc_common.proofs.strand_glues.Statement.{statement}
 use Rattle.sdc_common.proofs.strand_glues.Tie as tie
 

@@ -1,10 +1,9 @@
 -- `sdc_common::fill_glues` meets its contract: the numbers of the names passed are stored, and each fits a byte. Assumes nothing.
 use borrow.Author.Needs.{needs}
-use mathlib.Core.Path.{_≡_, refl, sym, ap, _∙_}
-use mathlib.Core.List.{List}
+use mathlib.Core.Path.{_≡_, sym, ap, _∙_}
 use Prim.Native.Nat.{ℕ, _-_, _≤_}
 use native.Mathlib.Omega.{arith}
-use lib.ListN.{length, getD}
+use lib.ListN.{length}
 use denote.Ref.{now}
 use Rattle.lists.specs.Build.{tabulate}
 use Rattle.lists.proofs.Counted.{stored, stored-none, stored-length, stored-more, stored-whole, map-tabulate}

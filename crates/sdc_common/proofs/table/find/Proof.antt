@@ -2,14 +2,12 @@
 use borrow.Author.Needs.{needs}
 use mathlib.Core.Path.{_≡_, sym, ap, _∙_}
 use mathlib.Core.Bool.{true, false}
-use Prim.Native.Nat.{ℕ, _+_, _-_, _≤_, _<_}
+use Prim.Native.Nat.{ℕ, _-_, _≤_, _<_}
 use native.Mathlib.Omega.{arith}
-use lib.ListN.{length, take, drop, getD}
 use denote.Ref.{now}
 use borrow.Author.Count.{below-none, below-more}
 use Rattle.lists.proofs.Counted.{first-found, first-none}
-use Rattle.sdc_common.specs.Names.{Name, sameName}
-use Rattle.sdc_common.specs.Lent.{partOf}
+use Rattle.sdc_common.specs.Names.{sameName}
 use Rattle.sdc_common.specs.Table.{heldAt, held}
 use Rattle.sdc_common.proofs.Held.{part-is}
 use Rattle.sdc_common.proofs.table.find.Statement.{statement}

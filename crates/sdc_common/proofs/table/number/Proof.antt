@@ -2,18 +2,16 @@
 use borrow.Author.Needs.{needs}
 use mathlib.Core.Path.{_≡_, sym, ap, ap₂, _∙_}
 use mathlib.Core.List.{List}
-use mathlib.Core.Option.{some}
-use Prim.Native.Nat.{ℕ, _+_, _-_, _*_, _%_, _≤_, _<_}
+use Prim.Native.Nat.{ℕ, _-_}
 use native.Mathlib.Nat.{mod-lt}
 use native.Mathlib.Omega.{arith}
-use lib.ListN.{length, take, drop}
 use denote.Ref.{now}
 use Rattle.lists.specs.Find.{firstIndex}
-use Rattle.sdc_common.specs.Names.{baseOf, starsOf, sameName}
-use Rattle.sdc_common.specs.Lent.{partOf, glueOf}
-use Rattle.sdc_common.specs.Numbers.{learn, numberAt, glueNumber, nameNumber}
+use Rattle.sdc_common.specs.Names.{baseOf, sameName}
+use Rattle.sdc_common.specs.Lent.{partOf}
+use Rattle.sdc_common.specs.Numbers.{numberAt, glueNumber}
 use Rattle.sdc_common.specs.Table.{held}
-use Rattle.sdc_common.proofs.Held.{part-is, present-fits, glue-absent, glue-present, base-within, base-part, stars-of, is-known, not-known, table-more, held-more, learn-known, learn-new, number-known, number-unknown}
+use Rattle.sdc_common.proofs.Held.{part-is, present-fits, glue-absent, glue-present, base-within, base-part, stars-of, is-known, not-known, number-known, number-unknown}
 use Rattle.sdc_common.proofs.table.number.Statement.{statement}
 use Rattle.sdc_common.proofs.table.number.Tie as tie
 
