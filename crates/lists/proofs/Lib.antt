@@ -9,3 +9,4 @@ pub mod Front
 pub mod Each
 pub mod Default
 pub mod Grid
+pub mod Counted

@@ -1,0 +1,5 @@
+pub mod Bases
+pub mod Held
+pub mod Fit
+pub mod Given
+pub mod Replies

@@ -1,0 +1,103 @@
+-- `sdc_common::unfit_names` meets its contract: each name that was passed over is fit. Assumes nothing.
+use borrow.Author.Needs.{needs}
+use mathlib.Core.Path.{_≡_, refl, sym, ap, _∙_}
+use mathlib.Core.Bool.{true, false}
+use Prim.Native.Nat.{ℕ, _≤_, _-_}
+use native.Mathlib.Omega.{arith}
+use denote.Ref.{now}
+use borrow.Author.Tests.{eq-eqb, ne-eqb}
+use Rattle.lists.specs.Find.{any}
+use Rattle.lists.specs.Build.{tabulate, upTo}
+use Rattle.lists.proofs.Counted.{any-more, any-found}
+use Rattle.sdc_common.specs.Lent.{namesOf, unfitAt, unfitNames}
+use Rattle.sdc_common.proofs.names.unfit_names.Statement.{statement}
+use Rattle.sdc_common.proofs.names.unfit_names.Tie as tie
+
+abbrev Inv-loop : tie.InvT-loop
+Inv-loop n text starts lengths marks i₀ i = (i ≤ n) × (any (unfitAt text (namesOf starts lengths marks)) (upTo i) ≡ false)
+
+abbrev μ-loop : tie.MeasureT-loop
+μ-loop n text starts lengths marks i₀ i = n - i
+
+returns : tie.Need-returns Inv-loop μ-loop
+unfolding unfitNames
+returns c = simp (ne-eqb _ _ (c .if1 .taken))
+
+returns-2 : tie.Need-returns-2 Inv-loop μ-loop
+unfolding unfitNames
+returns-2 c = simp (eq-eqb _ _ (c .before .if1 .left), ne-eqb _ _ (c .if2 .taken))
+
+returns-3 : tie.Need-returns-3 Inv-loop μ-loop
+unfolding unfitNames
+returns-3 c = simp (eq-eqb _ _ (c .before .before .if1 .left), eq-eqb _ _ (c .before .if2 .left), ne-eqb _ _ (c .if3 .taken))
+
+loop-holds : tie.Need-loop-holds Inv-loop μ-loop
+unfolding any tabulate
+loop-holds c = (omega arith, refl)
+
+shared-slice-read-unfit-glue : tie.Need-shared-slice-read-unfit-glue Inv-loop μ-loop
+shared-slice-read-unfit-glue c = search needs
+
+mul-unfit-glue : tie.Need-mul-unfit-glue Inv-loop μ-loop
+mul-unfit-glue c = search needs
+
+shared-slice-read-unfit-glue-2 : tie.Need-shared-slice-read-unfit-glue-2 Inv-loop μ-loop
+shared-slice-read-unfit-glue-2 c = search needs
+
+mul-unfit-glue-2 : tie.Need-mul-unfit-glue-2 Inv-loop μ-loop
+mul-unfit-glue-2 c = search needs
+
+shared-slice-read-unfit-glue-3 : tie.Need-shared-slice-read-unfit-glue-3 Inv-loop μ-loop
+shared-slice-read-unfit-glue-3 c = search needs
+
+unfit-glue-requires : tie.Need-unfit-glue-requires Inv-loop μ-loop
+unfit-glue-requires c κs = search needs
+
+returns-4 : tie.Need-returns-4 Inv-loop μ-loop
+unfolding unfitNames
+returns-4 c =
+    let names = namesOf (now (c .before .before .before .before .before .before .before .before .before .before .before .before .before .before .args .starts)) (now (c .before .before .before .before .before .before .before .before .before .before .before .before .before .before .args .lengths)) (now (c .before .before .before .before .before .before .before .before .before .before .before .before .before .before .args .marks)) in
+    let bad : unfitAt (now (c .before .before .before .before .before .before .before .before .before .before .before .before .before .before .args .text)) names (c .before .before .before .before .before .before .loop .i) ≡ true = sym (c .before .unfit-glue .ensures) ∙ c .if4 .taken in
+    simp (eq-eqb _ _ (c .before .before .before .before .before .before .before .before .before .if1 .left), eq-eqb _ _ (c .before .before .before .before .before .before .before .before .if2 .left), eq-eqb _ _ (c .before .before .before .before .before .before .before .if3 .left), any-found (unfitAt (now (c .before .before .before .before .before .before .before .before .before .before .before .before .before .before .args .text)) names) (c .before .before .before .before .before .before .before .before .before .before .before .before .before .before .args .n) (λ k. k) (c .before .before .before .before .before .before .loop .i) (omega arith) bad)
+
+add-i : tie.Need-add-i Inv-loop μ-loop
+add-i c = search needs
+
+loop-less : tie.Need-loop-less Inv-loop μ-loop
+loop-less c = search needs
+
+loop-again : tie.Need-loop-again Inv-loop μ-loop
+loop-again c =
+    let names = namesOf (now (c .before .before .before .before .before .before .before .before .before .before .before .before .before .before .args .starts)) (now (c .before .before .before .before .before .before .before .before .before .before .before .before .before .before .args .lengths)) (now (c .before .before .before .before .before .before .before .before .before .before .before .before .before .before .args .marks)) in
+    let good : unfitAt (now (c .before .before .before .before .before .before .before .before .before .before .before .before .before .before .args .text)) names (c .before .before .before .before .before .before .loop .i) ≡ false = sym (c .before .unfit-glue .ensures) ∙ c .if4 .left in
+    (omega arith, any-more (unfitAt (now (c .before .before .before .before .before .before .before .before .before .before .before .before .before .before .args .text)) names) (λ k. k) (c .before .before .before .before .before .before .loop .i) (c .before .before .before .before .before .before .loop .inv .1) good)
+
+returns-5 : tie.Need-returns-5 Inv-loop μ-loop
+unfolding unfitNames
+returns-5 c =
+    let names = namesOf (now (c .before .before .before .before .before .before .before .before .before .args .starts)) (now (c .before .before .before .before .before .before .before .before .before .args .lengths)) (now (c .before .before .before .before .before .before .before .before .before .args .marks)) in
+    let e : c .before .loop .i ≡ c .before .before .before .before .before .before .before .before .before .args .n = omega arith in
+    let none : any (unfitAt (now (c .before .before .before .before .before .before .before .before .before .args .text)) names) (upTo (c .before .before .before .before .before .before .before .before .before .args .n)) ≡ false = ap (λ (k : ℕ). any (unfitAt (now (c .before .before .before .before .before .before .before .before .before .args .text)) names) (upTo k)) (sym e) ∙ c .before .loop .inv .1 in
+    simp (eq-eqb _ _ (c .before .before .before .before .if1 .left), eq-eqb _ _ (c .before .before .before .if2 .left), eq-eqb _ _ (c .before .before .if3 .left), none)
+
+pub unfit-names-spec : {M : Type 1} → statement M
+unfit-names-spec =
+    tie.close
+    (tie.spec
+    Inv-loop
+    μ-loop
+    returns
+    returns-2
+    returns-3
+    loop-holds
+    shared-slice-read-unfit-glue
+    mul-unfit-glue
+    shared-slice-read-unfit-glue-2
+    mul-unfit-glue-2
+    shared-slice-read-unfit-glue-3
+    unfit-glue-requires
+    returns-4
+    add-i
+    loop-less
+    loop-again
+    returns-5)

@@ -1,0 +1,59 @@
+-- `sdc_common::self_and_inverse` meets its contract: the part of the text is the name as spelled. Assumes nothing.
+use borrow.Author.Needs.{needs}
+use mathlib.Core.Path.{_≡_, sym, _∙_}
+use mathlib.Core.Bool.{true}
+use native.Mathlib.Omega.{arith}
+use denote.Ref.{now}
+use Rattle.sdc_common.specs.Lent.{unfitName}
+use Rattle.sdc_common.specs.Calls.{selfAndInverse}
+use Rattle.sdc_common.proofs.Held.{fits, named}
+use Rattle.sdc_common.proofs.self_and_inverse.Statement.{statement}
+use Rattle.sdc_common.proofs.self_and_inverse.Tie as tie
+
+unfit-name-requires : tie.Need-unfit-name-requires
+unfit-name-requires c κs = search needs
+
+returns : tie.Need-returns
+unfolding selfAndInverse
+returns c =
+    let bad : unfitName (now (c .before .before .before .args .text)) (c .before .before .before .args .start) (c .before .before .before .args .length) ≡ true = sym (c .before .unfit-name .ensures) ∙ c .if1 .taken in
+    rw bad
+
+add-end : tie.Need-add-end
+add-end c =
+    let h = fits (now (c .before .before .before .args .text)) (c .before .before .before .args .start) (c .before .before .before .args .length) (sym (c .before .unfit-name .ensures) ∙ c .if1 .left) in
+    omega (arith, h)
+
+sub-base-length : tie.Need-sub-base-length
+sub-base-length c = search needs
+
+part-base-length-start : tie.Need-part-base-length-start
+part-base-length-start c = search needs
+
+part-base-length-end : tie.Need-part-base-length-end
+part-base-length-end c =
+    let h = fits (now (c .before .before .before .args .text)) (c .before .before .before .args .start) (c .before .before .before .args .length) (sym (c .before .unfit-name .ensures) ∙ c .if1 .left) in
+    omega (arith, h)
+
+base-length-requires : tie.Need-base-length-requires
+base-length-requires c κs = search needs
+
+sub-t9 : tie.Need-sub-t9
+sub-t9 c = search needs
+
+returns-2 : tie.Need-returns-2
+returns-2 c = named (now (c .before .before .before .before .before .args .text)) (c .before .before .before .before .before .args .start) (c .before .before .before .before .before .args .length) (c .base-length .result) (sym (c .before .before .before .unfit-name .ensures) ∙ c .before .before .if1 .left) (c .base-length .ensures .0)
+
+pub self-and-inverse-spec : {M : Type 1} → statement M
+self-and-inverse-spec =
+    tie.close
+    (tie.spec
+    unfit-name-requires
+    returns
+    add-end
+    sub-base-length
+    part-base-length-start
+    part-base-length-end
+    base-length-requires
+    sub-t9
+    returns-2)

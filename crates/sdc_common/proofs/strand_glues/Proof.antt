@@ -1,0 +1,95 @@
+-- `sdc_common::strand_glues` meets its contract: the names are fit, and at most 31 bases have numbers that fit a byte. Assumes nothing.
+use borrow.Author.Needs.{needs}
+use mathlib.Core.Path.{_≡_, sym, _∙_}
+use mathlib.Core.Bool.{true, false}
+use native.Mathlib.Omega.{arith}
+use denote.Ref.{now}
+use borrow.Author.Tests.{ne-eqb}
+use Rattle.sdc_common.specs.Lent.{namesOf}
+use Rattle.sdc_common.specs.Calls.{unfitStrands, strandGlues, gluesAfter}
+use Rattle.sdc_common.proofs.Given.{glues-many, glues-given}
+use Rattle.sdc_common.proofs.Fit.{few-strands, fit-strands, strand-glues}
+use Rattle.sdc_common.proofs.strand_glues.Statement.{statement}
+use Rattle.sdc_common.proofs.strand_glues.Tie as tie
+
+unfit-strands-requires : tie.Need-unfit-strands-requires
+unfit-strands-requires c κs = search needs
+
+returns : tie.Need-returns
+unfolding strandGlues gluesAfter
+returns c =
+    let strands = namesOf (now (c .before .before .before .before .before .before .before .args .starts)) (now (c .before .before .before .before .before .before .before .args .lengths)) (now (c .before .before .before .before .before .before .before .args .marks)) in
+    let bad : unfitStrands (c .before .before .before .before .before .before .before .args .users) (now (c .before .before .before .before .before .before .before .args .text)) strands ≡ true = sym (c .before .unfit-strands .ensures) ∙ c .if1 .taken in
+    (simp bad, simp bad)
+
+mul-if2 : tie.Need-mul-if2
+mul-if2 c =
+    let strands = namesOf (now (c .before .before .before .before .before .before .before .args .starts)) (now (c .before .before .before .before .before .before .before .args .lengths)) (now (c .before .before .before .before .before .before .before .args .marks)) in
+    let fit : unfitStrands (c .before .before .before .before .before .before .before .args .users) (now (c .before .before .before .before .before .before .before .args .text)) strands ≡ false = sym (c .before .unfit-strands .ensures) ∙ c .if1 .left in
+    omega (arith, few-strands (c .before .before .before .before .before .before .before .args .users) (now (c .before .before .before .before .before .before .before .args .text)) strands fit)
+
+returns-2 : tie.Need-returns-2
+unfolding strandGlues gluesAfter
+returns-2 c =
+    let strands = namesOf (now (c .before .before .before .before .before .before .before .before .args .starts)) (now (c .before .before .before .before .before .before .before .before .args .lengths)) (now (c .before .before .before .before .before .before .before .before .args .marks)) in
+    let fit : unfitStrands (c .before .before .before .before .before .before .before .before .args .users) (now (c .before .before .before .before .before .before .before .before .args .text)) strands ≡ false = sym (c .before .before .unfit-strands .ensures) ∙ c .before .if1 .left in
+    let other = ne-eqb _ _ (c .if2 .taken) in
+    (simp (fit, other), simp (fit, other))
+
+slice-aggregate-base-names : tie.Need-slice-aggregate-base-names
+slice-aggregate-base-names c = search needs
+
+slice-aggregate-base-names-2 : tie.Need-slice-aggregate-base-names-2
+slice-aggregate-base-names-2 c = search needs
+
+base-names-requires : tie.Need-base-names-requires
+base-names-requires c κs =
+    let strands = namesOf (now (c .before .before .before .before .before .before .before .before .before .before .args .starts)) (now (c .before .before .before .before .before .before .before .before .before .before .args .lengths)) (now (c .before .before .before .before .before .before .before .before .before .before .args .marks)) in
+    let fit : unfitStrands (c .before .before .before .before .before .before .before .before .before .before .args .users) (now (c .before .before .before .before .before .before .before .before .before .before .args .text)) strands ≡ false = sym (c .before .before .before .before .unfit-strands .ensures) ∙ c .before .before .before .if1 .left in
+    let few = few-strands (c .before .before .before .before .before .before .before .before .before .before .args .users) (now (c .before .before .before .before .before .before .before .before .before .before .args .text)) strands fit in
+    (fit-strands (c .before .before .before .before .before .before .before .before .before .before .args .users) (now (c .before .before .before .before .before .before .before .before .before .before .args .text)) strands fit, (omega (arith, strand-glues (c .before .before .before .before .before .before .before .before .before .before .args .users) (now (c .before .before .before .before .before .before .before .before .before .before .args .text)) strands fit), search needs))
+
+returns-3 : tie.Need-returns-3
+returns-3 c =
+    let strands = namesOf (now (c .before .before .before .before .before .before .before .before .before .before .before .before .before .before .args .starts)) (now (c .before .before .before .before .before .before .before .before .before .before .before .before .before .before .args .lengths)) (now (c .before .before .before .before .before .before .before .before .before .before .before .before .before .before .args .marks)) in
+    let fit : unfitStrands (c .before .before .before .before .before .before .before .before .before .before .before .before .before .before .args .users) (now (c .before .before .before .before .before .before .before .before .before .before .before .before .before .before .args .text)) strands ≡ false = sym (c .before .before .before .before .before .before .before .before .unfit-strands .ensures) ∙ c .before .before .before .before .before .before .before .if1 .left in
+    glues-many (c .before .before .before .before .before .before .before .before .before .before .before .before .before .before .args .users) (now (c .before .before .before .before .before .before .before .before .before .before .before .before .before .before .args .text)) strands _ _ (c .before .before .before .base-names .result) fit (c .before .before .before .base-names .ensures .1) (now (c .before .before .before .before .before .before .before .before .before .before .before .before .before .before .args .glues)) (c .before .before .before .before .before .before .if2 .left) (c .if3 .taken)
+
+slice-aggregate-fill-glues : tie.Need-slice-aggregate-fill-glues
+slice-aggregate-fill-glues c = search needs
+
+slice-aggregate-fill-glues-2 : tie.Need-slice-aggregate-fill-glues-2
+slice-aggregate-fill-glues-2 c = search needs
+
+fill-glues-requires : tie.Need-fill-glues-requires
+fill-glues-requires c κs =
+    let strands = namesOf (now (c .before .before .before .before .before .before .before .before .before .before .before .before .before .before .before .before .before .args .starts)) (now (c .before .before .before .before .before .before .before .before .before .before .before .before .before .before .before .before .before .args .lengths)) (now (c .before .before .before .before .before .before .before .before .before .before .before .before .before .before .before .before .before .args .marks)) in
+    let fit : unfitStrands (c .before .before .before .before .before .before .before .before .before .before .before .before .before .before .before .before .before .args .users) (now (c .before .before .before .before .before .before .before .before .before .before .before .before .before .before .before .before .before .args .text)) strands ≡ false = sym (c .before .before .before .before .before .before .before .before .before .before .before .unfit-strands .ensures) ∙ c .before .before .before .before .before .before .before .before .before .before .if1 .left in
+    (c .before .before .before .before .before .before .base-names .ensures .0, (fit-strands (c .before .before .before .before .before .before .before .before .before .before .before .before .before .before .before .before .before .args .users) (now (c .before .before .before .before .before .before .before .before .before .before .before .before .before .before .before .before .before .args .text)) strands fit, (c .before .before .before .before .before .before .before .before .before .if2 .left ∙ sym (strand-glues (c .before .before .before .before .before .before .before .before .before .before .before .before .before .before .before .before .before .args .users) (now (c .before .before .before .before .before .before .before .before .before .before .before .before .before .before .before .before .before .args .text)) strands fit), c .before .before .before .if3 .left)))
+
+same-length : tie.Need-same-length
+same-length c = search needs
+
+returns-4 : tie.Need-returns-4
+returns-4 c =
+    let strands = namesOf (now (c .before .before .before .before .before .before .before .before .before .before .before .before .before .before .before .before .before .before .before .before .args .starts)) (now (c .before .before .before .before .before .before .before .before .before .before .before .before .before .before .before .before .before .before .before .before .args .lengths)) (now (c .before .before .before .before .before .before .before .before .before .before .before .before .before .before .before .before .before .before .before .before .args .marks)) in
+    let fit : unfitStrands (c .before .before .before .before .before .before .before .before .before .before .before .before .before .before .before .before .before .before .before .before .args .users) (now (c .before .before .before .before .before .before .before .before .before .before .before .before .before .before .before .before .before .before .before .before .args .text)) strands ≡ false = sym (c .before .before .before .before .before .before .before .before .before .before .before .before .before .before .unfit-strands .ensures) ∙ c .before .before .before .before .before .before .before .before .before .before .before .before .before .if1 .left in
+    glues-given (c .before .before .before .before .before .before .before .before .before .before .before .before .before .before .before .before .before .before .before .before .args .users) (now (c .before .before .before .before .before .before .before .before .before .before .before .before .before .before .before .before .before .before .before .before .args .text)) strands _ _ (c .before .before .before .before .before .before .before .before .before .base-names .result) fit (c .before .before .before .before .before .before .before .before .before .base-names .ensures .1) (now (c .before .before .before .before .before .before .before .before .before .before .before .before .before .before .before .before .before .before .before .before .args .glues)) _ (c .before .before .before .before .before .before .before .before .before .before .before .before .if2 .left) (c .before .before .before .before .before .before .if3 .left) (c .before .before .fill-glues .ensures)
+
+pub strand-glues-spec : {M : Type 1} → statement M
+strand-glues-spec =
+    tie.close
+    (tie.spec
+    unfit-strands-requires
+    returns
+    mul-if2
+    returns-2
+    slice-aggregate-base-names
+    slice-aggregate-base-names-2
+    base-names-requires
+    returns-3
+    slice-aggregate-fill-glues
+    slice-aggregate-fill-glues-2
+    fill-glues-requires
+    same-length
+    returns-4)

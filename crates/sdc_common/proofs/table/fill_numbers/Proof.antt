@@ -1,0 +1,92 @@
+-- `sdc_common::fill_numbers` meets its contract: the numbers of the names passed are stored. Assumes nothing.
+use borrow.Author.Needs.{needs}
+use mathlib.Core.Path.{_≡_, sym, ap, _∙_}
+use Prim.Native.Nat.{ℕ, _-_, _≤_}
+use native.Mathlib.Omega.{arith}
+use lib.ListN.{length}
+use denote.Ref.{now}
+use Rattle.lists.specs.Build.{tabulate}
+use Rattle.lists.proofs.Counted.{stored, stored-none, stored-length, stored-more, stored-whole, map-tabulate}
+use Rattle.sdc_common.specs.Lent.{namesOf, glueAt, gluesOf}
+use Rattle.sdc_common.specs.Numbers.{glueNumber}
+use Rattle.sdc_common.specs.Table.{held}
+use Rattle.sdc_common.proofs.Held.{numberOfGlue}
+use Rattle.sdc_common.proofs.table.fill_numbers.Statement.{statement}
+use Rattle.sdc_common.proofs.table.fill_numbers.Tie as tie
+
+abbrev Inv-loop : tie.InvT-loop
+Inv-loop text heads sizes count starts lengths marks numbers₀ i₀ numbers i = (i ≤ length marks) × (length numbers₀ ≡ length marks) × (numbers ≡ stored (numberOfGlue text heads sizes count (namesOf starts lengths marks)) i numbers₀)
+
+abbrev μ-loop : tie.MeasureT-loop
+μ-loop text heads sizes count starts lengths marks numbers₀ i₀ numbers i = length marks - i
+
+loop-holds : tie.Need-loop-holds Inv-loop μ-loop
+loop-holds c = (omega arith, c .before .before .before .before .before .before .before .pre .1 .1, stored-none (numberOfGlue (now (c .before .before .before .before .before .before .before .args .text)) (now (c .before .before .before .before .before .before .before .args .heads)) (now (c .before .before .before .before .before .before .before .args .sizes)) (c .before .before .before .before .before .before .before .args .count) (namesOf (now (c .before .before .before .before .before .before .before .args .starts)) (now (c .before .before .before .before .before .before .before .args .lengths)) (now (c .before .before .before .before .before .before .before .args .marks)))) (now (c .before .before .before .before .before .before .before .args .numbers)))
+
+shared-slice-read-number : tie.Need-shared-slice-read-number Inv-loop μ-loop
+shared-slice-read-number c = search needs
+
+mul-number : tie.Need-mul-number Inv-loop μ-loop
+mul-number c = search needs
+
+shared-slice-read-number-2 : tie.Need-shared-slice-read-number-2 Inv-loop μ-loop
+shared-slice-read-number-2 c = let e = c .before .before .before .before .before .before .before .before .before .before .before .pre .1 .0 .starts in omega arith
+
+mul-number-2 : tie.Need-mul-number-2 Inv-loop μ-loop
+mul-number-2 c = search needs
+
+shared-slice-read-number-3 : tie.Need-shared-slice-read-number-3 Inv-loop μ-loop
+shared-slice-read-number-3 c = let e = c .before .before .before .before .before .before .before .before .before .before .before .before .pre .1 .0 .lengths in omega arith
+
+number-requires : tie.Need-number-requires Inv-loop μ-loop
+number-requires c κs = (c .before .before .before .before .before .before .before .before .before .before .before .before .pre .0, c .before .before .before .before .before .before .before .before .before .before .before .before .pre .1 .0 .each (c .before .before .before .before .loop .i) (omega arith))
+
+mul-numbers : tie.Need-mul-numbers Inv-loop μ-loop
+mul-numbers c = search needs
+
+slice-write-numbers : tie.Need-slice-write-numbers Inv-loop μ-loop
+slice-write-numbers c = omega (arith, ap length (c .before .before .before .before .before .loop .inv .2), stored-length (numberOfGlue (now (c .before .before .before .before .before .before .before .before .before .before .before .before .before .args .text)) (now (c .before .before .before .before .before .before .before .before .before .before .before .before .before .args .heads)) (now (c .before .before .before .before .before .before .before .before .before .before .before .before .before .args .sizes)) (c .before .before .before .before .before .before .before .before .before .before .before .before .before .args .count) (namesOf (now (c .before .before .before .before .before .before .before .before .before .before .before .before .before .args .starts)) (now (c .before .before .before .before .before .before .before .before .before .before .before .before .before .args .lengths)) (now (c .before .before .before .before .before .before .before .before .before .before .before .before .before .args .marks)))) (c .before .before .before .before .before .loop .i) (now (c .before .before .before .before .before .before .before .before .before .before .before .before .before .args .numbers)) (omega arith))
+
+add-i : tie.Need-add-i Inv-loop μ-loop
+add-i c = search needs
+
+loop-less : tie.Need-loop-less Inv-loop μ-loop
+loop-less c = search needs
+
+loop-again : tie.Need-loop-again Inv-loop μ-loop
+loop-again c =
+    let f = numberOfGlue (now (c .before .before .before .before .before .before .before .before .before .before .before .before .before .args .text)) (now (c .before .before .before .before .before .before .before .before .before .before .before .before .before .args .heads)) (now (c .before .before .before .before .before .before .before .before .before .before .before .before .before .args .sizes)) (c .before .before .before .before .before .before .before .before .before .before .before .before .before .args .count) (namesOf (now (c .before .before .before .before .before .before .before .before .before .before .before .before .before .args .starts)) (now (c .before .before .before .before .before .before .before .before .before .before .before .before .before .args .lengths)) (now (c .before .before .before .before .before .before .before .before .before .before .before .before .before .args .marks))) in
+    let more = stored-more f (c .before .before .before .before .before .loop .i) (now (c .before .before .before .before .before .before .before .before .before .before .before .before .before .args .numbers)) (c .number .result) (omega arith) (c .number .ensures .0) in
+    (omega arith, c .before .before .before .before .before .loop .inv .1, rw (c .before .before .before .before .before .loop .inv .2) more)
+
+same-length : tie.Need-same-length Inv-loop μ-loop
+same-length c = ap length (c .before .loop .inv .2) ∙ stored-length (numberOfGlue (now (c .before .before .before .before .before .before .before .before .before .args .text)) (now (c .before .before .before .before .before .before .before .before .before .args .heads)) (now (c .before .before .before .before .before .before .before .before .before .args .sizes)) (c .before .before .before .before .before .before .before .before .before .args .count) (namesOf (now (c .before .before .before .before .before .before .before .before .before .args .starts)) (now (c .before .before .before .before .before .before .before .before .before .args .lengths)) (now (c .before .before .before .before .before .before .before .before .before .args .marks)))) (c .before .loop .i) (now (c .before .before .before .before .before .before .before .before .before .args .numbers)) (omega arith)
+
+returns : tie.Need-returns Inv-loop μ-loop
+unfolding gluesOf
+returns c =
+    let f = numberOfGlue (now (c .before .before .before .before .before .before .before .before .before .args .text)) (now (c .before .before .before .before .before .before .before .before .before .args .heads)) (now (c .before .before .before .before .before .before .before .before .before .args .sizes)) (c .before .before .before .before .before .before .before .before .before .args .count) (namesOf (now (c .before .before .before .before .before .before .before .before .before .args .starts)) (now (c .before .before .before .before .before .before .before .before .before .args .lengths)) (now (c .before .before .before .before .before .before .before .before .before .args .marks))) in
+    let whole = stored-whole f (c .before .loop .i) (now (c .before .before .before .before .before .before .before .before .before .args .numbers)) (omega arith) in
+    let glue = glueAt (now (c .before .before .before .before .before .before .before .before .before .args .text)) (namesOf (now (c .before .before .before .before .before .before .before .before .before .args .starts)) (now (c .before .before .before .before .before .before .before .before .before .args .lengths)) (now (c .before .before .before .before .before .before .before .before .before .args .marks))) in
+    c .before .loop .inv .2 ∙ whole ∙ ap (λ (n : ℕ). tabulate n f) (c .before .loop .inv .1) ∙ sym (map-tabulate (glueNumber (held (now (c .before .before .before .before .before .before .before .before .before .args .text)) (now (c .before .before .before .before .before .before .before .before .before .args .heads)) (now (c .before .before .before .before .before .before .before .before .before .args .sizes)) (c .before .before .before .before .before .before .before .before .before .args .count))) (length (now (c .before .before .before .before .before .before .before .before .before .args .marks))) glue)
+
+pub fill-numbers-spec : {M : Type 1} → statement M
+fill-numbers-spec =
+    tie.close
+    (tie.spec
+    Inv-loop
+    μ-loop
+    loop-holds
+    shared-slice-read-number
+    mul-number
+    shared-slice-read-number-2
+    mul-number-2
+    shared-slice-read-number-3
+    number-requires
+    mul-numbers
+    slice-write-numbers
+    add-i
+    loop-less
+    loop-again
+    same-length
+    returns)

@@ -1,0 +1,101 @@
+-- `sdc_common::find` meets its contract: no base that was passed over has the name. Assumes nothing.
+use borrow.Author.Needs.{needs}
+use mathlib.Core.Path.{_≡_, sym, ap, _∙_}
+use mathlib.Core.Bool.{true, false}
+use Prim.Native.Nat.{ℕ, _-_, _≤_, _<_}
+use native.Mathlib.Omega.{arith}
+use denote.Ref.{now}
+use borrow.Author.Count.{below-none, below-more}
+use Rattle.lists.proofs.Counted.{first-found, first-none}
+use Rattle.sdc_common.specs.Names.{sameName}
+use Rattle.sdc_common.specs.Table.{heldAt, held}
+use Rattle.sdc_common.proofs.Held.{part-is}
+use Rattle.sdc_common.proofs.table.find.Statement.{statement}
+use Rattle.sdc_common.proofs.table.find.Tie as tie
+
+abbrev Inv-loop : tie.InvT-loop
+Inv-loop text heads sizes count name k₀ k = (k ≤ count) × ((j : ℕ) → j < k → sameName name (heldAt text heads sizes j) ≡ false)
+
+abbrev μ-loop : tie.MeasureT-loop
+μ-loop text heads sizes count name k₀ k = count - k
+
+loop-holds : tie.Need-loop-holds Inv-loop μ-loop
+loop-holds c = (omega arith, below-none (λ j. sameName (now (c .before .before .before .before .args .name)) (heldAt (now (c .before .before .before .before .args .text)) (now (c .before .before .before .before .args .heads)) (now (c .before .before .before .before .args .sizes)) j) ≡ false))
+
+mul-start : tie.Need-mul-start Inv-loop μ-loop
+mul-start c = search needs
+
+shared-slice-read-start : tie.Need-shared-slice-read-start Inv-loop μ-loop
+shared-slice-read-start c = search needs
+
+mul-end : tie.Need-mul-end Inv-loop μ-loop
+mul-end c = search needs
+
+shared-slice-read-end : tie.Need-shared-slice-read-end Inv-loop μ-loop
+shared-slice-read-end c = search needs
+
+add-end : tie.Need-add-end Inv-loop μ-loop
+add-end c = omega (arith, c .before .before .before .before .before .before .before .before .pre .inside (c .before .before .before .loop .k) (omega arith))
+
+sub-same-name : tie.Need-sub-same-name Inv-loop μ-loop
+sub-same-name c = search needs
+
+part-same-name-start : tie.Need-part-same-name-start Inv-loop μ-loop
+part-same-name-start c = search needs
+
+part-same-name-end : tie.Need-part-same-name-end Inv-loop μ-loop
+part-same-name-end c = omega (arith, c .before .before .before .before .before .before .before .before .pre .inside (c .before .before .before .loop .k) (omega arith))
+
+same-name-requires : tie.Need-same-name-requires Inv-loop μ-loop
+same-name-requires c κs = search needs
+
+returns : tie.Need-returns Inv-loop μ-loop
+unfolding held
+returns c =
+    let a = c .before .before .before .before .before .before .before .before .before .before .before .args in
+    let here : sameName (now (a .name)) (heldAt (now (a .text)) (now (a .heads)) (now (a .sizes)) (c .before .before .before .before .before .before .loop .k)) ≡ true =
+    ap (sameName (now (a .name))) (sym (part-is (now (a .text)) _ _)) ∙ sym (c .before .same-name .ensures) ∙ c .if1 .taken in
+    (sym (first-found (sameName (now (a .name))) (a .count) (heldAt (now (a .text)) (now (a .heads)) (now (a .sizes))) (c .before .before .before .before .before .before .loop .k) (c .before .before .before .before .before .before .loop .inv .1) (omega arith) here), omega arith)
+
+add-k : tie.Need-add-k Inv-loop μ-loop
+add-k c = search needs
+
+loop-less : tie.Need-loop-less Inv-loop μ-loop
+loop-less c = search needs
+
+loop-again : tie.Need-loop-again Inv-loop μ-loop
+loop-again c =
+    let a = c .before .before .before .before .before .before .before .before .before .before .before .args in
+    let other : sameName (now (a .name)) (heldAt (now (a .text)) (now (a .heads)) (now (a .sizes)) (c .before .before .before .before .before .before .loop .k)) ≡ false =
+    ap (sameName (now (a .name))) (sym (part-is (now (a .text)) _ _)) ∙ sym (c .before .same-name .ensures) ∙ c .if1 .left in
+    (omega arith, below-more (λ j. sameName (now (a .name)) (heldAt (now (a .text)) (now (a .heads)) (now (a .sizes)) j) ≡ false) (c .before .before .before .before .before .before .loop .k) (c .before .before .before .before .before .before .loop .inv .1) other)
+
+returns-2 : tie.Need-returns-2 Inv-loop μ-loop
+unfolding held
+returns-2 c =
+    let a = c .before .before .before .before .before .before .args in
+    let f = heldAt (now (a .text)) (now (a .heads)) (now (a .sizes)) in
+    let past : (j : ℕ) → j < a .count → sameName (now (a .name)) (f j) ≡ false = λ j l. c .before .loop .inv .1 j (omega arith) in
+    (sym (first-none (sameName (now (a .name))) (a .count) f past), omega arith)
+
+pub find-spec : {M : Type 1} → statement M
+find-spec =
+    tie.close
+    (tie.spec
+    Inv-loop
+    μ-loop
+    loop-holds
+    mul-start
+    shared-slice-read-start
+    mul-end
+    shared-slice-read-end
+    add-end
+    sub-same-name
+    part-same-name-start
+    part-same-name-end
+    same-name-requires
+    returns
+    add-k
+    loop-less
+    loop-again
+    returns-2)

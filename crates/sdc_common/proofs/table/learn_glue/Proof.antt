@@ -1,0 +1,138 @@
+-- `sdc_common::learn_glue` meets its contract: a base that the table lacks is put at its end. Assumes nothing.
+use borrow.Author.Needs.{needs}
+use mathlib.Core.Path.{_≡_, sym, ap, _∙_}
+use mathlib.Core.List.{List, _∷_, [], _++_}
+use Prim.Native.Nat.{ℕ, _+_}
+use native.Mathlib.Omega.{arith}
+use denote.Ref.{now}
+use Rattle.lists.specs.Find.{firstIndex}
+use Rattle.sdc_common.specs.Names.{baseOf, sameName}
+use Rattle.sdc_common.specs.Lent.{partOf}
+use Rattle.sdc_common.specs.Numbers.{learn}
+use Rattle.sdc_common.specs.Table.{held}
+use Rattle.sdc_common.proofs.Held.{part-is, present-fits, glue-absent, glue-present, base-within, base-part, is-known, not-known, table-more, held-more, learn-known, learn-new}
+use Rattle.sdc_common.proofs.table.learn_glue.Statement.{statement}
+use Rattle.sdc_common.proofs.table.learn_glue.Tie as tie
+
+returns : tie.Need-returns
+unfolding learn
+returns c =
+    let a = c .before .before .before .before .args in
+    (c .before .before .before .before .pre .0, (sym (ap (learn (held (now (a .text)) (now (a .heads)) (now (a .sizes)) (a .count))) (glue-absent (now (a .text)) (a .mark) (a .start) (a .length) (c .if1 .taken))), omega arith))
+
+add-end : tie.Need-add-end
+add-end c = omega (arith, present-fits (now (c .before .before .before .before .args .text)) (c .before .before .before .before .args .mark) (c .before .before .before .before .args .start) (c .before .before .before .before .args .length) (c .if1 .left) (c .before .before .before .before .pre .1 .0))
+
+sub-base-length : tie.Need-sub-base-length
+sub-base-length c = search needs
+
+part-base-length-start : tie.Need-part-base-length-start
+part-base-length-start c = search needs
+
+part-base-length-end : tie.Need-part-base-length-end
+part-base-length-end c = omega (arith, present-fits (now (c .before .before .before .before .args .text)) (c .before .before .before .before .args .mark) (c .before .before .before .before .args .start) (c .before .before .before .before .args .length) (c .if1 .left) (c .before .before .before .before .pre .1 .0))
+
+base-length-requires : tie.Need-base-length-requires
+base-length-requires c κs = search needs
+
+add-base-end : tie.Need-add-base-end
+add-base-end c =
+    let fit = present-fits (now (c .before .before .before .before .before .before .args .text)) (c .before .before .before .before .before .before .args .mark) (c .before .before .before .before .before .before .args .start) (c .before .before .before .before .before .before .args .length) (c .before .before .if1 .left) (c .before .before .before .before .before .before .pre .1 .0) in
+    omega (arith, fit, base-within (now (c .before .before .before .before .before .before .args .text)) (c .before .before .before .before .before .before .args .mark) (c .before .before .before .before .before .before .args .start) (c .before .before .before .before .before .before .args .length) (c .base-length .result) fit (c .base-length .ensures .0))
+
+sub-find : tie.Need-sub-find
+sub-find c = search needs
+
+part-find-start : tie.Need-part-find-start
+part-find-start c = search needs
+
+part-find-end : tie.Need-part-find-end
+part-find-end c =
+    let fit = present-fits (now (c .before .before .before .before .before .before .before .before .args .text)) (c .before .before .before .before .before .before .before .before .args .mark) (c .before .before .before .before .before .before .before .before .args .start) (c .before .before .before .before .before .before .before .before .args .length) (c .before .before .before .before .if1 .left) (c .before .before .before .before .before .before .before .before .pre .1 .0) in
+    omega (arith, fit, base-within (now (c .before .before .before .before .before .before .before .before .args .text)) (c .before .before .before .before .before .before .before .before .args .mark) (c .before .before .before .before .before .before .before .before .args .start) (c .before .before .before .before .before .before .before .before .args .length) (c .before .before .base-length .result) fit (c .before .before .base-length .ensures .0))
+
+find-requires : tie.Need-find-requires
+find-requires c κs = search needs
+
+same-length : tie.Need-same-length
+same-length c = search needs
+
+same-length-2 : tie.Need-same-length-2
+same-length-2 c = search needs
+
+returns-2 : tie.Need-returns-2
+returns-2 c =
+    let a = c .before .before .before .before .before .before .before .before .before .before .before .args in
+    let text = now (a .text) in
+    let spelled = partOf text (a .start) (a .length) in
+    let fit = present-fits (now (c .before .before .before .before .before .before .before .before .before .before .before .args .text)) (c .before .before .before .before .before .before .before .before .before .before .before .args .mark) (c .before .before .before .before .before .before .before .before .before .before .before .args .start) (c .before .before .before .before .before .before .before .before .before .before .before .args .length) (c .before .before .before .before .before .before .before .if1 .left) (c .before .before .before .before .before .before .before .before .before .before .before .pre .1 .0) in
+    let size = c .before .before .before .before .before .base-length .ensures .0 in
+    let bytes = part-is text (a .start) (c .before .before .before .before .before .base-length .result) ∙ base-part text (a .mark) (a .start) (a .length) (c .before .before .before .before .before .base-length .result) fit size in
+    let bases = held text (now (a .heads)) (now (a .sizes)) (a .count) in
+    let place : c .before .find .result ≡ firstIndex (sameName (baseOf spelled)) bases = c .before .find .ensures .0 ∙ ap (λ (n : List ℕ). firstIndex (sameName n) bases) bytes in
+    let glue = glue-present text (a .mark) (a .start) (a .length) (c .before .before .before .before .before .before .before .if1 .left) in
+    (c .before .before .before .before .before .before .before .before .before .before .before .pre .0, (learn-known bases spelled (is-known text (now (a .heads)) (now (a .sizes)) (a .count) (baseOf spelled) (c .before .find .result) place (c .if2 .taken)) ∙ sym (ap (learn bases) glue), omega arith))
+
+mul-heads : tie.Need-mul-heads
+mul-heads c = search needs
+
+slice-write-heads : tie.Need-slice-write-heads
+slice-write-heads c = search needs
+
+mul-sizes : tie.Need-mul-sizes
+mul-sizes c = search needs
+
+slice-write-sizes : tie.Need-slice-write-sizes
+slice-write-sizes c = search needs
+
+add-result : tie.Need-add-result
+add-result c = search needs
+
+same-length-3 : tie.Need-same-length-3
+same-length-3 c = search needs
+
+same-length-4 : tie.Need-same-length-4
+same-length-4 c = search needs
+
+returns-3 : tie.Need-returns-3
+returns-3 c =
+    let a = c .before .before .before .before .before .before .before .before .before .before .before .args in
+    let text = now (a .text) in
+    let spelled = partOf text (a .start) (a .length) in
+    let fit = present-fits (now (c .before .before .before .before .before .before .before .before .before .before .before .args .text)) (c .before .before .before .before .before .before .before .before .before .before .before .args .mark) (c .before .before .before .before .before .before .before .before .before .before .before .args .start) (c .before .before .before .before .before .before .before .before .before .before .before .args .length) (c .before .before .before .before .before .before .before .if1 .left) (c .before .before .before .before .before .before .before .before .before .before .before .pre .1 .0) in
+    let size = c .before .before .before .before .before .base-length .ensures .0 in
+    let bytes = part-is text (a .start) (c .before .before .before .before .before .base-length .result) ∙ base-part text (a .mark) (a .start) (a .length) (c .before .before .before .before .before .base-length .result) fit size in
+    let bases = held text (now (a .heads)) (now (a .sizes)) (a .count) in
+    let place : c .before .find .result ≡ firstIndex (sameName (baseOf spelled)) bases = c .before .find .ensures .0 ∙ ap (λ (n : List ℕ). firstIndex (sameName n) bases) bytes in
+    let glue = glue-present text (a .mark) (a .start) (a .length) (c .before .before .before .before .before .before .before .if1 .left) in
+    let within = base-within text (a .mark) (a .start) (a .length) (c .before .before .before .before .before .base-length .result) fit size in
+    let new = not-known text (now (a .heads)) (now (a .sizes)) (a .count) (baseOf spelled) (c .before .find .result) place (c .if2 .left) in
+    let more = held-more (c .before .before .before .before .before .before .before .before .before .before .before .pre .0) (a .start) (c .before .before .before .before .before .base-length .result) (c .before .before .before .before .before .before .before .before .before .before .before .pre .1 .1) ∙ ap (λ (n : List ℕ). bases ++ (n ∷ [])) (base-part text (a .mark) (a .start) (a .length) (c .before .before .before .before .before .base-length .result) fit size) in
+    (table-more (c .before .before .before .before .before .before .before .before .before .before .before .pre .0) (a .start) (c .before .before .before .before .before .base-length .result) (c .before .before .before .before .before .before .before .before .before .before .before .pre .1 .1) (omega arith), (more ∙ learn-new bases spelled new ∙ sym (ap (learn bases) glue), omega arith))
+
+pub learn-glue-spec : {M : Type 1} → statement M
+learn-glue-spec =
+    tie.close
+    (tie.spec
+    returns
+    add-end
+    sub-base-length
+    part-base-length-start
+    part-base-length-end
+    base-length-requires
+    add-base-end
+    sub-find
+    part-find-start
+    part-find-end
+    find-requires
+    same-length
+    same-length-2
+    returns-2
+    mul-heads
+    slice-write-heads
+    mul-sizes
+    slice-write-sizes
+    add-result
+    same-length-3
+    same-length-4
+    returns-3)

@@ -1,0 +1,120 @@
+-- `sdc_common::number` meets its contract: the place of the base in the table gives two numbers, and the stars choose one. Assumes nothing.
+use borrow.Author.Needs.{needs}
+use mathlib.Core.Path.{_≡_, sym, ap, ap₂, _∙_}
+use mathlib.Core.List.{List}
+use Prim.Native.Nat.{ℕ, _-_}
+use native.Mathlib.Nat.{mod-lt}
+use native.Mathlib.Omega.{arith}
+use denote.Ref.{now}
+use Rattle.lists.specs.Find.{firstIndex}
+use Rattle.sdc_common.specs.Names.{baseOf, sameName}
+use Rattle.sdc_common.specs.Lent.{partOf}
+use Rattle.sdc_common.specs.Numbers.{numberAt, glueNumber}
+use Rattle.sdc_common.specs.Table.{held}
+use Rattle.sdc_common.proofs.Held.{part-is, present-fits, glue-absent, glue-present, base-within, base-part, stars-of, is-known, not-known, number-known, number-unknown}
+use Rattle.sdc_common.proofs.table.number.Statement.{statement}
+use Rattle.sdc_common.proofs.table.number.Tie as tie
+
+returns : tie.Need-returns
+unfolding glueNumber
+returns c =
+    let a = c .before .before .before .before .args in
+    (sym (ap (glueNumber (held (now (a .text)) (now (a .heads)) (now (a .sizes)) (a .count))) (glue-absent (now (a .text)) (a .mark) (a .start) (a .length) (c .if1 .taken))), omega arith)
+
+add-end : tie.Need-add-end
+add-end c = omega (arith, present-fits (now (c .before .before .before .before .args .text)) (c .before .before .before .before .args .mark) (c .before .before .before .before .args .start) (c .before .before .before .before .args .length) (c .if1 .left) (c .before .before .before .before .pre .1))
+
+sub-base-length : tie.Need-sub-base-length
+sub-base-length c = search needs
+
+part-base-length-start : tie.Need-part-base-length-start
+part-base-length-start c = search needs
+
+part-base-length-end : tie.Need-part-base-length-end
+part-base-length-end c = omega (arith, present-fits (now (c .before .before .before .before .args .text)) (c .before .before .before .before .args .mark) (c .before .before .before .before .args .start) (c .before .before .before .before .args .length) (c .if1 .left) (c .before .before .before .before .pre .1))
+
+base-length-requires : tie.Need-base-length-requires
+base-length-requires c κs = search needs
+
+add-base-end : tie.Need-add-base-end
+add-base-end c =
+    let fit = present-fits (now (c .before .before .before .before .before .before .args .text)) (c .before .before .before .before .before .before .args .mark) (c .before .before .before .before .before .before .args .start) (c .before .before .before .before .before .before .args .length) (c .before .before .if1 .left) (c .before .before .before .before .before .before .pre .1) in
+    omega (arith, fit, base-within (now (c .before .before .before .before .before .before .args .text)) (c .before .before .before .before .before .before .args .mark) (c .before .before .before .before .before .before .args .start) (c .before .before .before .before .before .before .args .length) (c .base-length .result) fit (c .base-length .ensures .0))
+
+sub-find : tie.Need-sub-find
+sub-find c = search needs
+
+part-find-start : tie.Need-part-find-start
+part-find-start c = search needs
+
+part-find-end : tie.Need-part-find-end
+part-find-end c =
+    let fit = present-fits (now (c .before .before .before .before .before .before .args .text)) (c .before .before .before .before .before .before .args .mark) (c .before .before .before .before .before .before .args .start) (c .before .before .before .before .before .before .args .length) (c .before .before .if1 .left) (c .before .before .before .before .before .before .pre .1) in
+    omega (arith, fit, base-within (now (c .before .before .before .before .before .before .args .text)) (c .before .before .before .before .before .before .args .mark) (c .before .before .before .before .before .before .args .start) (c .before .before .before .before .before .before .args .length) (c .base-length .result) fit (c .base-length .ensures .0))
+
+find-requires : tie.Need-find-requires
+find-requires c κs = search needs
+
+returns-2 : tie.Need-returns-2
+unfolding glueNumber
+returns-2 c =
+    let a = c .before .before .before .before .before .before .before .before .before .args in
+    let text = now (a .text) in
+    let spelled = partOf text (a .start) (a .length) in
+    let fit = present-fits (now (c .before .before .before .before .before .before .before .before .before .args .text)) (c .before .before .before .before .before .before .before .before .before .args .mark) (c .before .before .before .before .before .before .before .before .before .args .start) (c .before .before .before .before .before .before .before .before .before .args .length) (c .before .before .before .before .before .if1 .left) (c .before .before .before .before .before .before .before .before .before .pre .1) in
+    let size = c .before .before .before .base-length .ensures .0 in
+    let bytes = part-is text (a .start) (c .before .before .before .base-length .result) ∙ base-part text (a .mark) (a .start) (a .length) (c .before .before .before .base-length .result) fit size in
+    let bases = held text (now (a .heads)) (now (a .sizes)) (a .count) in
+    let place : c .before .find .result ≡ firstIndex (sameName (baseOf spelled)) bases = c .before .find .ensures .0 ∙ ap (λ (n : List ℕ). firstIndex (sameName n) bases) bytes in
+    let glue = glue-present text (a .mark) (a .start) (a .length) (c .before .before .before .before .before .if1 .left) in
+    (number-unknown bases spelled (not-known text (now (a .heads)) (now (a .sizes)) (a .count) (baseOf spelled) (c .before .find .result) place (c .if2 .taken)) ∙ sym (ap (glueNumber bases) glue), omega arith)
+
+mul-result : tie.Need-mul-result
+mul-result c = search needs
+
+add-result : tie.Need-add-result
+add-result c = search needs
+
+sub-result : tie.Need-sub-result
+sub-result c = search needs
+
+add-result-2 : tie.Need-add-result-2
+add-result-2 c = search needs
+
+returns-3 : tie.Need-returns-3
+unfolding glueNumber
+returns-3 c =
+    let a = c .before .before .before .before .before .before .before .before .before .args in
+    let text = now (a .text) in
+    let spelled = partOf text (a .start) (a .length) in
+    let fit = present-fits (now (c .before .before .before .before .before .before .before .before .before .args .text)) (c .before .before .before .before .before .before .before .before .before .args .mark) (c .before .before .before .before .before .before .before .before .before .args .start) (c .before .before .before .before .before .before .before .before .before .args .length) (c .before .before .before .before .before .if1 .left) (c .before .before .before .before .before .before .before .before .before .pre .1) in
+    let size = c .before .before .before .base-length .ensures .0 in
+    let bytes = part-is text (a .start) (c .before .before .before .base-length .result) ∙ base-part text (a .mark) (a .start) (a .length) (c .before .before .before .base-length .result) fit size in
+    let bases = held text (now (a .heads)) (now (a .sizes)) (a .count) in
+    let place : c .before .find .result ≡ firstIndex (sameName (baseOf spelled)) bases = c .before .find .ensures .0 ∙ ap (λ (n : List ℕ). firstIndex (sameName n) bases) bytes in
+    let glue = glue-present text (a .mark) (a .start) (a .length) (c .before .before .before .before .before .if1 .left) in
+    let known = is-known text (now (a .heads)) (now (a .sizes)) (a .count) (baseOf spelled) (c .before .find .result) place (c .if2 .left) in
+    let stars = stars-of text (a .mark) (a .start) (a .length) (c .before .before .before .base-length .result) fit size in
+    (ap₂ numberAt place stars ∙ number-known bases spelled known ∙ sym (ap (glueNumber bases) glue), omega (arith, mod-lt (a .length - c .before .before .before .base-length .result) {m = 2} (omega arith)))
+
+pub number-spec : {M : Type 1} → statement M
+number-spec =
+    tie.close
+    (tie.spec
+    returns
+    add-end
+    sub-base-length
+    part-base-length-start
+    part-base-length-end
+    base-length-requires
+    add-base-end
+    sub-find
+    part-find-start
+    part-find-end
+    find-requires
+    returns-2
+    mul-result
+    add-result
+    sub-result
+    add-result-2
+    returns-3)

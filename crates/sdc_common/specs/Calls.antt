@@ -1,0 +1,105 @@
+-- The calls of this crate: their checks, and what they give.
+use mathlib.Core.Bool.{Bool, not, _||_}
+use mathlib.Core.List.{List, [], _∷_}
+use Prim.Native.Nat.{ℕ, _*_}
+use lib.Dec.{eqb, ltb}
+use lib.ListN.{length}
+use Rattle.reply.specs.Number.{numberOf, answered}
+use Rattle.reply.specs.First.{Check, _if_, firstOf, answer}
+use Rattle.reply.specs.declared.Refusal.the-variants.{WrongSize, TooManyGlues}
+use Rattle.reply.specs.declared.Reply.{Reply}
+use Rattle.sdc_common.specs.Names.{baseLength, isFrom}
+use Rattle.sdc_common.specs.Lent.{Names, Glue, partOf, unfitName, unfitNames, gluesOf}
+use Rattle.sdc_common.specs.Numbers.{basesOf, numbersAmong}
+use Rattle.sdc_common.specs.declared.NameAnswer.{NameAnswer}
+use Rattle.sdc_common.specs.declared.NameAnswer.the-variants as name
+use Rattle.sdc_common.specs.declared.NumbersAnswer.{NumbersAnswer}
+use Rattle.sdc_common.specs.declared.NumbersAnswer.the-variants as numbers
+use mathlib.Core.Bool.{false}
+
+-- ---- a name's base
+
+-- document 01's number, the base's start and length, and whether the name stands for the base
+pub record NameFigures : Type 0 where
+  pub number : ℕ
+  pub start : ℕ
+  pub size : ℕ
+  pub from : Bool
+
+-- a refusal carries no other figure
+abbrev pub refusedName : ℕ → NameFigures
+refusedName number = record { number = number; start = 0; size = 0; from = false }
+
+abbrev pub givenName : ℕ → ℕ → Bool → NameFigures
+givenName start size from = record { number = answered; start = start; size = size; from = from }
+
+abbrev pub nameFigures : NameAnswer → NameFigures
+nameFigures (name.Given start size from) = givenName start size from
+nameFigures (name.Refused refusal) = refusedName (numberOf refusal)
+
+abbrev pub nameChecks : List ℕ → ℕ → ℕ → List Check
+nameChecks text start size = WrongSize if unfitName text start size ∷ []
+
+unfoldable pub selfAndInverse : List ℕ → ℕ → ℕ → NameFigures
+selfAndInverse text start size =
+    let spelled = partOf text start size in
+    answer (firstOf (nameChecks text start size)) refusedName (givenName start (baseLength spelled) (isFrom spelled))
+
+-- ---- numbers of names among those of the strands
+
+-- document 01's number, and how many base names the strands use
+pub record NumbersFigures : Type 0 where
+  pub number : ℕ
+  pub bases : ℕ
+
+abbrev pub refusedNumbers : ℕ → NumbersFigures
+refusedNumbers number = record { number = number; bases = 0 }
+
+abbrev pub givenNumbers : ℕ → NumbersFigures
+givenNumbers bases = record { number = answered; bases = bases }
+
+abbrev pub numbersFigures : NumbersAnswer → NumbersFigures
+numbersFigures (numbers.Given bases) = givenNumbers bases
+numbersFigures (numbers.Refused refusal) = refusedNumbers (numberOf refusal)
+
+-- user strands in a build: 0 to 61
+abbrev pub tooManyStrands : ℕ → Bool
+tooManyStrands users = ltb 61 users
+
+-- three glues for each user strand: west, bottom, east
+abbrev pub unfitStrands : ℕ → List ℕ → Names → Bool
+unfitStrands users text strands = tooManyStrands users || unfitNames (3 * users) text strands
+
+-- the strands' glues and the names asked for, n of them, with a slice of n numbers
+abbrev pub numbersChecks : ℕ → List ℕ → Names → Names → ℕ → List Check
+numbersChecks users text strands names lent =
+    WrongSize if (unfitStrands users text strands || unfitNames lent text names)
+    ∷ []
+
+unfoldable pub nameNumbers : ℕ → List ℕ → Names → Names → ℕ → NumbersFigures
+nameNumbers users text strands names lent =
+    answer (firstOf (numbersChecks users text strands names lent)) refusedNumbers (givenNumbers (length (basesOf (gluesOf text strands))))
+
+-- a refusal leaves the lent slice as it was
+unfoldable pub numbersAfter : ℕ → List ℕ → Names → Names → List ℕ → List ℕ
+numbersAfter users text strands names lent =
+    answer (firstOf (numbersChecks users text strands names (length lent))) (λ number. lent) (numbersAmong (gluesOf text strands) (gluesOf text names))
+
+-- ---- the strands' own glues
+
+-- document 01: "the strands use more than 31 base names"
+abbrev pub tooManyBases : List Glue → Bool
+tooManyBases strands = ltb 31 (length (basesOf strands))
+
+abbrev pub glueChecks : ℕ → List ℕ → Names → ℕ → List Check
+glueChecks users text strands lent =
+    WrongSize if (unfitStrands users text strands || not (eqb lent (3 * users)))
+    ∷ TooManyGlues if tooManyBases (gluesOf text strands)
+    ∷ []
+
+unfoldable pub strandGlues : ℕ → List ℕ → Names → ℕ → Reply
+strandGlues users text strands lent = firstOf (glueChecks users text strands lent)
+
+unfoldable pub gluesAfter : ℕ → List ℕ → Names → List ℕ → List ℕ
+gluesAfter users text strands lent =
+    answer (strandGlues users text strands (length lent)) (λ number. lent) (numbersAmong (gluesOf text strands) (gluesOf text strands))

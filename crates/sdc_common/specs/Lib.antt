@@ -1,0 +1,7 @@
+pub mod Names
+pub mod Lent
+pub mod Numbers
+pub mod Spelled
+pub mod Table
+pub mod Calls
+pub mod Bench
