@@ -1,0 +1,4 @@
+pub mod Sequences
+pub mod Pairs
+pub mod Small
+pub mod Writes

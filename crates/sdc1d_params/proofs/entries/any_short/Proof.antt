@@ -1,0 +1,71 @@
+-- `sdc1d_params::any_short` meets its contract: no sequence that was passed over is short. Assumes nothing.
+use borrow.Author.Needs.{needs}
+use mathlib.Core.Path.{_≡_, refl, sym, ap, _∙_}
+use mathlib.Core.Bool.{Bool, true, false, _||_}
+use Prim.Native.Nat.{ℕ, _-_, _≤_}
+use native.Mathlib.Omega.{arith}
+use lib.ListN.{length, getD}
+use denote.Ref.{now}
+use Rattle.lists.specs.Find.{any}
+use Rattle.lists.specs.Build.{tabulate, upTo}
+use Rattle.lists.proofs.Counted.{any-more, any-found}
+use Rattle.sdc1d_params.specs.Entries.{badForm, unfitEntry, hasBadBase, isShort, energiesOf, entryAt, entriesOf, unfitAt}
+use Rattle.sdc1d_params.proofs.entries.any_short.Statement.{statement}
+use Rattle.sdc1d_params.proofs.entries.any_short.Tie as tie
+
+abbrev Inv-loop : tie.InvT-loop
+Inv-loop text forms dgs dss starts lengths i₀ i = (i ≤ length forms) × (any (isShort text) (entriesOf (energiesOf forms dgs dss starts lengths) i) ≡ false)
+
+abbrev μ-loop : tie.MeasureT-loop
+μ-loop text forms dgs dss starts lengths i₀ i = length forms - i
+
+loop-holds : tie.Need-loop-holds Inv-loop μ-loop
+unfolding any tabulate
+loop-holds c = (omega arith, refl)
+
+gs-or-seq-requires : tie.Need-gs-or-seq-requires Inv-loop μ-loop
+gs-or-seq-requires c κs = (c .before .before .before .before .before .before .before .before .pre .many, omega arith)
+
+is-short-requires : tie.Need-is-short-requires Inv-loop μ-loop
+is-short-requires c κs =
+    let e = energiesOf (now (c .before .before .before .before .before .before .before .before .before .args .forms)) (now (c .before .before .before .before .before .before .before .before .before .args .dgs)) (now (c .before .before .before .before .before .before .before .before .before .args .dss)) (now (c .before .before .before .before .before .before .before .before .before .args .starts)) (now (c .before .before .before .before .before .before .before .before .before .args .lengths)) in
+    ap (unfitEntry (now (c .before .before .before .before .before .before .before .before .before .args .text))) (c .gs-or-seq .ensures) ∙ c .before .before .before .before .before .before .before .before .before .pre .each (c .before .before .loop .i) (omega arith)
+
+returns : tie.Need-returns Inv-loop μ-loop
+returns c =
+    let e = energiesOf (now (c .before .before .before .before .before .before .before .before .before .before .before .args .forms)) (now (c .before .before .before .before .before .before .before .before .before .before .before .args .dgs)) (now (c .before .before .before .before .before .before .before .before .before .before .before .args .dss)) (now (c .before .before .before .before .before .before .before .before .before .before .before .args .starts)) (now (c .before .before .before .before .before .before .before .before .before .before .before .args .lengths)) in
+    let here : isShort (now (c .before .before .before .before .before .before .before .before .before .before .before .args .text)) (entryAt e (c .before .before .before .before .loop .i)) ≡ true = sym (ap (isShort (now (c .before .before .before .before .before .before .before .before .before .before .before .args .text))) (c .before .before .gs-or-seq .ensures)) ∙ sym (c .before .is-short .ensures) ∙ c .if1 .taken in
+    sym (any-found (isShort (now (c .before .before .before .before .before .before .before .before .before .before .before .args .text))) (length (now (c .before .before .before .before .before .before .before .before .before .before .before .args .forms))) (entryAt e) (c .before .before .before .before .loop .i) (omega arith) here)
+
+add-i : tie.Need-add-i Inv-loop μ-loop
+add-i c = search needs
+
+loop-less : tie.Need-loop-less Inv-loop μ-loop
+loop-less c = search needs
+
+loop-again : tie.Need-loop-again Inv-loop μ-loop
+loop-again c =
+    let e = energiesOf (now (c .before .before .before .before .before .before .before .before .before .before .before .args .forms)) (now (c .before .before .before .before .before .before .before .before .before .before .before .args .dgs)) (now (c .before .before .before .before .before .before .before .before .before .before .before .args .dss)) (now (c .before .before .before .before .before .before .before .before .before .before .before .args .starts)) (now (c .before .before .before .before .before .before .before .before .before .before .before .args .lengths)) in
+    let other : isShort (now (c .before .before .before .before .before .before .before .before .before .before .before .args .text)) (entryAt e (c .before .before .before .before .loop .i)) ≡ false = sym (ap (isShort (now (c .before .before .before .before .before .before .before .before .before .before .before .args .text))) (c .before .before .gs-or-seq .ensures)) ∙ sym (c .before .is-short .ensures) ∙ c .if1 .left in
+    (omega arith, any-more (isShort (now (c .before .before .before .before .before .before .before .before .before .before .before .args .text))) (entryAt e) (c .before .before .before .before .loop .i) (c .before .before .before .before .loop .inv .1) other)
+
+returns-2 : tie.Need-returns-2 Inv-loop μ-loop
+returns-2 c =
+    let e = energiesOf (now (c .before .before .before .before .before .before .before .before .args .forms)) (now (c .before .before .before .before .before .before .before .before .args .dgs)) (now (c .before .before .before .before .before .before .before .before .args .dss)) (now (c .before .before .before .before .before .before .before .before .args .starts)) (now (c .before .before .before .before .before .before .before .before .args .lengths)) in
+    let end : c .before .loop .i ≡ length (now (c .before .before .before .before .before .before .before .before .args .forms)) = omega arith in
+    sym (ap (λ (k : ℕ). any (isShort (now (c .before .before .before .before .before .before .before .before .args .text))) (entriesOf e k)) (sym end) ∙ c .before .loop .inv .1)
+
+pub any-short-spec : {M : Type 1} → statement M
+any-short-spec =
+    tie.close
+    (tie.spec
+    Inv-loop
+    μ-loop
+    loop-holds
+    gs-or-seq-requires
+    is-short-requires
+    returns
+    add-i
+    loop-less
+    loop-again
+    returns-2)

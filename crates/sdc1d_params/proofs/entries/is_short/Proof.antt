@@ -1,0 +1,40 @@
+-- `sdc1d_params::is_short` meets its contract: the part of the text is as long as was lent. Assumes nothing.
+use borrow.Author.Needs.{needs}
+use mathlib.Core.Path.{_≡_, refl, sym, ap, ap₂, _∙_}
+use lib.Dec.{eqb}
+use mathlib.Core.Bool.{Bool, true, false}
+use mathlib.Core.List.{List}
+use Prim.Native.Nat.{ℕ, _+_, _≤_, _<_}
+use native.Mathlib.Omega.{arith}
+use lib.Ieee.{ofBits}
+use lib.ListN.{length}
+use denote.Ref.{now}
+use borrow.Author.Tests.{lt-ltb, le-ltb, eq-eqb}
+use Rattle.utils.specs.Answers.{DgDsFigures, dgDsFigures}
+use Rattle.utils.specs.Single.{stringDnaDgDs}
+use Rattle.sdc_common.specs.Lent.{partOf}
+use Rattle.sdc_common.proofs.Held.{part-is}
+use Rattle.sdc1d_params.specs.Entries.{unfitEntry, hasBadBase, isShort, entryDg, entryDs}
+use Rattle.sdc1d_params.specs.declared.entries.GsOrSeq.{GsOrSeq}
+use Rattle.sdc1d_params.specs.declared.entries.GsOrSeq.the-variants.{Sequence}
+use Rattle.sdc1d_params.proofs.Sequences.{sequence-fits, not-long, short-as-lent, long-as-lent, given-good, refused-bad}
+use Rattle.sdc1d_params.proofs.entries.is_short.Statement.{statement}
+use Rattle.sdc1d_params.proofs.entries.is_short.Tie as tie
+
+enum-told : tie.Need-enum-told
+enum-told c = search needs
+
+enum-known-entry : tie.Need-enum-known-entry
+enum-known-entry c = search needs
+
+returns : tie.Need-returns
+returns c = search needs
+
+returns-2 : tie.Need-returns-2
+returns-2 c =
+    let v = c .before .entry .given .0 in
+    let fit : unfitEntry (now (c .before .before .before .args .text)) (Sequence (v .0) (v .1 .0)) ≡ false = sym (ap (unfitEntry (now (c .before .before .before .args .text))) (c .before .entry .given .1)) ∙ c .before .before .before .pre in
+    short-as-lent (now (c .before .before .before .args .text)) (v .0) (v .1 .0) fit ∙ sym (ap (isShort (now (c .before .before .before .args .text))) (c .before .entry .given .1))
+
+pub is-short-spec : {M : Type 1} → statement M
+is-short-spec = tie.close (tie.spec enum-told enum-known-entry returns returns-2)

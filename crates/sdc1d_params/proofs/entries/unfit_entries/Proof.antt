@@ -1,0 +1,89 @@
+-- `sdc1d_params::unfit_entries` meets its contract: each entry that was passed over is fit. Assumes nothing.
+use borrow.Author.Needs.{needs}
+use mathlib.Core.Path.{_≡_, refl, sym, ap, _∙_}
+use mathlib.Core.Bool.{Bool, true, false, _||_}
+use Prim.Native.Nat.{ℕ, _-_, _≤_}
+use native.Mathlib.Omega.{arith}
+use lib.ListN.{length, getD}
+use denote.Ref.{now}
+use Rattle.lists.specs.Find.{any}
+use Rattle.lists.specs.Build.{tabulate, upTo}
+use Rattle.lists.proofs.Counted.{any-more, any-found}
+use Rattle.sdc1d_params.specs.Entries.{badForm, unfitEntry, hasBadBase, isShort, energiesOf, entryAt, entriesOf, unfitAt}
+use Rattle.sdc1d_params.proofs.entries.unfit_entries.Statement.{statement}
+use Rattle.sdc1d_params.proofs.entries.unfit_entries.Tie as tie
+
+abbrev Inv-loop : tie.InvT-loop
+Inv-loop text forms dgs dss starts lengths i₀ i = (i ≤ length forms) × (any (unfitAt text (energiesOf forms dgs dss starts lengths)) (upTo i) ≡ false)
+
+abbrev μ-loop : tie.MeasureT-loop
+μ-loop text forms dgs dss starts lengths i₀ i = length forms - i
+
+loop-holds : tie.Need-loop-holds Inv-loop μ-loop
+unfolding any tabulate
+loop-holds c = (omega arith, refl)
+
+shared-slice-read-bad-form : tie.Need-shared-slice-read-bad-form Inv-loop μ-loop
+shared-slice-read-bad-form c = search needs
+
+bad-form-requires : tie.Need-bad-form-requires Inv-loop μ-loop
+bad-form-requires c κs = search needs
+
+returns : tie.Need-returns Inv-loop μ-loop
+unfolding unfitAt
+returns c =
+    let e = energiesOf (now (c .before .before .before .before .before .before .before .before .before .before .before .args .forms)) (now (c .before .before .before .before .before .before .before .before .before .before .before .args .dgs)) (now (c .before .before .before .before .before .before .before .before .before .before .before .args .dss)) (now (c .before .before .before .before .before .before .before .before .before .before .before .args .starts)) (now (c .before .before .before .before .before .before .before .before .before .before .before .args .lengths)) in
+    let bad : unfitAt (now (c .before .before .before .before .before .before .before .before .before .before .before .args .text)) e (c .before .before .before .before .loop .i) ≡ true = rw (sym (c .before .bad-form .ensures) ∙ c .if1 .taken) in
+    sym (any-found (unfitAt (now (c .before .before .before .before .before .before .before .before .before .before .before .args .text)) e) (length (now (c .before .before .before .before .before .before .before .before .before .before .before .args .forms))) (λ k. k) (c .before .before .before .before .loop .i) (omega arith) bad)
+
+gs-or-seq-requires : tie.Need-gs-or-seq-requires Inv-loop μ-loop
+gs-or-seq-requires c κs = (c .before .before .before .before .before .before .before .before .before .before .before .pre, omega arith)
+
+unfit-entry-requires : tie.Need-unfit-entry-requires Inv-loop μ-loop
+unfit-entry-requires c κs = search needs
+
+returns-2 : tie.Need-returns-2 Inv-loop μ-loop
+unfolding unfitAt
+returns-2 c =
+    let e = energiesOf (now (c .before .before .before .before .before .before .before .before .before .before .before .before .before .before .args .forms)) (now (c .before .before .before .before .before .before .before .before .before .before .before .before .before .before .args .dgs)) (now (c .before .before .before .before .before .before .before .before .before .before .before .before .before .before .args .dss)) (now (c .before .before .before .before .before .before .before .before .before .before .before .before .before .before .args .starts)) (now (c .before .before .before .before .before .before .before .before .before .before .before .before .before .before .args .lengths)) in
+    let unfit : unfitEntry (now (c .before .before .before .before .before .before .before .before .before .before .before .before .before .before .args .text)) (entryAt e (c .before .before .before .before .before .before .before .loop .i)) ≡ true = sym (ap (unfitEntry (now (c .before .before .before .before .before .before .before .before .before .before .before .before .before .before .args .text))) (c .before .before .gs-or-seq .ensures)) ∙ sym (c .before .unfit-entry .ensures) ∙ c .if2 .taken in
+    let bad : unfitAt (now (c .before .before .before .before .before .before .before .before .before .before .before .before .before .before .args .text)) e (c .before .before .before .before .before .before .before .loop .i) ≡ true = rw (sym (c .before .before .before .before .bad-form .ensures) ∙ c .before .before .before .if1 .left, unfit) in
+    sym (any-found (unfitAt (now (c .before .before .before .before .before .before .before .before .before .before .before .before .before .before .args .text)) e) (length (now (c .before .before .before .before .before .before .before .before .before .before .before .before .before .before .args .forms))) (λ k. k) (c .before .before .before .before .before .before .before .loop .i) (omega arith) bad)
+
+add-i : tie.Need-add-i Inv-loop μ-loop
+add-i c = search needs
+
+loop-less : tie.Need-loop-less Inv-loop μ-loop
+loop-less c = search needs
+
+loop-again : tie.Need-loop-again Inv-loop μ-loop
+unfolding unfitAt
+loop-again c =
+    let e = energiesOf (now (c .before .before .before .before .before .before .before .before .before .before .before .before .before .before .args .forms)) (now (c .before .before .before .before .before .before .before .before .before .before .before .before .before .before .args .dgs)) (now (c .before .before .before .before .before .before .before .before .before .before .before .before .before .before .args .dss)) (now (c .before .before .before .before .before .before .before .before .before .before .before .before .before .before .args .starts)) (now (c .before .before .before .before .before .before .before .before .before .before .before .before .before .before .args .lengths)) in
+    let fit : unfitEntry (now (c .before .before .before .before .before .before .before .before .before .before .before .before .before .before .args .text)) (entryAt e (c .before .before .before .before .before .before .before .loop .i)) ≡ false = sym (ap (unfitEntry (now (c .before .before .before .before .before .before .before .before .before .before .before .before .before .before .args .text))) (c .before .before .gs-or-seq .ensures)) ∙ sym (c .before .unfit-entry .ensures) ∙ c .if2 .left in
+    let good : unfitAt (now (c .before .before .before .before .before .before .before .before .before .before .before .before .before .before .args .text)) e (c .before .before .before .before .before .before .before .loop .i) ≡ false = rw (sym (c .before .before .before .before .bad-form .ensures) ∙ c .before .before .before .if1 .left, fit) in
+    (omega arith, any-more (unfitAt (now (c .before .before .before .before .before .before .before .before .before .before .before .before .before .before .args .text)) e) (λ k. k) (c .before .before .before .before .before .before .before .loop .i) (c .before .before .before .before .before .before .before .loop .inv .1) good)
+
+returns-3 : tie.Need-returns-3 Inv-loop μ-loop
+returns-3 c =
+    let e = energiesOf (now (c .before .before .before .before .before .before .before .before .args .forms)) (now (c .before .before .before .before .before .before .before .before .args .dgs)) (now (c .before .before .before .before .before .before .before .before .args .dss)) (now (c .before .before .before .before .before .before .before .before .args .starts)) (now (c .before .before .before .before .before .before .before .before .args .lengths)) in
+    let end : c .before .loop .i ≡ length (now (c .before .before .before .before .before .before .before .before .args .forms)) = omega arith in
+    sym (ap (λ (k : ℕ). any (unfitAt (now (c .before .before .before .before .before .before .before .before .args .text)) e) (upTo k)) (sym end) ∙ c .before .loop .inv .1)
+
+pub unfit-entries-spec : {M : Type 1} → statement M
+unfit-entries-spec =
+    tie.close
+    (tie.spec
+    Inv-loop
+    μ-loop
+    loop-holds
+    shared-slice-read-bad-form
+    bad-form-requires
+    returns
+    gs-or-seq-requires
+    unfit-entry-requires
+    returns-2
+    add-i
+    loop-less
+    loop-again
+    returns-3)

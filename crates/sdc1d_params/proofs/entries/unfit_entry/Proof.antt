@@ -1,0 +1,56 @@
+-- `sdc1d_params::unfit_entry` meets its contract: the difference never goes below 0, where the sum might wrap. Assumes nothing.
+use borrow.Author.Needs.{needs}
+use mathlib.Core.Path.{_≡_, refl, sym, ap, ap₂, _∙_}
+use lib.Dec.{eqb}
+use mathlib.Core.Bool.{Bool, true, false}
+use mathlib.Core.List.{List}
+use Prim.Native.Nat.{ℕ, _+_, _≤_, _<_}
+use native.Mathlib.Omega.{arith}
+use lib.Ieee.{ofBits}
+use lib.ListN.{length}
+use denote.Ref.{now}
+use borrow.Author.Tests.{lt-ltb, le-ltb, eq-eqb}
+use Rattle.utils.specs.Answers.{DgDsFigures, dgDsFigures}
+use Rattle.utils.specs.Single.{stringDnaDgDs}
+use Rattle.sdc_common.specs.Lent.{partOf}
+use Rattle.sdc_common.proofs.Held.{part-is}
+use Rattle.sdc1d_params.specs.Entries.{unfitEntry, hasBadBase, isShort, entryDg, entryDs}
+use Rattle.sdc1d_params.specs.declared.entries.GsOrSeq.{GsOrSeq}
+use Rattle.sdc1d_params.specs.declared.entries.GsOrSeq.the-variants.{Sequence}
+use Rattle.sdc1d_params.proofs.Sequences.{sequence-fits, not-long, short-as-lent, long-as-lent, given-good, refused-bad}
+use Rattle.sdc1d_params.proofs.entries.unfit_entry.Statement.{statement}
+use Rattle.sdc1d_params.proofs.entries.unfit_entry.Tie as tie
+
+enum-told : tie.Need-enum-told
+enum-told c = search needs
+
+enum-known-entry : tie.Need-enum-known-entry
+enum-known-entry c = search needs
+
+returns : tie.Need-returns
+returns c =
+    let v = c .before .before .entry .given .0 in
+    let h : length (now (c .before .before .before .before .args .text)) < v .0 + v .1 .0 = omega arith in
+    rw (c .before .before .entry .given .1) (simp (lt-ltb _ _ h))
+
+sub-if2 : tie.Need-sub-if2
+sub-if2 c = search needs
+
+returns-2 : tie.Need-returns-2
+returns-2 c =
+    let v = c .before .before .before .entry .given .0 in
+    let h : length (now (c .before .before .before .before .before .args .text)) < v .0 + v .1 .0 = omega arith in
+    rw (c .before .before .before .entry .given .1) (simp (lt-ltb _ _ h))
+
+returns-3 : tie.Need-returns-3
+returns-3 c = search needs
+
+returns-4 : tie.Need-returns-4
+returns-4 c =
+    let v = c .before .before .before .entry .given .0 in
+    let h : v .0 + v .1 .0 ≤ length (now (c .before .before .before .before .before .args .text)) = omega arith in
+    rw (c .before .before .before .entry .given .1) (long-as-lent (now (c .before .before .before .before .before .args .text)) (v .0) (v .1 .0) h)
+
+pub unfit-entry-spec : {M : Type 1} → statement M
+unfit-entry-spec =
+    tie.close (tie.spec enum-told enum-known-entry returns sub-if2 returns-2 returns-3 returns-4)

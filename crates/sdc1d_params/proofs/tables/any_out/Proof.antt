@@ -1,0 +1,97 @@
+-- `sdc1d_params::any_out` meets its contract: no sum that was passed over is out of range. Assumes nothing.
+use borrow.Author.Needs.{needs}
+use mathlib.Core.Path.{_≡_, refl, sym, ap, ap₂, _∙_}
+use mathlib.Core.Bool.{Bool, true, false, not, _||_}
+use mathlib.Core.List.{List}
+use Prim.Native.Nat.{ℕ, _+_, _-_, _*_, _≤_, _<_}
+use native.Mathlib.Omega.{arith}
+use lib.Ieee.{Float, binary64, add, ofBits, neg}
+use lib.ListN.{length, getD, set, length-set, replicate}
+use denote.Ref.{now}
+use Rattle.doubles.specs.Decimal.{nearest, zero}
+use Rattle.doubles.specs.Range.{inRange}
+use Rattle.lists.specs.Find.{any}
+use Rattle.lists.specs.Fold.{foldl}
+use Rattle.lists.specs.Build.{tabulate}
+use Rattle.lists.proofs.Counted.{any-more, any-found, fold-more, stored, stored-none, stored-length, stored-more, stored-whole}
+use borrow.Author.Tests.{not-true, not-false}
+use Rattle.sdc1d_params.specs.Entries.{Cell, cell, isWritten, energiesOf, entryAt, entryDg, entryDs, unfitEntry}
+use Rattle.sdc1d_params.specs.Tables.{Write, writeOf, dgInRange, dsInRange, outOfRange, setBoth, writeDg, writeDs}
+use Rattle.sdc1d_params.specs.Cells.{writeAt, InTables}
+use Rattle.sdc1d_params.proofs.Writes.{same-write}
+use Rattle.sdc1d_params.proofs.tables.any_out.Statement.{statement}
+use Rattle.sdc1d_params.proofs.tables.any_out.Tie as tie
+
+abbrev Inv-loop : tie.InvT-loop
+Inv-loop text forms dgs dss starts lengths pdg pds rows columns i₀ i = (i ≤ length forms) × (any outOfRange (tabulate i (writeAt text (energiesOf forms dgs dss starts lengths) (pdg .0) (pds .0) rows columns)) ≡ false)
+
+abbrev μ-loop : tie.MeasureT-loop
+μ-loop text forms dgs dss starts lengths pdg pds rows columns i₀ i = length forms - i
+
+loop-holds : tie.Need-loop-holds Inv-loop μ-loop
+unfolding any tabulate
+loop-holds c = (omega arith, refl)
+
+gs-or-seq-requires : tie.Need-gs-or-seq-requires Inv-loop μ-loop
+gs-or-seq-requires c κs = (c .before .before .before .before .before .before .before .before .before .before .pre .0 .many, omega arith)
+
+mul-is-out : tie.Need-mul-is-out Inv-loop μ-loop
+mul-is-out c = search needs
+
+shared-slice-read-is-out : tie.Need-shared-slice-read-is-out Inv-loop μ-loop
+shared-slice-read-is-out c = let m = c .before .before .before .before .before .before .before .before .before .before .before .before .pre .1 .0 in omega arith
+
+mul-is-out-2 : tie.Need-mul-is-out-2 Inv-loop μ-loop
+mul-is-out-2 c = search needs
+
+shared-slice-read-is-out-2 : tie.Need-shared-slice-read-is-out-2 Inv-loop μ-loop
+shared-slice-read-is-out-2 c = let m = c .before .before .before .before .before .before .before .before .before .before .before .before .before .pre .1 .1 in omega arith
+
+with-penalty-requires : tie.Need-with-penalty-requires Inv-loop μ-loop
+with-penalty-requires c κs = ap (unfitEntry (now (c .before .before .before .before .before .before .before .before .before .before .before .before .before .args .text))) (c .before .before .gs-or-seq .ensures) ∙ c .before .before .before .before .before .before .before .before .before .before .before .before .before .pre .0 .each (c .before .before .before .before .loop .i) (omega arith)
+
+is-out-requires : tie.Need-is-out-requires Inv-loop μ-loop
+is-out-requires c κs = search needs
+
+returns : tie.Need-returns Inv-loop μ-loop
+returns c =
+    let f = writeAt (now (c .before .before .before .before .before .before .before .before .before .before .before .before .before .before .before .before .args .text)) (energiesOf (now (c .before .before .before .before .before .before .before .before .before .before .before .before .before .before .before .before .args .forms)) (now (c .before .before .before .before .before .before .before .before .before .before .before .before .before .before .before .before .args .dgs)) (now (c .before .before .before .before .before .before .before .before .before .before .before .before .before .before .before .before .args .dss)) (now (c .before .before .before .before .before .before .before .before .before .before .before .before .before .before .before .before .args .starts)) (now (c .before .before .before .before .before .before .before .before .before .before .before .before .before .before .before .before .args .lengths))) (c .before .before .before .before .before .before .before .before .before .before .before .before .before .before .before .before .args .pdg .0) (c .before .before .before .before .before .before .before .before .before .before .before .before .before .before .before .before .args .pds .0) (now (c .before .before .before .before .before .before .before .before .before .before .before .before .before .before .before .before .args .rows)) (now (c .before .before .before .before .before .before .before .before .before .before .before .before .before .before .before .before .args .columns)) in
+    let made = same-write (now (c .before .before .before .before .before .before .before .before .before .before .before .before .before .before .before .before .args .text)) (c .before .before .before .before .before .before .before .before .before .before .before .before .before .before .before .before .args .pdg .0) (c .before .before .before .before .before .before .before .before .before .before .before .before .before .before .before .before .args .pds .0) (cell (getD (now (c .before .before .before .before .before .before .before .before .before .before .before .before .before .before .before .before .args .rows)) (c .before .before .before .before .before .before .before .loop .i) 0) (getD (now (c .before .before .before .before .before .before .before .before .before .before .before .before .before .before .before .before .args .columns)) (c .before .before .before .before .before .before .before .loop .i) 0)) (c .before .before .before .before .before .gs-or-seq .ensures) (c .before .before .with-penalty .ensures .0) (c .before .before .with-penalty .ensures .1) in
+    sym (any-found outOfRange (length (now (c .before .before .before .before .before .before .before .before .before .before .before .before .before .before .before .before .args .forms))) f (c .before .before .before .before .before .before .before .loop .i) (omega arith) (sym (ap outOfRange made) ∙ sym (c .before .is-out .ensures) ∙ c .if1 .taken))
+
+add-i : tie.Need-add-i Inv-loop μ-loop
+add-i c = search needs
+
+loop-less : tie.Need-loop-less Inv-loop μ-loop
+loop-less c = search needs
+
+loop-again : tie.Need-loop-again Inv-loop μ-loop
+loop-again c =
+    let f = writeAt (now (c .before .before .before .before .before .before .before .before .before .before .before .before .before .before .before .before .args .text)) (energiesOf (now (c .before .before .before .before .before .before .before .before .before .before .before .before .before .before .before .before .args .forms)) (now (c .before .before .before .before .before .before .before .before .before .before .before .before .before .before .before .before .args .dgs)) (now (c .before .before .before .before .before .before .before .before .before .before .before .before .before .before .before .before .args .dss)) (now (c .before .before .before .before .before .before .before .before .before .before .before .before .before .before .before .before .args .starts)) (now (c .before .before .before .before .before .before .before .before .before .before .before .before .before .before .before .before .args .lengths))) (c .before .before .before .before .before .before .before .before .before .before .before .before .before .before .before .before .args .pdg .0) (c .before .before .before .before .before .before .before .before .before .before .before .before .before .before .before .before .args .pds .0) (now (c .before .before .before .before .before .before .before .before .before .before .before .before .before .before .before .before .args .rows)) (now (c .before .before .before .before .before .before .before .before .before .before .before .before .before .before .before .before .args .columns)) in
+    let made = same-write (now (c .before .before .before .before .before .before .before .before .before .before .before .before .before .before .before .before .args .text)) (c .before .before .before .before .before .before .before .before .before .before .before .before .before .before .before .before .args .pdg .0) (c .before .before .before .before .before .before .before .before .before .before .before .before .before .before .before .before .args .pds .0) (cell (getD (now (c .before .before .before .before .before .before .before .before .before .before .before .before .before .before .before .before .args .rows)) (c .before .before .before .before .before .before .before .loop .i) 0) (getD (now (c .before .before .before .before .before .before .before .before .before .before .before .before .before .before .before .before .args .columns)) (c .before .before .before .before .before .before .before .loop .i) 0)) (c .before .before .before .before .before .gs-or-seq .ensures) (c .before .before .with-penalty .ensures .0) (c .before .before .with-penalty .ensures .1) in
+    (omega arith, any-more outOfRange f (c .before .before .before .before .before .before .before .loop .i) (c .before .before .before .before .before .before .before .loop .inv .1) (sym (ap outOfRange made) ∙ sym (c .before .is-out .ensures) ∙ c .if1 .left))
+
+returns-2 : tie.Need-returns-2 Inv-loop μ-loop
+returns-2 c =
+    let end : c .before .loop .i ≡ length (now (c .before .before .before .before .before .before .before .before .before .before .args .forms)) = omega arith in
+    sym (ap (λ (k : ℕ). any outOfRange (tabulate k (writeAt (now (c .before .before .before .before .before .before .before .before .before .before .args .text)) (energiesOf (now (c .before .before .before .before .before .before .before .before .before .before .args .forms)) (now (c .before .before .before .before .before .before .before .before .before .before .args .dgs)) (now (c .before .before .before .before .before .before .before .before .before .before .args .dss)) (now (c .before .before .before .before .before .before .before .before .before .before .args .starts)) (now (c .before .before .before .before .before .before .before .before .before .before .args .lengths))) (c .before .before .before .before .before .before .before .before .before .before .args .pdg .0) (c .before .before .before .before .before .before .before .before .before .before .args .pds .0) (now (c .before .before .before .before .before .before .before .before .before .before .args .rows)) (now (c .before .before .before .before .before .before .before .before .before .before .args .columns))))) (sym end) ∙ c .before .loop .inv .1)
+
+pub any-out-spec : {M : Type 1} → statement M
+any-out-spec =
+    tie.close
+    (tie.spec
+    Inv-loop
+    μ-loop
+    loop-holds
+    gs-or-seq-requires
+    mul-is-out
+    shared-slice-read-is-out
+    mul-is-out-2
+    shared-slice-read-is-out-2
+    with-penalty-requires
+    is-out-requires
+    returns
+    add-i
+    loop-less
+    loop-again
+    returns-2)

@@ -1,0 +1,73 @@
+-- `sdc1d_params::clear` meets its contract. Assumes nothing.
+use borrow.Author.Needs.{needs}
+use mathlib.Core.Path.{_≡_, refl, sym, ap, ap₂, _∙_}
+use mathlib.Core.Bool.{Bool, true, false, not, _||_}
+use mathlib.Core.List.{List}
+use Prim.Native.Nat.{ℕ, _+_, _-_, _*_, _≤_, _<_}
+use native.Mathlib.Omega.{arith}
+use lib.Ieee.{Float, binary64, add, ofBits, neg}
+use lib.ListN.{length, getD, set, length-set, replicate}
+use denote.Ref.{now}
+use Rattle.doubles.specs.Decimal.{nearest, zero}
+use Rattle.doubles.specs.Range.{inRange}
+use Rattle.lists.specs.Find.{any}
+use Rattle.lists.specs.Fold.{foldl}
+use Rattle.lists.specs.Build.{tabulate}
+use Rattle.lists.proofs.Counted.{any-more, any-found, fold-more, stored, stored-none, stored-length, stored-more, stored-whole}
+use borrow.Author.Tests.{not-true, not-false}
+use Rattle.sdc1d_params.specs.Entries.{Cell, cell, isWritten, energiesOf, entryAt, entryDg, entryDs, unfitEntry}
+use Rattle.sdc1d_params.specs.Tables.{Write, writeOf, dgInRange, dsInRange, outOfRange, setBoth, writeDg, writeDs}
+use Rattle.sdc1d_params.specs.Cells.{writeAt, InTables}
+use Rattle.sdc1d_params.proofs.Writes.{tabulate-same-value}
+use Rattle.sdc1d_params.proofs.tables.clear.Statement.{statement}
+use Rattle.sdc1d_params.proofs.tables.clear.Tie as tie
+
+abbrev Inv-loop : tie.InvT-loop
+Inv-loop table₀ i₀ table i = (i ≤ length table₀) × (table ≡ stored (λ k. zero) i table₀)
+
+abbrev μ-loop : tie.MeasureT-loop
+μ-loop table₀ i₀ table i = length table₀ - i
+
+loop-holds : tie.Need-loop-holds Inv-loop μ-loop
+loop-holds c = (omega arith, stored-none (λ k. zero) (now (c .args .table)))
+
+mul-table : tie.Need-mul-table Inv-loop μ-loop
+mul-table c = search needs
+
+slice-write-table : tie.Need-slice-write-table Inv-loop μ-loop
+slice-write-table c = search needs
+
+add-i : tie.Need-add-i Inv-loop μ-loop
+add-i c = search needs
+
+loop-less : tie.Need-loop-less Inv-loop μ-loop
+loop-less c = omega (arith, ap length (c .before .loop .inv .1), stored-length (λ k. zero) (c .before .loop .i) (now (c .before .before .args .table)) (c .before .loop .inv .0))
+
+loop-again : tie.Need-loop-again Inv-loop μ-loop
+unfolding ofBits
+loop-again c =
+    let l = ap length (c .before .loop .inv .1) ∙ stored-length (λ k. zero) (c .before .loop .i) (now (c .before .before .args .table)) (c .before .loop .inv .0) in
+    (omega arith, rw (c .before .loop .inv .1) (stored-more (λ k. zero) (c .before .loop .i) (now (c .before .before .args .table)) zero (omega arith) refl))
+
+same-length : tie.Need-same-length Inv-loop μ-loop
+same-length c = ap length (c .before .loop .inv .1) ∙ stored-length (λ k. zero) (c .before .loop .i) (now (c .before .before .args .table)) (c .before .loop .inv .0)
+
+returns : tie.Need-returns Inv-loop μ-loop
+returns c =
+    let l = ap length (c .before .loop .inv .1) ∙ stored-length (λ k. zero) (c .before .loop .i) (now (c .before .before .args .table)) (c .before .loop .inv .0) in
+    c .before .loop .inv .1 ∙ stored-whole (λ k. zero) (c .before .loop .i) (now (c .before .before .args .table)) (omega arith) ∙ tabulate-same-value (length (now (c .before .before .args .table))) zero
+
+pub clear-spec : {M : Type 1} → statement M
+clear-spec =
+    tie.close
+    (tie.spec
+    Inv-loop
+    μ-loop
+    loop-holds
+    mul-table
+    slice-write-table
+    add-i
+    loop-less
+    loop-again
+    same-length
+    returns)

@@ -1,0 +1,107 @@
+-- `sdc1d_params::fill_tables` meets its contract: the entries passed are written. Assumes nothing.
+use borrow.Author.Needs.{needs}
+use mathlib.Core.Path.{_≡_, refl, sym, ap, ap₂, _∙_}
+use mathlib.Core.Bool.{Bool, true, false, not, _||_}
+use mathlib.Core.List.{List}
+use Prim.Native.Nat.{ℕ, _+_, _-_, _*_, _≤_, _<_}
+use native.Mathlib.Omega.{arith}
+use lib.Ieee.{Float, binary64, add, ofBits, neg}
+use lib.ListN.{length, getD, set, length-set, replicate}
+use denote.Ref.{now}
+use Rattle.doubles.specs.Decimal.{nearest, zero}
+use Rattle.doubles.specs.Range.{inRange}
+use Rattle.lists.specs.Find.{any}
+use Rattle.lists.specs.Fold.{foldl}
+use Rattle.lists.specs.Build.{tabulate}
+use Rattle.lists.proofs.Counted.{any-more, any-found, fold-more, stored, stored-none, stored-length, stored-more, stored-whole}
+use borrow.Author.Tests.{not-true, not-false}
+use Rattle.sdc1d_params.specs.Entries.{Cell, cell, isWritten, energiesOf, entryAt, entryDg, entryDs, unfitEntry}
+use Rattle.sdc1d_params.specs.Tables.{Write, writeOf, dgInRange, dsInRange, outOfRange, setBoth, writeDg, writeDs}
+use Rattle.sdc1d_params.specs.Cells.{writeAt, InTables}
+use Rattle.sdc1d_params.proofs.Writes.{same-write, set-length}
+use Rattle.sdc1d_params.proofs.tables.fill_tables.Statement.{statement}
+use Rattle.sdc1d_params.proofs.tables.fill_tables.Tie as tie
+
+abbrev Inv-loop : tie.InvT-loop
+Inv-loop text forms dgs dss starts lengths pdg pds rows columns dg₀ ds₀ i₀ dg ds i = (i ≤ length forms) × (dg ≡ foldl writeDg dg₀ (tabulate i (writeAt text (energiesOf forms dgs dss starts lengths) (pdg .0) (pds .0) rows columns))) × (ds ≡ foldl writeDs ds₀ (tabulate i (writeAt text (energiesOf forms dgs dss starts lengths) (pdg .0) (pds .0) rows columns))) × (length dg ≡ 4096) × (length ds ≡ 4096)
+
+abbrev μ-loop : tie.MeasureT-loop
+μ-loop text forms dgs dss starts lengths pdg pds rows columns dg₀ ds₀ i₀ dg ds i = length forms - i
+
+loop-holds : tie.Need-loop-holds Inv-loop μ-loop
+unfolding foldl tabulate
+loop-holds c = (omega arith, refl, refl, c .before .before .before .before .before .before .before .before .before .before .pre .1 .1 .0, c .before .before .before .before .before .before .before .before .before .before .pre .1 .1 .1)
+
+mul-row : tie.Need-mul-row Inv-loop μ-loop
+mul-row c = search needs
+
+shared-slice-read-row : tie.Need-shared-slice-read-row Inv-loop μ-loop
+shared-slice-read-row c = let m = c .before .before .before .before .before .before .before .before .before .before .before .before .before .pre .1 .0 .rows-many in omega arith
+
+mul-column : tie.Need-mul-column Inv-loop μ-loop
+mul-column c = search needs
+
+shared-slice-read-column : tie.Need-shared-slice-read-column Inv-loop μ-loop
+shared-slice-read-column c = let m = c .before .before .before .before .before .before .before .before .before .before .before .before .before .before .pre .1 .0 .columns-many in omega arith
+
+gs-or-seq-requires : tie.Need-gs-or-seq-requires Inv-loop μ-loop
+gs-or-seq-requires c κs = (c .before .before .before .before .before .before .before .before .before .before .before .before .before .before .pre .0 .many, omega arith)
+
+add-i : tie.Need-add-i Inv-loop μ-loop
+add-i c = search needs
+
+with-penalty-requires : tie.Need-with-penalty-requires Inv-loop μ-loop
+with-penalty-requires c κs = ap (unfitEntry (now (c .before .before .before .before .before .before .before .before .before .before .before .before .before .before .before .args .text))) (c .gs-or-seq .ensures) ∙ c .before .before .before .before .before .before .before .before .before .before .before .before .before .before .before .pre .0 .each (c .before .before .before .before .loop .i) (omega arith)
+
+set-both-requires : tie.Need-set-both-requires Inv-loop μ-loop
+set-both-requires c κs = let t = c .before .before .before .before .before .before .before .loop-test .taken in (c .before .before .before .before .before .before .before .before .loop .inv .3, c .before .before .before .before .before .before .before .before .before .before .before .before .before .before .before .before .before .before .before .pre .1 .0 .row (c .before .before .before .before .before .before .before .before .loop .i) t, c .before .before .before .before .before .before .before .before .before .before .before .before .before .before .before .before .before .before .before .pre .1 .0 .column (c .before .before .before .before .before .before .before .before .loop .i) t)
+
+set-both-requires-2 : tie.Need-set-both-requires-2 Inv-loop μ-loop
+set-both-requires-2 c κs = let t = c .before .before .before .before .before .before .before .before .before .before .before .loop-test .taken in (c .before .before .before .before .before .before .before .before .before .before .before .before .loop .inv .4, c .before .before .before .before .before .before .before .before .before .before .before .before .before .before .before .before .before .before .before .before .before .before .before .pre .1 .0 .row (c .before .before .before .before .before .before .before .before .before .before .before .before .loop .i) t, c .before .before .before .before .before .before .before .before .before .before .before .before .before .before .before .before .before .before .before .before .before .before .before .pre .1 .0 .column (c .before .before .before .before .before .before .before .before .before .before .before .before .loop .i) t)
+
+loop-less : tie.Need-loop-less Inv-loop μ-loop
+loop-less c = let t = c .before .before .before .before .before .before .before .before .before .before .before .before .before .before .loop-test .taken in omega (arith, t)
+
+loop-again : tie.Need-loop-again Inv-loop μ-loop
+loop-again c =
+    let f = writeAt (now (c .before .before .before .before .before .before .before .before .before .before .before .before .before .before .before .before .before .before .before .before .before .before .before .before .before .before .args .text)) (energiesOf (now (c .before .before .before .before .before .before .before .before .before .before .before .before .before .before .before .before .before .before .before .before .before .before .before .before .before .before .args .forms)) (now (c .before .before .before .before .before .before .before .before .before .before .before .before .before .before .before .before .before .before .before .before .before .before .before .before .before .before .args .dgs)) (now (c .before .before .before .before .before .before .before .before .before .before .before .before .before .before .before .before .before .before .before .before .before .before .before .before .before .before .args .dss)) (now (c .before .before .before .before .before .before .before .before .before .before .before .before .before .before .before .before .before .before .before .before .before .before .before .before .before .before .args .starts)) (now (c .before .before .before .before .before .before .before .before .before .before .before .before .before .before .before .before .before .before .before .before .before .before .before .before .before .before .args .lengths))) (c .before .before .before .before .before .before .before .before .before .before .before .before .before .before .before .before .before .before .before .before .before .before .before .before .before .before .args .pdg .0) (c .before .before .before .before .before .before .before .before .before .before .before .before .before .before .before .before .before .before .before .before .before .before .before .before .before .before .args .pds .0) (now (c .before .before .before .before .before .before .before .before .before .before .before .before .before .before .before .before .before .before .before .before .before .before .before .before .before .before .args .rows)) (now (c .before .before .before .before .before .before .before .before .before .before .before .before .before .before .before .before .before .before .before .before .before .before .before .before .before .before .args .columns)) in
+    let c0 = cell (getD (now (c .before .before .before .before .before .before .before .before .before .before .before .before .before .before .before .before .before .before .before .before .before .before .before .before .before .before .args .rows)) (c .before .before .before .before .before .before .before .before .before .before .before .before .before .before .before .loop .i) 0) (getD (now (c .before .before .before .before .before .before .before .before .before .before .before .before .before .before .before .before .before .before .before .before .before .before .before .before .before .before .args .columns)) (c .before .before .before .before .before .before .before .before .before .before .before .before .before .before .before .loop .i) 0) in
+    let made = same-write (now (c .before .before .before .before .before .before .before .before .before .before .before .before .before .before .before .before .before .before .before .before .before .before .before .before .before .before .args .text)) (c .before .before .before .before .before .before .before .before .before .before .before .before .before .before .before .before .before .before .before .before .before .before .before .before .before .before .args .pdg .0) (c .before .before .before .before .before .before .before .before .before .before .before .before .before .before .before .before .before .before .before .before .before .before .before .before .before .before .args .pds .0) c0 (c .before .before .before .before .before .before .before .before .before .before .before .gs-or-seq .ensures) (c .before .before .before .before .before .before .before .before .before .before .with-penalty .ensures .0) (c .before .before .before .before .before .before .before .before .before .before .with-penalty .ensures .1) in
+    let one = c .before .before .before .before .before .before .set-both .ensures ∙ ap₂ (λ (t : List Float) (w : Write). writeDg t w) (c .before .before .before .before .before .before .before .before .before .before .before .before .before .before .before .loop .inv .1) made ∙ sym (fold-more writeDg (now (c .before .before .before .before .before .before .before .before .before .before .before .before .before .before .before .before .before .before .before .before .before .before .before .before .before .before .args .dg)) f (c .before .before .before .before .before .before .before .before .before .before .before .before .before .before .before .loop .i)) in
+    let two = c .before .before .set-both2 .ensures ∙ ap₂ (λ (t : List Float) (w : Write). writeDs t w) (c .before .before .before .before .before .before .before .before .before .before .before .before .before .before .before .loop .inv .2) made ∙ sym (fold-more writeDs (now (c .before .before .before .before .before .before .before .before .before .before .before .before .before .before .before .before .before .before .before .before .before .before .before .before .before .before .args .ds)) f (c .before .before .before .before .before .before .before .before .before .before .before .before .before .before .before .loop .i)) in
+    let t = c .before .before .before .before .before .before .before .before .before .before .before .before .before .before .loop-test .taken in
+    (omega (arith, t), one, two, ap length (c .before .before .before .before .before .before .set-both .ensures) ∙ set-length c0 _ _ ∙ c .before .before .before .before .before .before .before .before .before .before .before .before .before .before .before .loop .inv .3, ap length (c .before .before .set-both2 .ensures) ∙ set-length c0 _ _ ∙ c .before .before .before .before .before .before .before .before .before .before .before .before .before .before .before .loop .inv .4)
+
+same-length : tie.Need-same-length Inv-loop μ-loop
+same-length c = c .before .loop .inv .3 ∙ sym (c .before .before .before .before .before .before .before .before .before .before .before .before .pre .1 .1 .0)
+
+same-length-2 : tie.Need-same-length-2 Inv-loop μ-loop
+same-length-2 c = c .before .loop .inv .4 ∙ sym (c .before .before .before .before .before .before .before .before .before .before .before .before .pre .1 .1 .1)
+
+returns : tie.Need-returns Inv-loop μ-loop
+returns c =
+    let f = writeAt (now (c .before .before .before .before .before .before .before .before .before .before .before .before .args .text)) (energiesOf (now (c .before .before .before .before .before .before .before .before .before .before .before .before .args .forms)) (now (c .before .before .before .before .before .before .before .before .before .before .before .before .args .dgs)) (now (c .before .before .before .before .before .before .before .before .before .before .before .before .args .dss)) (now (c .before .before .before .before .before .before .before .before .before .before .before .before .args .starts)) (now (c .before .before .before .before .before .before .before .before .before .before .before .before .args .lengths))) (c .before .before .before .before .before .before .before .before .before .before .before .before .args .pdg .0) (c .before .before .before .before .before .before .before .before .before .before .before .before .args .pds .0) (now (c .before .before .before .before .before .before .before .before .before .before .before .before .args .rows)) (now (c .before .before .before .before .before .before .before .before .before .before .before .before .args .columns)) in
+    let end : c .before .loop .i ≡ length (now (c .before .before .before .before .before .before .before .before .before .before .before .before .args .forms)) = omega arith in
+    (c .before .loop .inv .1 ∙ ap (λ (k : ℕ). foldl writeDg (now (c .before .before .before .before .before .before .before .before .before .before .before .before .args .dg)) (tabulate k f)) end, c .before .loop .inv .2 ∙ ap (λ (k : ℕ). foldl writeDs (now (c .before .before .before .before .before .before .before .before .before .before .before .before .args .ds)) (tabulate k f)) end)
+
+pub fill-tables-spec : {M : Type 1} → statement M
+fill-tables-spec =
+    tie.close
+    (tie.spec
+    Inv-loop
+    μ-loop
+    loop-holds
+    mul-row
+    shared-slice-read-row
+    mul-column
+    shared-slice-read-column
+    gs-or-seq-requires
+    add-i
+    with-penalty-requires
+    set-both-requires
+    set-both-requires-2
+    loop-less
+    loop-again
+    same-length
+    same-length-2
+    returns)

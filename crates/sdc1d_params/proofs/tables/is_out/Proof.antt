@@ -1,0 +1,72 @@
+-- `sdc1d_params::is_out` meets its contract: each range is that of its unit. Assumes nothing.
+use borrow.Author.Needs.{needs}
+use mathlib.Core.Path.{_≡_, refl, sym, ap, ap₂, _∙_}
+use mathlib.Core.Bool.{Bool, true, false, not, _||_}
+use mathlib.Core.List.{List}
+use Prim.Native.Nat.{ℕ, _+_, _-_, _*_, _≤_, _<_}
+use native.Mathlib.Omega.{arith}
+use lib.Ieee.{Float, binary64, add, ofBits, neg}
+use lib.ListN.{length, getD, set, length-set, replicate}
+use denote.Ref.{now}
+use Rattle.doubles.specs.Decimal.{nearest, zero}
+use Rattle.doubles.specs.Range.{inRange}
+use Rattle.lists.specs.Find.{any}
+use Rattle.lists.specs.Fold.{foldl}
+use Rattle.lists.specs.Build.{tabulate}
+use Rattle.lists.proofs.Counted.{any-more, any-found, fold-more, stored, stored-none, stored-length, stored-more, stored-whole}
+use borrow.Author.Tests.{not-true, not-false}
+use Rattle.sdc1d_params.specs.Entries.{Cell, cell, isWritten, energiesOf, entryAt, entryDg, entryDs, unfitEntry}
+use Rattle.sdc1d_params.specs.Tables.{Write, writeOf, dgInRange, dsInRange, outOfRange, setBoth, writeDg, writeDs}
+use Rattle.sdc1d_params.specs.Cells.{writeAt, InTables}
+use Rattle.doubles.specs.Range.{within}
+use Rattle.sdc1d_params.proofs.tables.is_out.Statement.{statement}
+use Rattle.sdc1d_params.proofs.tables.is_out.Tie as tie
+
+dg-range : (x : Float) → dgInRange x ≡ within (ofBits binary64 13875590451928498176) (ofBits binary64 4652218415073722368) x
+unfolding dgInRange inRange nearest ofBits
+dg-range x = refl
+
+ds-range : (x : Float) → dsInRange x ≡ within (ofBits binary64 13844065254536904704) (ofBits binary64 4620693217682128896) x
+unfolding dsInRange inRange nearest ofBits
+ds-range x = refl
+
+is-written-requires : tie.Need-is-written-requires
+is-written-requires c κs = search needs
+
+returns : tie.Need-returns
+unfolding outOfRange
+returns c =
+    let unwritten : isWritten (cell (c .before .before .args .row) (c .before .before .args .column)) ≡ false = sym (c .before .is-written .ensures) ∙ not-true _ (c .if1 .taken) in
+    rw unwritten
+
+in-range-requires : tie.Need-in-range-requires
+in-range-requires c κs = search needs
+
+returns-2 : tie.Need-returns-2
+unfolding outOfRange
+returns-2 c =
+    let written : isWritten (cell (c .before .before .before .before .before .before .args .row) (c .before .before .before .before .before .before .args .column)) ≡ true = sym (c .before .before .before .before .before .is-written .ensures) ∙ not-false _ (c .before .before .before .before .if1 .left) in
+    let out : dgInRange (c .before .before .before .before .before .before .args .gs .0 .0) ≡ false = dg-range _ ∙ sym (c .before .in-range .ensures) ∙ not-true _ (c .if2 .taken) in
+    rw (written, out)
+
+in-range-requires-2 : tie.Need-in-range-requires-2
+in-range-requires-2 c κs = search needs
+
+returns-3 : tie.Need-returns-3
+unfolding outOfRange
+returns-3 c =
+    let written : isWritten (cell (c .before .before .before .before .before .before .before .args .row) (c .before .before .before .before .before .before .before .args .column)) ≡ true = sym (c .before .before .before .before .before .before .is-written .ensures) ∙ not-false _ (c .before .before .before .before .before .if1 .left) in
+    let in-dg : dgInRange (c .before .before .before .before .before .before .before .args .gs .0 .0) ≡ true = dg-range _ ∙ sym (c .before .before .in-range .ensures) ∙ not-false _ (c .before .if2 .left) in
+    let said : c .in-range2 .result ≡ dsInRange (c .before .before .before .before .before .before .before .args .gs .1 .0) = c .in-range2 .ensures ∙ sym (ds-range _) in
+    rw (written, in-dg) (ap not said)
+
+pub is-out-spec : {M : Type 1} → statement M
+is-out-spec =
+    tie.close
+    (tie.spec
+    is-written-requires
+    returns
+    in-range-requires
+    returns-2
+    in-range-requires-2
+    returns-3)

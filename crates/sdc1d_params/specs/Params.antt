@@ -1,0 +1,157 @@
+-- `from_params`: what it refuses, and the glues and tables that it gives.
+use mathlib.Core.Bool.{Bool, true, false, cond, not, _&&_, _||_}
+use mathlib.Core.List.{List, [], _∷_, _++_, map}
+use Prim.Native.Nat.{ℕ, _+_, _-_, _*_}
+use lib.Dec.{eqb, ltb}
+use lib.Ieee.{Float}
+use lib.ListN.{length, getD, replicate}
+use Rattle.lists.specs.Find.{any}
+use Rattle.lists.specs.Build.{tabulate, upTo}
+use Rattle.reply.specs.Number.{answered}
+use Rattle.reply.specs.First.{Check, _if_, firstOf, answer}
+use Rattle.reply.specs.declared.Refusal.the-variants.{WrongSize, NotABase, TooShort, UnknownName, TooManyGlues, DuplicatePair, OutOfRange}
+use Rattle.sdc_common.specs.Names.{Name}
+use Rattle.sdc_common.specs.Lent.{Names, namesOf, Glue, partOf, glueAt, gluesOf, unfitNames}
+use Rattle.sdc_common.specs.Numbers.{basesOf, numbersAmong}
+use Rattle.sdc_common.specs.Spelled.{isUnknown, spelledNumber}
+use Rattle.sdc_common.specs.Calls.{tooManyStrands, tooManyBases}
+use Rattle.sdc1d_params.specs.Entries.{Cell, cellOf, Energies, entryAt, entriesOf, hasBadBase, isShort, unfitAt}
+use Rattle.sdc1d_params.specs.Tables.{Write, writeOf, cellsOf, duplicated, outOfRange, dgTable, dsTable}
+use Rattle.sdc1d_params.specs.declared.Copied.{Copied}
+use Rattle.sdc1d_params.specs.declared.Copied.the-variants.{Nothing, Strand}
+
+-- a parameter set as it is lent. Of an entry's names the first is always there; the second is there where the entry is for a pair.
+pub record Params : Type 0 where
+  pub text : List ℕ
+  pub users : ℕ
+  pub strands : Names
+  pub scaffold : Names
+  pub firstStarts : List ℕ
+  pub firstLengths : List ℕ
+  pub seconds : Names
+  pub energies : Energies
+  pub penaltyDg : Float
+  pub penaltyDs : Float
+  pub quencher : Copied
+  pub reporter : Copied
+
+-- what is lent to be written, and what it holds at the end, with document 01's number
+pub record Outcome : Type 0 where
+  pub number : ℕ
+  pub strandGlues : List ℕ
+  pub scaffoldGlues : List ℕ
+  pub dg : List Float
+  pub ds : List Float
+
+-- ---- what the names and entries are
+
+abbrev pub entryCount : Params → ℕ
+entryCount p = length (p .energies .forms)
+
+-- every entry has a first name
+abbrev pub firsts : Params → Names
+firsts p = namesOf (p .firstStarts) (p .firstLengths) (replicate (entryCount p) 1)
+
+abbrev pub strandNames : Params → List Glue
+strandNames p = gluesOf (p .text) (p .strands)
+
+abbrev pub bases : Params → List Name
+bases p = basesOf (strandNames p)
+
+abbrev pub firstAt : Params → ℕ → Name
+firstAt p i = partOf (p .text) (getD (p .firstStarts) i 0) (getD (p .firstLengths) i 0)
+
+abbrev pub cellAtEntry : Params → ℕ → Cell
+cellAtEntry p i = cellOf (bases p) (firstAt p i) (glueAt (p .text) (p .seconds) i)
+
+-- what the entries write, in order
+unfoldable pub writesOf : Params → List Write
+writesOf p = tabulate (entryCount p) (λ i. writeOf (p .text) (p .penaltyDg) (p .penaltyDs) (cellAtEntry p i) (entryAt (p .energies) i))
+
+-- ---- sizes
+
+-- a quencher or a reporter that is no user strand; these are numbered from 1
+abbrev pub unfitCopied : ℕ → Copied → Bool
+unfitCopied users Nothing = false
+unfitCopied users (Strand k) = eqb k 0 || ltb users k
+
+-- energy entries: 1,024
+abbrev pub unfitEntries : Params → Bool
+unfitEntries p =
+    ltb 1024 (entryCount p)
+    || not (eqb (length (p .energies .dgs)) (entryCount p))
+    || not (eqb (length (p .energies .dss)) (entryCount p))
+    || not (eqb (length (p .energies .starts)) (entryCount p))
+    || not (eqb (length (p .energies .lengths)) (entryCount p))
+    || any (unfitAt (p .text) (p .energies)) (upTo (entryCount p))
+
+-- a scaffold has 0 to 128 positions
+abbrev pub unfitScaffold : Params → Outcome → Bool
+unfitScaffold p lent = ltb 128 (length (lent .scaffoldGlues)) || unfitNames (length (lent .scaffoldGlues)) (p .text) (p .scaffold)
+
+-- the lent glues and tables are not as long as what is written: strand 0, the user strands, quencher and reporter; 64 rows of 64
+abbrev pub unfitLent : Params → Outcome → Bool
+unfitLent p lent =
+    not (eqb (length (lent .strandGlues)) (3 * (p .users + 3)))
+    || not (eqb (length (lent .dg)) 4096)
+    || not (eqb (length (lent .ds)) 4096)
+
+unfoldable pub wrongSize : Params → Outcome → Bool
+wrongSize p lent =
+    tooManyStrands (p .users)
+    || unfitNames (3 * p .users) (p .text) (p .strands)
+    || unfitScaffold p lent
+    || unfitEntries p
+    || unfitNames (entryCount p) (p .text) (firsts p)
+    || unfitNames (entryCount p) (p .text) (p .seconds)
+    || unfitCopied (p .users) (p .quencher)
+    || unfitCopied (p .users) (p .reporter)
+    || unfitLent p lent
+
+-- ---- the reply
+
+abbrev pub paramChecks : Params → Outcome → List Check
+paramChecks p lent =
+    WrongSize if wrongSize p lent
+    ∷ NotABase if any (hasBadBase (p .text)) (entriesOf (p .energies) (entryCount p))
+    ∷ TooShort if any (isShort (p .text)) (entriesOf (p .energies) (entryCount p))
+    ∷ UnknownName if any (isUnknown (bases p)) (gluesOf (p .text) (p .scaffold))
+    ∷ TooManyGlues if tooManyBases (strandNames p)
+    ∷ DuplicatePair if duplicated (cellsOf (writesOf p))
+    ∷ OutOfRange if any outOfRange (writesOf p)
+    ∷ []
+
+-- ---- what is written
+
+-- a glue of user strand k: side 0 is west, 1 bottom, 2 east
+abbrev pub glueOfStrand : List ℕ → ℕ → ℕ → ℕ
+glueOfStrand numbers k side = getD numbers (3 * (k - 1) + side) 0
+
+-- "the quencher copies west and bottom of its strand with east 0"
+abbrev pub quencherGlues : List ℕ → Copied → List ℕ
+quencherGlues numbers Nothing = 0 ∷ 0 ∷ 0 ∷ []
+quencherGlues numbers (Strand k) = glueOfStrand numbers k 0 ∷ glueOfStrand numbers k 1 ∷ 0 ∷ []
+
+-- "the reporter bottom and east with west 0"
+abbrev pub reporterGlues : List ℕ → Copied → List ℕ
+reporterGlues numbers Nothing = 0 ∷ 0 ∷ 0 ∷ []
+reporterGlues numbers (Strand k) = 0 ∷ glueOfStrand numbers k 1 ∷ glueOfStrand numbers k 2 ∷ []
+
+-- strand 0 has no glue; then the user strands from 1, the quencher, the reporter
+unfoldable pub strandGluesOf : Params → List ℕ
+strandGluesOf p =
+    let numbers = numbersAmong (strandNames p) (strandNames p) in
+    (0 ∷ 0 ∷ 0 ∷ []) ++ numbers ++ quencherGlues numbers (p .quencher) ++ reporterGlues numbers (p .reporter)
+
+-- a refusal leaves what was lent as it was
+unfoldable pub fromParams : Params → Outcome → Outcome
+fromParams p lent =
+    answer (firstOf (paramChecks p lent))
+    (λ number. record { number = number; strandGlues = lent .strandGlues; scaffoldGlues = lent .scaffoldGlues; dg = lent .dg; ds = lent .ds })
+    (record {
+      number = answered;
+      strandGlues = strandGluesOf p;
+      scaffoldGlues = map (spelledNumber (bases p)) (gluesOf (p .text) (p .scaffold));
+      dg = dgTable (writesOf p);
+      ds = dsTable (writesOf p);
+    })

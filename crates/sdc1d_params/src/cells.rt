@@ -1,0 +1,134 @@
+// Where entries are written: one name or a pair, from the numbers of the names to a cell of the tables.
+ghost use mathlib.Core.Path.{_≡_};
+ghost use mathlib.Core.Bool.{_&&_};
+ghost use Prim.Native.Nat.{ℕ, _<_, _≤_};
+ghost use lib.Dec.{eqb};
+ghost use lib.ListN.{length};
+ghost use Rattle.lists.specs.Find.{any};
+ghost use Rattle.lists.specs.Build.{tabulate};
+ghost use Rattle.sdc1d_params.specs.Entries.{cell, samePair, isWritten};
+ghost use Rattle.sdc1d_params.specs.Tables.{duplicated};
+ghost use Rattle.sdc1d_params.specs.Cells.{refOrPair, cellOfNames, placeCell, rowFrom, columnFrom, cellAt, InTables};
+
+// How an entry's names are lent: one name, and anything else is a pair.
+const REF: u8 = 0;
+
+// What an entry is for, by the numbers of the names: one name, or a pair. 0 is a name that is not known.
+pub(crate) enum RefOrPair {
+    Ref(usize),
+    Pair(usize, usize),
+}
+
+// A row and a column; 0 where a name is not known.
+pub(crate) struct Place(usize, usize);
+
+fn ref_or_pair(kind: u8, first: usize, second: usize) -> RefOrPair
+    ensures { λ r. ⌜ r ≡ refOrPair kind first second ⌝ }
+{
+    if kind == REF {
+        return RefOrPair::Ref(first);
+    }
+    RefOrPair::Pair(first, second)
+}
+
+// The cell of one name's base and base*, or of a pair.
+fn cell_of(names: RefOrPair) -> Place
+    requires { ⌜ cellOfNames names .column < 65 ⌝ }
+    ensures { λ r. ⌜ placeCell r ≡ cellOfNames names ⌝ }
+{
+    match names {
+        RefOrPair::Pair(first, second) => Place(first, second),
+        RefOrPair::Ref(n) => {
+            if n == 0 {
+                return Place(0, 0);
+            }
+            if n % 2 == 0 {
+                return Place(n - 1, n);
+            }
+            Place(n, n + 1)
+        }
+    }
+}
+
+// The rows and columns in place of the numbers of the names.
+pub(crate) fn to_cells(kinds: &[u8], first: &mut [usize], second: &mut [usize])
+    requires { ⌜ InTables (now first) (now second) (length (now kinds)) ⌝ }
+    ensures { λ _. ⌜ now (first .exit) ≡ tabulate (length (now (kinds .entry))) (rowFrom (now (kinds .entry)) (now (first .entry)) (now (second .entry))) ⌝ }
+    ensures { λ _. ⌜ now (second .exit) ≡ tabulate (length (now (kinds .entry))) (columnFrom (now (kinds .entry)) (now (first .entry)) (now (second .entry))) ⌝ }
+{
+    let mut i = 0;
+    while i < kinds.len() {
+        let place = cell_of(ref_or_pair(kinds[i], first[i], second[i]));
+        first[i] = place.0;
+        second[i] = place.1;
+        i += 1;
+    }
+}
+
+// Whether both names are known.
+pub(crate) fn is_written(row: usize, column: usize) -> bool
+    ensures { λ r. ⌜ r ≡ isWritten (cell row column) ⌝ }
+{
+    if row == 0 {
+        return false;
+    }
+    column != 0
+}
+
+fn same_cell(row: usize, column: usize, other_row: usize, other_column: usize) -> bool
+    ensures { λ r. ⌜ r ≡ (eqb row «other_row» && eqb column «other_column») ⌝ }
+{
+    if row != other_row {
+        return false;
+    }
+    column == other_column
+}
+
+// Whether two cells that are written are the same one, or mirrored.
+fn same_pair(row: usize, column: usize, other_row: usize, other_column: usize) -> bool
+    ensures { λ r. ⌜ r ≡ samePair (cell row column) (cell «other_row» «other_column») ⌝ }
+{
+    if !is_written(row, column) {
+        return false;
+    }
+    if !is_written(other_row, other_column) {
+        return false;
+    }
+    if same_cell(row, column, other_row, other_column) {
+        return true;
+    }
+    same_cell(row, column, other_column, other_row)
+}
+
+// Whether an entry before i has the pair of entry i.
+fn is_repeated(rows: &[usize], columns: &[usize], i: usize) -> bool
+    requires { ⌜ length (now rows) ≡ length (now columns) ⌝ }
+    requires { ⌜ i < length (now rows) ⌝ }
+    ensures { λ r. ⌜ r ≡ any (samePair (cellAt (now (rows .entry)) (now (columns .entry)) i)) (tabulate i (cellAt (now (rows .entry)) (now (columns .entry)))) ⌝ }
+{
+    let row = rows[i];
+    let column = columns[i];
+    let mut j = 0;
+    while j < i {
+        if same_pair(row, column, rows[j], columns[j]) {
+            return true;
+        }
+        j += 1;
+    }
+    false
+}
+
+// Whether two entries have the same pair.
+pub(crate) fn any_repeated(rows: &[usize], columns: &[usize]) -> bool
+    requires { ⌜ length (now rows) ≡ length (now columns) ⌝ }
+    ensures { λ r. ⌜ r ≡ duplicated (tabulate (length (now (rows .entry))) (cellAt (now (rows .entry)) (now (columns .entry)))) ⌝ }
+{
+    let mut i = 0;
+    while i < rows.len() {
+        if is_repeated(rows, columns, i) {
+            return true;
+        }
+        i += 1;
+    }
+    false
+}
