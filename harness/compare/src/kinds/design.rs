@@ -4,7 +4,7 @@
 
 use super::{Ask, AskOracle, Kind};
 use crate::designs::{ambient_line, design, lines_of_both, Ambient, Shape, Sort, SORTS};
-use crate::judge::design::{Lent, MOST_STATES};
+use crate::judge::design::{Lent, CELLS, MOST_STATES};
 use crate::judge::Verdict;
 use crate::question::{Expected, Question};
 use crate::random::Random;
@@ -19,7 +19,7 @@ pub struct Designs {
 }
 
 /// Designs of each size in one round.
-const SMALL: usize = 1000;
+const SMALL: usize = 2500;
 const MIDDLING: usize = 40;
 const FULL: usize = 15;
 
@@ -96,6 +96,7 @@ impl Kind for Designs {
         for strands in 1..=64 {
             put(2, strands, 12, 20);
         }
+        self.zeros_of_two_signs(random, ask);
     }
 
     fn random(&self, random: &mut Random, ask: &mut Ask) {
@@ -124,20 +125,45 @@ impl Designs {
     fn about(&self, random: &mut Random, sort: Sort, shape: &Shape, ask: &mut Ask) {
         let (kelvin, ambient) = self.ambient(random, sort);
         let lent = design(random, sort, shape, ambient);
-        let lines = lines_of_both(&lent, shape.glues);
-        let sent: Rc<str> = format!("{lines}{}", ambient_line(&lent)).into();
-        ask(Question {
-            port: format!("{sent}d.build"),
-            oracle: Some(format!("{lines}d.temp K {}\nd.build", bits(kelvin))),
-            expected: Expected::Judged(Verdict::Admitted),
-            about: None,
-        });
-        let asked = Asked { lent, sent };
-        asked.bonds(random, ask);
-        asked.states(random, ask);
-        asked.energies(random, ask);
-        asked.search(ask);
+        ask_about(random, kelvin, lent, shape.glues, ask);
     }
+
+    /// The search gives 0.0 with [0, 2], and the walk −0.0: the two are equal as doubles alone.
+    fn zeros_of_two_signs(&self, random: &mut Random, ask: &mut Ask) {
+        let ambients = self.ambients.borrow();
+        let least = ambients.iter().find(|(_, ambient)| ambient.rt == 0.125);
+        let (kelvin, ambient) = *least.expect("prepared");
+        let mut lent = Lent {
+            scaffold: vec![1, 2],
+            glues: vec![0, 0, 0, 0, 1, 3, 3, 2, 0],
+            dg: vec![0.0; CELLS],
+            ds: vec![0.0; CELLS],
+            potentials: vec![0.0, -3.5e-323, 4e-323],
+            rt: ambient.rt,
+            strand_excess: ambient.strand_excess,
+            scaffold_excess: ambient.scaffold_excess,
+        };
+        for (glue, dg) in [(1, -5e-324), (2, 5e-324), (3, 1.0)] {
+            lent.dg[64 * glue + glue] = dg;
+        }
+        ask_about(random, kelvin, lent, 4, ask);
+    }
+}
+
+fn ask_about(random: &mut Random, kelvin: f64, lent: Lent, glues: usize, ask: &mut Ask) {
+    let lines = lines_of_both(&lent, glues);
+    let sent: Rc<str> = format!("{lines}{}", ambient_line(&lent)).into();
+    ask(Question {
+        port: format!("{sent}d.build"),
+        oracle: Some(format!("{lines}d.temp K {}\nd.build", bits(kelvin))),
+        expected: Expected::Judged(Verdict::Admitted),
+        about: None,
+    });
+    let asked = Asked { lent, sent };
+    asked.bonds(random, ask);
+    asked.states(random, ask);
+    asked.energies(random, ask);
+    asked.search(ask);
 }
 
 /// A design that both programs hold.
