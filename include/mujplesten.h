@@ -135,6 +135,12 @@ uint32_t mj_chain_energy_reply(MJ_DESIGN, const uint8_t *configuration, size_t n
 uint64_t mj_chain_energy(MJ_DESIGN, const uint8_t *configuration, size_t n);
 uint64_t mj_chain_sum(MJ_DESIGN, const uint8_t *configuration, size_t n);
 
+/* The search (mfe_configuration): the configuration with the lowest RT times chain energy, into one
+ * lent entry for each position, 0 for an empty place, and that energy in kcal/mol; on a refusal all
+ * entries are kept. Both functions leave the same behind. Replies 1, 9, 10. */
+uint32_t mj_search_reply(MJ_DESIGN, uint8_t *configuration, size_t lent);
+uint64_t mj_search_energy(MJ_DESIGN, uint8_t *configuration, size_t lent);
+
 #undef MJ_DESIGN
 
 #ifdef __cplusplus

@@ -207,6 +207,12 @@ static void designs(void)
     reply("a chain energy", mj_chain_energy_reply(DESIGN, both, 2), 0);
     figure("it", mj_chain_energy(DESIGN, both, 2), -1.5);
     figure("its sum", mj_chain_sum(DESIGN, both, 2), -3.0);
+    memset(state, 9, sizeof state);
+    reply("too few entries", mj_search_reply(DESIGN, state, 1), 1);
+    count("entries kept", state[0] == 9 && state[1] == 9);
+    reply("a search", mj_search_reply(DESIGN, state, 2), 0);
+    count("its configuration", state[0] == 0 && state[1] == 2);
+    figure("its energy", mj_search_energy(DESIGN, state, 2), -1.5);
     potentials[2] = NAN;
     reply("a potential", mj_states_reply(DESIGN), 9);
     count("no count", mj_states_count(DESIGN) == 0);

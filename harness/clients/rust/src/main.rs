@@ -251,4 +251,12 @@ fn states_and_energies(checks: &mut Checks, design: mj::Design) {
     checks.reply("a chain energy", number, 0);
     checks.figure("it", mj::chain_energy(design, &[1, 2]), -1.5);
     checks.figure("its sum", mj::chain_sum(design, &[1, 2]), -3.0);
+    let mut settled = [9; 2];
+    let number = mj::search_reply(design, &mut settled[..1]);
+    checks.reply("too few entries", number, 1);
+    checks.count("entries", settled == [9; 2], "not kept".to_string());
+    checks.reply("a search", mj::search_reply(design, &mut settled), 0);
+    checks.count("its state", settled == [0, 2], format!("{settled:?}"));
+    let energy = mj::search_energy(design, &mut settled);
+    checks.figure("its energy", energy, -1.5);
 }
