@@ -1,0 +1,21 @@
+-- Letters of sequences and names, as bytes.
+use Prim.Native.Nat.{ℕ}
+
+abbrev pub A : ℕ
+A = 65
+
+abbrev pub C : ℕ
+C = 67
+
+abbrev pub G : ℕ
+G = 71
+
+abbrev pub T : ℕ
+T = 84
+
+-- the letter a, in a name
+abbrev pub a' : ℕ
+a' = 97
+
+abbrev pub star : ℕ
+star = 42
