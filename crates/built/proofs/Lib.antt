@@ -1,3 +1,6 @@
 pub mod Numbers
 pub mod Tables
 pub mod Exchanged
+pub mod Passed
+pub mod Written
+pub mod Fits
