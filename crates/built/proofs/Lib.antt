@@ -4,3 +4,5 @@ pub mod Exchanged
 pub mod Passed
 pub mod Written
 pub mod Fits
+pub mod Entries
+pub mod Order
