@@ -1,5 +1,5 @@
 -- The answer of `from_params` is the same in whatever order the energy entries stand. Assumes nothing.
-use mathlib.Core.Path.{_≡_, refl, ap, ap₂, subst, sym, _∙_}
+use mathlib.Core.Path.{_≡_, refl, ap, ap₂, subst, sym, fun-ext, _∙_}
 use mathlib.Core.Bool.{Bool, true, false, not, _||_}
 use mathlib.Core.List.{List, [], _∷_, map, List·Permᴰ}
 use Prim.Native.Nat.{ℕ, _*_}
@@ -129,3 +129,73 @@ module _ (p : Params) (lent : Outcome) {entries others : List Entry} (permuted :
   same =
       same-answer (firstOf (paramChecks one lent)) (kept lent) (outcomeOf one) (outcomeOf two) (λ e. outcome-same (checks-pass one lent e))
       ∙ ap (λ (r : Reply). answer r (kept lent) (outcomeOf two)) reply-same
+
+-- ---- every parameter set with as many of each number is made of its own entries
+
+of-places : {A : Type 0} (d : A) (n : ℕ) (xs : List A) → length xs ≡ n → tabulate n (λ i. getD xs i d) ≡ xs
+of-places d n xs e =
+    ext-getD d (tabulate n (λ i. getD xs i d)) xs (length-tabulate n (λ i. getD xs i d) ∙ sym e)
+    (λ i h. getD-tabulate n (λ i. getD xs i d) d i (rw (length-tabulate n (λ i. getD xs i d)) at h))
+
+module _ (p : Params) (many : AsMany p) where
+  field : {A : Type 0} (f : Entry → A) (d : A) (xs : List A) → length xs ≡ entryCount p → ((i : ℕ) → f (entryIn p i) ≡ getD xs i d) → map f (entriesIn p) ≡ xs
+  field f d xs e h = map-tabulate f (entryCount p) (entryIn p) ∙ ap (tabulate (entryCount p)) (fun-ext h) ∙ of-places d (entryCount p) xs e
+
+  every : withEntries p (entriesIn p) ≡ p
+  unfolding withEntries
+  every =
+      rw (
+        field (λ (e : Entry). e .firstStart) 0 (p .firstStarts) (many .firstStarts) (λ i. refl),
+        field (λ (e : Entry). e .firstLength) 0 (p .firstLengths) (many .firstLengths) (λ i. refl),
+        field (λ (e : Entry). e .secondStart) 0 (p .seconds .starts) (many .secondStarts) (λ i. refl),
+        field (λ (e : Entry). e .secondLength) 0 (p .seconds .lengths) (many .secondLengths) (λ i. refl),
+        field (λ (e : Entry). e .secondMark) 0 (p .seconds .marks) (many .secondMarks) (λ i. refl),
+        field (λ (e : Entry). e .form) 0 (p .energies .forms) refl (λ i. refl),
+        field (λ (e : Entry). e .dg) nan (p .energies .dgs) (many .dgs) (λ i. refl),
+        field (λ (e : Entry). e .ds) nan (p .energies .dss) (many .dss) (λ i. refl),
+        field (λ (e : Entry). e .start) 0 (p .energies .starts) (many .starts) (λ i. refl),
+        field (λ (e : Entry). e .size) 0 (p .energies .lengths) (many .lengths) (λ i. refl),
+      )
+
+-- ---- and any other has the wrong size
+
+module _ (p : Params) (lent : Outcome) where
+  all-many : wrongSize p lent ≡ false → AsMany p
+  all-many e =
+      let s = sizes p lent e in
+      let n = entryCount p in
+      let dgs : Bool = not (eqb (length (p .energies .dgs)) n) in
+      let dss : Bool = not (eqb (length (p .energies .dss)) n) in
+      let starts : Bool = not (eqb (length (p .energies .starts)) n) in
+      let lengths : Bool = not (eqb (length (p .energies .lengths)) n) in
+      let five = neither (ltb 1024 n || dgs || dss || starts || lengths) (any (unfitAt (p .text) (p .energies)) (upTo n)) (s .3) .0 in
+      let four = neither (ltb 1024 n || dgs || dss || starts) lengths five in
+      let three = neither (ltb 1024 n || dgs || dss) starts (four .0) in
+      let pair = neither (ltb 1024 n || dgs) dss (three .0) in
+      let last = neither (ltb 1024 n) dgs (pair .0) in
+      let f = fit-names n (p .text) (firsts p) (s .4) in
+      let g = fit-names n (p .text) (p .seconds) (s .5) in
+      let first-marks = as-many n (p .text) (firsts p) (s .4) in
+      let second-marks = as-many n (p .text) (p .seconds) (s .5) in
+      record {
+        firstStarts = f .starts ∙ first-marks;
+        firstLengths = f .lengths ∙ first-marks;
+        secondStarts = g .starts ∙ second-marks;
+        secondLengths = g .lengths ∙ second-marks;
+        secondMarks = second-marks;
+        dgs = eqb-true _ _ (not-false _ (last .1));
+        dss = eqb-true _ _ (not-false _ (pair .1));
+        starts = eqb-true _ _ (not-false _ (three .1));
+        lengths = eqb-true _ _ (not-false _ (four .1));
+      }
+
+  refused : (AsMany p → ⊥) → fromParams p lent .number ≡ numberOf WrongSize
+  unfolding fromParams
+  refused uneven = go (wrongSize p lent) refl
+    where
+      go : (t : Bool) → wrongSize p lent ≡ t → answer (firstOf (paramChecks p lent)) (kept lent) (outcomeOf p) .number ≡ numberOf WrongSize
+      go true e = rw e
+      go false e = absurd (uneven (all-many e))
+
+pub order-free : OrderFree
+order-free = record { same = λ p lent permuted. same p lent permuted; every = every; refused = refused }
