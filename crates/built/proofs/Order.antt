@@ -1,7 +1,7 @@
 -- The answer of `from_params` is the same in whatever order the energy entries stand. Assumes nothing.
 use mathlib.Core.Path.{_≡_, refl, ap, ap₂, subst, sym, fun-ext, _∙_}
 use mathlib.Core.Bool.{Bool, true, false, not, _||_}
-use mathlib.Core.List.{List, [], _∷_, map, List·Permᴰ}
+use mathlib.Core.List.{List, [], _∷_, map, List·Permᴰ, List·Permᴰ·swap, Permᴰ·append-left}
 use Prim.Native.Nat.{ℕ, _*_}
 use lib.Dec.{eqb, ltb}
 use lib.ListN.{length, getD}
@@ -15,7 +15,6 @@ use Rattle.lists.proofs.Any.{neither}
 use Rattle.lists.proofs.Build.{length-tabulate, getD-tabulate}
 use Rattle.lists.proofs.Counted.{map-tabulate}
 use Rattle.lists.proofs.Permuted.{length-permuted, any-permuted, map-permuted}
-use Rattle.reply.specs.Number.{numberOf}
 use Rattle.reply.specs.First.{firstOf, _if_, answer}
 use Rattle.reply.specs.declared.Refusal.the-variants.{WrongSize, NotABase, TooShort, UnknownName, TooManyGlues, DuplicatePair, OutOfRange}
 use Rattle.reply.specs.declared.Reply.{Reply}
@@ -27,7 +26,7 @@ use Rattle.sdc_common.proofs.Fit.{as-many, fit-names}
 use Rattle.sdc1d_params.specs.Entries.{unfitAt}
 use Rattle.sdc1d_params.specs.Tables.{Write, writeDg, writeDs, cellsOf, duplicated, outOfRange, emptyTable, dgTable, dsTable}
 use Rattle.sdc1d_params.specs.Params.{Params, Outcome, entryCount, bases, strandNames, firsts, writesOf, unfitCopied, unfitEntries, unfitScaffold, unfitLent, wrongSize, paramChecks, strandGluesOf, fromParams}
-use Rattle.built.specs.Order.{Entry, withEntries, entryIn, entriesIn, AsMany, OrderFree}
+use Rattle.built.specs.Order.{Entry, withEntries, entryIn, entriesIn, AsMany, refusedWith, OrderFree}
 use Rattle.built.proofs.Numbers.{Small}
 use Rattle.built.proofs.Exchanged.{duplicated-permuted, table-permuted}
 use Rattle.built.proofs.Passed.{Passed, outcomeOf, kept, checks-pass, sizes, writes-small}
@@ -189,13 +188,19 @@ module _ (p : Params) (lent : Outcome) where
         lengths = eqb-true _ _ (not-false _ (four .1));
       }
 
-  refused : (AsMany p → ⊥) → fromParams p lent .number ≡ numberOf WrongSize
+  uneven : (AsMany p → ⊥) → fromParams p lent ≡ refusedWith WrongSize lent
   unfolding fromParams
-  refused uneven = go (wrongSize p lent) refl
+  uneven not-many = go (wrongSize p lent) refl
     where
-      go : (t : Bool) → wrongSize p lent ≡ t → answer (firstOf (paramChecks p lent)) (kept lent) (outcomeOf p) .number ≡ numberOf WrongSize
+      go : (t : Bool) → wrongSize p lent ≡ t → answer (firstOf (paramChecks p lent)) (kept lent) (outcomeOf p) ≡ refusedWith WrongSize lent
       go true e = rw e
-      go false e = absurd (uneven (all-many e))
+      go false e = absurd (not-many (all-many e))
 
 pub order-free : OrderFree
-order-free = record { same = λ p lent permuted. same p lent permuted; every = every; refused = refused }
+order-free =
+    record {
+      neighbours = λ p lent before after x y. same p lent (Permᴰ·append-left before (List·Permᴰ·swap refl refl));
+      any-order = λ p lent permuted. same p lent permuted;
+      every = every;
+      uneven = uneven;
+    }

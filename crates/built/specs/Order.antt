@@ -1,11 +1,12 @@
 -- The order of the energy entries. The Rust keeps them in a hash map, whose order is free; proofs/ shows that it does not matter here.
 use mathlib.Core.Path.{_≡_}
-use mathlib.Core.List.{List, map, List·Permᴰ}
+use mathlib.Core.List.{List, _∷_, _++_, map, List·Permᴰ}
 use Prim.Native.Nat.{ℕ}
 use lib.ListN.{length, getD}
 use lib.Ieee.{Float, nan}
 use Rattle.lists.specs.Build.{tabulate}
 use Rattle.reply.specs.Number.{numberOf}
+use Rattle.reply.specs.declared.Refusal.{Refusal}
 use Rattle.reply.specs.declared.Refusal.the-variants.{WrongSize}
 use Rattle.sdc_common.specs.Lent.{namesOf}
 use Rattle.sdc1d_params.specs.Entries.{energiesOf}
@@ -75,11 +76,21 @@ entryIn p i =
 abbrev pub entriesIn : Params → List Entry
 entriesIn p = tabulate (entryCount p) (entryIn p)
 
+-- what a refusal leaves: its number, and what was lent as it was
+abbrev pub refusedWith : Refusal → Outcome → Outcome
+refusedWith refusal lent = record { number = numberOf refusal; strandGlues = lent .strandGlues; scaffoldGlues = lent .scaffoldGlues; dg = lent .dg; ds = lent .ds }
+
 pub record OrderFree : Type 0 where
-  -- The number and all four lent slices are the same in whatever order the entries stand. `List·Permᴰ` is mathlib's: swaps of neighbours, one
-  -- after another.
-  pub same : (p : Params) (lent : Outcome) {entries others : List Entry} → List·Permᴰ entries others → fromParams (withEntries p entries) lent ≡ fromParams (withEntries p others) lent
+  -- Two neighbouring entries may change places: the number and all four lent slices stay the same.
+  pub neighbours :
+      (p : Params) (lent : Outcome) (before after : List Entry) (x y : Entry)
+      → fromParams (withEntries p (before ++ x ∷ y ∷ after)) lent ≡ fromParams (withEntries p (before ++ y ∷ x ∷ after)) lent
+  -- So they stay the same in whatever order the entries stand; `List·Permᴰ` is mathlib's relation of two lists that hold the same in another order.
+  pub any-order :
+      (p : Params) (lent : Outcome) {entries others : List Entry}
+      → List·Permᴰ entries others
+      → fromParams (withEntries p entries) lent ≡ fromParams (withEntries p others) lent
   -- This speaks of every parameter set that has as many of each number as entries: it is the one with its own entries.
   pub every : (p : Params) → AsMany p → withEntries p (entriesIn p) ≡ p
   -- Any other is refused for its size, in whatever order its numbers stand.
-  pub refused : (p : Params) (lent : Outcome) → (AsMany p → ⊥) → fromParams p lent .number ≡ numberOf WrongSize
+  pub uneven : (p : Params) (lent : Outcome) → (AsMany p → ⊥) → fromParams p lent ≡ refusedWith WrongSize lent
