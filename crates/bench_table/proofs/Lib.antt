@@ -1,4 +1,5 @@
 pub mod Sequences
+pub mod Names
 pub mod Designs
 pub mod Decks
 pub mod Table

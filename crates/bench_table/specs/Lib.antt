@@ -1,4 +1,5 @@
 pub mod Letters
+pub mod Names
 pub mod Designs
 pub mod Table
 pub mod Zeros

@@ -7,11 +7,13 @@ use lib.ListN.{length, drop}
 use lib.Ieee.{Float, binary64, add}
 use Rattle.doubles.specs.Decimal.{plus, minus, nearest, zero}
 use Rattle.reply.specs.Number.{numberOf, answered}
-use Rattle.reply.specs.declared.Refusal.the-variants.{TooShort, NoSuchLoop, RankTooHigh, BadDeck}
+use Rattle.reply.specs.declared.Refusal.the-variants.{TooShort, NoSuchLoop, UnknownName, RankTooHigh, BadDeck}
 use Rattle.reply.specs.declared.Place.the-variants.{At}
 use Rattle.utils.specs.Answers.{DgDsFigures, refusedDgDs, givenDgDs}
 use Rattle.utils.specs.Single.{stringDnaDgDs}
 use Rattle.utils.specs.Pair.{sequencePairDgDs}
+use Rattle.sdc1d_params.specs.Tables.{emptyTable}
+use Rattle.sdc1d_params.specs.Params.{fromParams}
 use Rattle.model.specs.States.{states}
 use Rattle.design.specs.Design.{modelOf}
 use Rattle.design.specs.Answers.{given, refused, countAnswer, rankAnswer, rankEntries}
@@ -20,6 +22,7 @@ use Rattle.deck.specs.Form.{singles}
 use Rattle.deck.specs.Reading.{readFigures, readEntries}
 use Rattle.deck.specs.Writing.{writeFigures, writeWords}
 use Rattle.bench_table.specs.Letters.{A, C, G, T}
+use Rattle.bench_table.specs.Names.{oneStrand, lent}
 use Rattle.bench_table.specs.Designs.{bare, onePosition, twoPositions}
 
 infixl 60 _⊕_
@@ -50,6 +53,11 @@ pub record BenchTable : Type 0 where
   pub loop-of-3 :
       sequencePairDgDs (A ∷ A ∷ A ∷ A ∷ A ∷ A ∷ []) (T ∷ A ∷ A ∷ A ∷ T ∷ T ∷ [])
       ≡ givenDgDs (nearest (plus 61 2) ⊕ nearest (plus 69 2) ⊕ nearest (minus 10 1) ⊕ nearest (plus 32 1)) (nearest (minus 213 4))
+  -- scaffold name `a**`, strands use `a`: 6. With `a*` it is built: the strand's glue is 1, the scaffold's 2.
+  pub two-stars : (fromParams (oneStrand 3) lent .number ≡ numberOf UnknownName) × (fromParams (oneStrand 3) lent .scaffoldGlues ≡ lent .scaffoldGlues)
+  pub one-star :
+      fromParams (oneStrand 2) lent
+      ≡ record { number = answered; strandGlues = 0 ∷ 0 ∷ 0 ∷ 1 ∷ 0 ∷ 0 ∷ 0 ∷ 0 ∷ 0 ∷ 0 ∷ 0 ∷ 0 ∷ []; scaffoldGlues = 2 ∷ []; dg = emptyTable; ds = emptyTable }
   -- no position: search: empty, 0.0; one state
   pub no-position : (searchAnswer bare [] ≡ given zero) × (searchEntries bare [] ≡ [])
   pub one-state : (countAnswer bare ≡ given 1) × (states (modelOf bare) ≡ [] ∷ [])
@@ -65,6 +73,6 @@ pub record BenchTable : Type 0 where
   pub rank-3 : (x y : ℕ) → (rankAnswer twoPositions 3 (x ∷ y ∷ []) ≡ given tt) × (rankEntries twoPositions 3 (x ∷ y ∷ []) ≡ 0 ∷ 0 ∷ [])
   pub rank-4 : (x y : ℕ) → (rankAnswer twoPositions 4 (x ∷ y ∷ []) ≡ refused tt (numberOf RankTooHigh)) × (rankEntries twoPositions 4 (x ∷ y ∷ []) ≡ x ∷ y ∷ [])
   -- [1,0,0,2]: 10000004 20000001 30000002 20000002
-  pub written : (lent : List ℕ) → length lent ≡ 129 → (writeFigures singles configuration lent ≡ record { number = answered; count = 4 }) × (writeWords singles configuration lent ≡ words ++ drop 4 lent)
+  pub written : (held : List ℕ) → length held ≡ 129 → (writeFigures singles configuration held ≡ record { number = answered; count = 4 }) × (writeWords singles configuration held ≡ words ++ drop 4 held)
   -- 10000002 30000001 30000001: 14 at word 2 (first word is 0)
-  pub fault : (lent : List ℕ) → length lent ≡ 128 → (readFigures singles faulty lent ≡ record { number = numberOf BadDeck; count = 0; place = At 2 }) × (readEntries singles faulty lent ≡ lent)
+  pub fault : (held : List ℕ) → length held ≡ 128 → (readFigures singles faulty held ≡ record { number = numberOf BadDeck; count = 0; place = At 2 }) × (readEntries singles faulty held ≡ held)

@@ -128,4 +128,4 @@ module _ (p : Params) (entries : List Entry) where
       simp (as-many (λ (e : Entry). e .firstStart), as-many (λ (e : Entry). e .firstLength), eq-eqb _ _ (length-replicate {A = ℕ} (entryCount made) 1))
       (ap (λ (n : ℕ). any (Lent.unfitAt (p .text) (firsts made)) (upTo n)) count
       ∙ any-places no-entry (Lent.unfitAt (p .text) (firsts made)) (unfitFirst (p .text)) entries (λ k. k)
-        (λ k h. ap (λ (m : ℕ). unfitGlue (p .text) m (getD (made .firstStarts) k 0) (getD (made .firstLengths) k 0)) (getD-replicate (entryCount made) k 1 0 (rw count h)) ∙ ap (unfitFirst (p .text)) (entry-at k)))
+      (λ k h. ap (λ (m : ℕ). unfitGlue (p .text) m (getD (made .firstStarts) k 0) (getD (made .firstLengths) k 0)) (getD-replicate (entryCount made) k 1 0 (rw count h)) ∙ ap (unfitFirst (p .text)) (entry-at k)))

@@ -67,16 +67,16 @@ module _ (c : Cell) (v : Float) (table : List Float) where
     set-null-row g h =
         set-cases (λ (t : List Float). Design.cell t 0 g ≡ Design.cell table 0 g)
         (λ w. let wr = written c w in
-          getD-set-other (set table (placeOf (c .row) (c .column)) v) (placeOf (c .column) (c .row)) (0 * 64 + g) v zero (λ same. omega arith)
-          ∙ getD-set-other table (placeOf (c .row) (c .column)) (0 * 64 + g) v zero (λ same. omega arith))
+        getD-set-other (set table (placeOf (c .row) (c .column)) v) (placeOf (c .column) (c .row)) (0 * 64 + g) v zero (λ same. omega arith)
+        ∙ getD-set-other table (placeOf (c .row) (c .column)) (0 * 64 + g) v zero (λ same. omega arith))
         refl
 
     pub set-null-column : (g : ℕ) → g < 64 → Design.cell (setBoth c v table) g 0 ≡ Design.cell table g 0
     set-null-column g h =
         set-cases (λ (t : List Float). Design.cell t g 0 ≡ Design.cell table g 0)
         (λ w. let wr = written c w in
-          getD-set-other (set table (placeOf (c .row) (c .column)) v) (placeOf (c .column) (c .row)) (g * 64 + 0) v zero (λ same. omega arith)
-          ∙ getD-set-other table (placeOf (c .row) (c .column)) (g * 64 + 0) v zero (λ same. omega arith))
+        getD-set-other (set table (placeOf (c .row) (c .column)) v) (placeOf (c .column) (c .row)) (g * 64 + 0) v zero (λ same. omega arith)
+        ∙ getD-set-other table (placeOf (c .row) (c .column)) (g * 64 + 0) v zero (λ same. omega arith))
         refl
 
 -- ---- symmetry
@@ -127,5 +127,5 @@ set-mirrored c v table small m =
     turned i j h l =
         at-place (i * 64 + j)
         ∙ rw (place-turned i j (c .column) (c .row) h l (small .column) (small .row), place-turned i j (c .row) (c .column) h l (small .row) (small .column), m .same i j h l)
-          (either-way (eqb (j * 64 + i) (placeOf (c .row) (c .column))) (eqb (j * 64 + i) (placeOf (c .column) (c .row))) v (getD table (j * 64 + i) zero))
+        (either-way (eqb (j * 64 + i) (placeOf (c .row) (c .column))) (eqb (j * 64 + i) (placeOf (c .column) (c .row))) v (getD table (j * 64 + i) zero))
         ∙ sym (at-place (j * 64 + i))
