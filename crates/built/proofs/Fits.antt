@@ -2,7 +2,7 @@
 use mathlib.Core.Path.{_≡_, refl, sym, subst, _∙_}
 use mathlib.Core.Bool.{Bool, true, false, _||_}
 use mathlib.Core.List.{List}
-use Prim.Native.Nat.{ℕ, _+_, _*_}
+use Prim.Native.Nat.{_+_, _*_}
 use native.Mathlib.Omega.{arith}
 use lib.ListN.{length}
 use lib.Ieee.{Float, eq, ne}
@@ -11,13 +11,12 @@ use Rattle.doubles.specs.Decimal.{zero}
 use Rattle.lists.specs.Build.{upTo}
 use Rattle.lists.specs.Find.{any}
 use Rattle.lists.proofs.Any.{all-below}
-use Rattle.lists.proofs.Kept.{none-of-each}
-use Rattle.reply.specs.Number.{answered}
-use Rattle.reply.specs.First.{Check, firstOf, orElse}
+use Rattle.lists.proofs.Each.{each-none}
+use Rattle.reply.specs.First.{firstOf, orElse}
 use Rattle.reply.specs.declared.Refusal.the-variants.{WrongSize, OutOfRange, NullBinds}
 use Rattle.reply.specs.declared.Reply.{Reply}
 use Rattle.units.specs.declared.Ambient.{Ambient}
-use Rattle.sdc1d_params.specs.Params.{Params, Outcome, bases, writesOf, strandGluesOf, fromParams}
+use Rattle.sdc1d_params.specs.Params.{Params, Outcome, writesOf, strandGluesOf}
 use Rattle.design.specs.Design as Design
 use Rattle.design.specs.Design.{Design}
 use Rattle.design.specs.Checks.{highGlue, wrongSizes, sizesOut, cellsOut, ambientOut, potentialsOut, nullGlued, nullCells, nullBinds}
@@ -71,8 +70,8 @@ module _ (p : Params) (lent : Outcome) (passed : Passed p lent) where
         eq-eqb (length (strandGluesOf p)) (3 * length potentials) (strand-glues-many p (strand-marks p lent (passed .size)) ∙ omega arith),
         eq-eqb (length (outcomeOf p .dg)) 4096 (dg-mirrored (writesOf p) small .many),
         eq-eqb (length (outcomeOf p .ds)) 4096 (ds-mirrored (writesOf p) small .many),
-        none-of-each highGlue (outcomeOf p .scaffoldGlues) (scaffold-low p (passed .few) (passed .known)),
-        none-of-each highGlue (strandGluesOf p) (strand-glues-low p (passed .few)),
+        each-none highGlue (outcomeOf p .scaffoldGlues) (scaffold-low p (passed .few) (passed .known)),
+        each-none highGlue (strandGluesOf p) (strand-glues-low p (passed .few)),
       ))
       (simp (dg-ranged (writesOf p) (passed .ranged), ds-ranged (writesOf p) (passed .ranged)))
       (simp (null-glued, null-unbound (outcomeOf p .dg) (outcomeOf p .ds) (dg-null (writesOf p) small) (ds-null (writesOf p) small)))

@@ -1,16 +1,15 @@
 -- What the checks of `from_params` leave of a parameter set that is answered. Assumes nothing.
-use mathlib.Core.Path.{_≡_, refl, _∙_}
-use mathlib.Core.Bool.{Bool, true, false, not, _||_}
+use mathlib.Core.Path.{_≡_, refl}
+use mathlib.Core.Bool.{Bool, false, _||_}
 use mathlib.Core.List.{List, [], _∷_, map}
-use Prim.Native.Nat.{ℕ, _+_, _*_, _≤_}
-use lib.Dec.{eqb, ltb}
-use lib.ListN.{length, getD}
-use borrow.Author.Tests.{ltb-false, eqb-true, not-false}
+use Prim.Native.Nat.{ℕ, _*_, _≤_}
+use lib.Dec.{ltb}
+use lib.ListN.{length}
+use borrow.Author.Tests.{ltb-false}
 use Rattle.lists.specs.Find.{any}
-use Rattle.lists.specs.Build.{upTo}
 use Rattle.lists.specs.Each.{Each}
 use Rattle.lists.proofs.Any.{neither}
-use Rattle.lists.proofs.Kept.{each-tabulate}
+use Rattle.lists.proofs.Each.{each-tabulate}
 use Rattle.reply.specs.Number.{answered}
 use Rattle.reply.specs.First.{Check, firstOf}
 use Rattle.reply.specs.declared.Reply.the-variants.{Admitted}
@@ -20,7 +19,7 @@ use Rattle.sdc_common.specs.Lent.{gluesOf, glueAt, unfitNames}
 use Rattle.sdc_common.specs.Spelled.{isUnknown, spelledNumber}
 use Rattle.sdc_common.specs.Calls.{tooManyStrands}
 use Rattle.sdc_common.proofs.Fit.{as-many}
-use Rattle.sdc1d_params.specs.Entries.{cellOf, entryAt}
+use Rattle.sdc1d_params.specs.Entries.{entryAt}
 use Rattle.sdc1d_params.specs.Tables.{Write, writeOf, cellsOf, duplicated, outOfRange, dgTable, dsTable}
 use Rattle.sdc1d_params.specs.Params.{Params, Outcome, entryCount, firsts, firstAt, bases, cellAtEntry, writesOf, unfitCopied, unfitEntries, unfitScaffold, unfitLent, wrongSize, paramChecks, strandGluesOf, fromParams}
 use Rattle.built.proofs.Numbers.{Small, cell-small}

@@ -1,19 +1,19 @@
 -- A cell and its mirror set in a table: what is kept, and that two different pairs may be set in either order. Assumes nothing.
 use mathlib.Core.Path.{_≡_, refl, ap, sym, _∙_}
-use mathlib.Core.Bool.{Bool, true, false, cond, not, _&&_, _||_}
+use mathlib.Core.Bool.{Bool, true, false, cond, not, _&&_}
 use mathlib.Core.List.{List}
 use Prim.Native.Nat.{ℕ, _+_, _*_, _<_}
 use native.Mathlib.Decide.{ℕ-discrete}
 use native.Mathlib.Omega.{arith}
 use lib.Dec.{eqb}
 use lib.ListN.{length, getD, set, length-set}
-use lib.Seq.{getD-set-same, getD-set-other, set-comm}
+use lib.Seq.{getD-set-same, getD-set-other}
 use lib.Ieee.{Float}
-use borrow.Author.Tests.{eqb-true, eqb-false, eq-eqb, ne-eqb}
+use borrow.Author.Tests.{eqb-false, eq-eqb, ne-eqb}
 use Rattle.doubles.specs.Decimal.{zero}
 use Rattle.lists.specs.Find.{any}
-use Rattle.lists.proofs.Kept.{any-set}
-use Rattle.sdc1d_params.specs.Entries.{Cell, cell, isWritten, samePair}
+use Rattle.lists.proofs.Places.{any-set}
+use Rattle.sdc1d_params.specs.Entries.{Cell, cell, isWritten}
 use Rattle.sdc1d_params.specs.Tables.{placeOf, setBoth}
 use Rattle.sdc1d_params.proofs.Writes.{set-length}
 use Rattle.design.specs.Design as Design
@@ -67,16 +67,16 @@ module _ (c : Cell) (v : Float) (table : List Float) where
     set-null-row g h =
         set-cases (λ (t : List Float). Design.cell t 0 g ≡ Design.cell table 0 g)
         (λ w. let wr = written c w in
-          getD-set-other (set table (placeOf (c .row) (c .column)) v) (placeOf (c .column) (c .row)) (0 * 64 + g) v zero (λ same. omega arith)
-          ∙ getD-set-other table (placeOf (c .row) (c .column)) (0 * 64 + g) v zero (λ same. omega arith))
+        getD-set-other (set table (placeOf (c .row) (c .column)) v) (placeOf (c .column) (c .row)) (0 * 64 + g) v zero (λ same. omega arith)
+        ∙ getD-set-other table (placeOf (c .row) (c .column)) (0 * 64 + g) v zero (λ same. omega arith))
         refl
 
     pub set-null-column : (g : ℕ) → g < 64 → Design.cell (setBoth c v table) g 0 ≡ Design.cell table g 0
     set-null-column g h =
         set-cases (λ (t : List Float). Design.cell t g 0 ≡ Design.cell table g 0)
         (λ w. let wr = written c w in
-          getD-set-other (set table (placeOf (c .row) (c .column)) v) (placeOf (c .column) (c .row)) (g * 64 + 0) v zero (λ same. omega arith)
-          ∙ getD-set-other table (placeOf (c .row) (c .column)) (g * 64 + 0) v zero (λ same. omega arith))
+        getD-set-other (set table (placeOf (c .row) (c .column)) v) (placeOf (c .column) (c .row)) (g * 64 + 0) v zero (λ same. omega arith)
+        ∙ getD-set-other table (placeOf (c .row) (c .column)) (g * 64 + 0) v zero (λ same. omega arith))
         refl
 
 -- ---- symmetry
@@ -127,5 +127,5 @@ set-mirrored c v table small m =
     turned i j h l =
         at-place (i * 64 + j)
         ∙ rw (place-turned i j (c .column) (c .row) h l (small .column) (small .row), place-turned i j (c .row) (c .column) h l (small .row) (small .column), m .same i j h l)
-          (either-way (eqb (j * 64 + i) (placeOf (c .row) (c .column))) (eqb (j * 64 + i) (placeOf (c .column) (c .row))) v (getD table (j * 64 + i) zero))
+        (either-way (eqb (j * 64 + i) (placeOf (c .row) (c .column))) (eqb (j * 64 + i) (placeOf (c .column) (c .row))) v (getD table (j * 64 + i) zero))
         ∙ sym (at-place (j * 64 + i))

@@ -1,7 +1,7 @@
 -- Document 01's bench table: the line on names that is marked as proved, through the whole of `from_params`. Letters are their bytes: a is 97,
 -- the star 42.
 use mathlib.Core.Path.{_≡_, refl}
-use mathlib.Core.List.{List, [], _∷_}
+use mathlib.Core.List.{[], _∷_}
 use Prim.Native.Nat.{ℕ}
 use lib.ListN.{replicate}
 use Rattle.doubles.specs.Decimal.{zero}
