@@ -194,7 +194,7 @@ pub order-free : OrderFree
 order-free =
     record {
       neighbours = λ p lent before after x y. same p lent (Permᴰ·append-left before (List·Permᴰ·swap refl refl));
-      any-order = λ p lent permuted. same p lent permuted;
+      any-order = λ p lent entries others permuted. same p lent permuted;
       every = every;
       uneven = uneven;
     }
