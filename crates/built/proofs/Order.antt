@@ -131,6 +131,7 @@ module _ (p : Params) (lent : Outcome) {entries others : List Entry} (permuted :
 -- ---- every parameter set with as many of each number is made of its own entries
 
 module _ (p : Params) (many : AsMany p) where
+  -- one number of each entry is the slice that it was read from
   field : {A : Type 0} (f : Entry → A) (d : A) (xs : List A) → length xs ≡ entryCount p → ((i : ℕ) → f (entryIn p i) ≡ getD xs i d) → map f (entriesIn p) ≡ xs
   field f d xs e h = map-tabulate f (entryCount p) (entryIn p) ∙ ap (tabulate (entryCount p)) (fun-ext h) ∙ tabulate-getD d (entryCount p) xs e
 

@@ -43,7 +43,7 @@ numbered : (lent : Outcome) (n : ℕ) → kept lent n .number ≡ n
 numbered lent n = refl
 
 -- nine conditions none of which holds
-pub none-of-nine :
+none-of-nine :
     (a b c d e f g h i : Bool)
     → (a || b || c || d || e || f || g || h || i) ≡ false
     → (a ≡ false) × (b ≡ false) × (c ≡ false) × (d ≡ false) × (e ≡ false) × (f ≡ false) × (g ≡ false) × (h ≡ false) × (i ≡ false)
@@ -63,7 +63,7 @@ all-pass : (checks : List Check) → firstOf checks ≡ Admitted → Each (λ c.
 all-pass [] e = tt
 all-pass (c ∷ cs) e = let here = passes c cs e in (here .0, all-pass cs (here .1))
 
--- what is known of it
+-- what is known of a parameter set that is answered
 pub record Passed (p : Params) (lent : Outcome) : Type 0 where
   pub size : wrongSize p lent ≡ false
   pub known : any (isUnknown (bases p)) (gluesOf (p .text) (p .scaffold)) ≡ false
@@ -72,7 +72,7 @@ pub record Passed (p : Params) (lent : Outcome) : Type 0 where
   pub ranged : any outOfRange (writesOf p) ≡ false
 
 module _ (p : Params) (lent : Outcome) where
-  -- no check holds
+  -- all of it, where no check holds
   pub checks-pass : firstOf (paramChecks p lent) ≡ Admitted → Passed p lent
   checks-pass e =
       let none = all-pass (paramChecks p lent) e in

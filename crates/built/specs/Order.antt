@@ -80,6 +80,7 @@ entriesIn p = tabulate (entryCount p) (entryIn p)
 abbrev pub refusedWith : Refusal → Outcome → Outcome
 refusedWith refusal lent = record { number = numberOf refusal; strandGlues = lent .strandGlues; scaffoldGlues = lent .scaffoldGlues; dg = lent .dg; ds = lent .ds }
 
+-- the answer does not hang on the order of the entries
 pub record OrderFree : Type 0 where
   -- Two neighbouring entries may change places: the number and all four lent slices stay the same.
   pub neighbours :
