@@ -1,7 +1,7 @@
 -- The bench table's daggered lines, all of them.
+use Rattle.built.specs.Bench as Names
 use Rattle.bench_table.specs.Table.{BenchTable}
 use Rattle.bench_table.proofs.Sequences as Sequences
-use Rattle.bench_table.proofs.Names as Names
 use Rattle.bench_table.proofs.Designs as Designs
 use Rattle.bench_table.proofs.Decks as Decks
 
@@ -13,8 +13,8 @@ bench-table =
       aac-tag = Sequences.aac-tag;
       loop-of-2 = Sequences.loop-of-2;
       loop-of-3 = Sequences.loop-of-3;
-      two-stars = Names.two-stars;
-      one-star = Names.one-star;
+      two-stars = Names.line-a-two-stars;
+      one-star = Names.line-a-one-star;
       no-position = Designs.no-position;
       one-state = Designs.one-state;
       bound = Designs.bound;

@@ -12,10 +12,3 @@ G = 71
 
 abbrev pub T : ℕ
 T = 84
-
--- the letter a, in a name
-abbrev pub a' : ℕ
-a' = 97
-
-abbrev pub star : ℕ
-star = 42

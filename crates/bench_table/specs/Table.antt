@@ -14,6 +14,7 @@ use Rattle.utils.specs.Single.{stringDnaDgDs}
 use Rattle.utils.specs.Pair.{sequencePairDgDs}
 use Rattle.sdc1d_params.specs.Tables.{emptyTable}
 use Rattle.sdc1d_params.specs.Params.{fromParams}
+use Rattle.built.specs.Bench.{oneStrand, lent}
 use Rattle.model.specs.States.{states}
 use Rattle.design.specs.Design.{modelOf}
 use Rattle.design.specs.Answers.{given, refused, countAnswer, rankAnswer, rankEntries}
@@ -22,7 +23,6 @@ use Rattle.deck.specs.Form.{singles}
 use Rattle.deck.specs.Reading.{readFigures, readEntries}
 use Rattle.deck.specs.Writing.{writeFigures, writeWords}
 use Rattle.bench_table.specs.Letters.{A, C, G, T}
-use Rattle.bench_table.specs.Names.{oneStrand, lent}
 use Rattle.bench_table.specs.Designs.{bare, onePosition, twoPositions}
 
 infixl 60 _⊕_
@@ -54,7 +54,7 @@ pub record BenchTable : Type 0 where
       sequencePairDgDs (A ∷ A ∷ A ∷ A ∷ A ∷ A ∷ []) (T ∷ A ∷ A ∷ A ∷ T ∷ T ∷ [])
       ≡ givenDgDs (nearest (plus 61 2) ⊕ nearest (plus 69 2) ⊕ nearest (minus 10 1) ⊕ nearest (plus 32 1)) (nearest (minus 213 4))
   -- scaffold name `a**`, strands use `a`: 6. With `a*` it is built: the strand's glue is 1, the scaffold's 2.
-  pub two-stars : (fromParams (oneStrand 3) lent .number ≡ numberOf UnknownName) × (fromParams (oneStrand 3) lent .scaffoldGlues ≡ lent .scaffoldGlues)
+  pub two-stars : fromParams (oneStrand 3) lent .number ≡ numberOf UnknownName
   pub one-star :
       fromParams (oneStrand 2) lent
       ≡ record { number = answered; strandGlues = 0 ∷ 0 ∷ 0 ∷ 1 ∷ 0 ∷ 0 ∷ 0 ∷ 0 ∷ 0 ∷ 0 ∷ 0 ∷ 0 ∷ []; scaffoldGlues = 2 ∷ []; dg = emptyTable; ds = emptyTable }

@@ -1,22 +1,21 @@
 -- A parameter set made of a list of entries: what each check finds is found in that list. Assumes nothing.
 use mathlib.Core.Path.{_≡_, refl, ap, ap₂, sym, _∙_}
-use mathlib.Core.Bool.{Bool, true, false, not, _||_}
-use mathlib.Core.List.{List, [], _∷_, map}
-use Prim.Native.Nat.{ℕ, suc, _<_}
-use native.Mathlib.Omega.{arith}
+use mathlib.Core.Bool.{Bool, true, false, _||_}
+use mathlib.Core.List.{List, map}
+use Prim.Native.Nat.{ℕ}
 use lib.Dec.{eqb, ltb}
-use lib.ListN.{length, getD, replicate, length-map, length-replicate, getD-replicate, List·getD-map}
+use lib.ListN.{length, getD, length-map, length-replicate, getD-replicate, List·getD-map}
 use lib.Ieee.{nan}
 use borrow.Author.Tests.{eq-eqb}
 use Rattle.lists.specs.Find.{any}
 use Rattle.lists.specs.Build.{tabulate, upTo}
-use Rattle.lists.proofs.Kept.{tabulate-places}
+use Rattle.lists.proofs.Places.{tabulate-places, any-places}
 use Rattle.sdc_common.specs.Lent as Lent
-use Rattle.sdc_common.specs.Lent.{partOf, glueOf, glueAt, unfitGlue, unfitNames, notAsMany}
+use Rattle.sdc_common.specs.Lent.{partOf, glueOf, unfitGlue, unfitNames}
 use Rattle.sdc1d_params.specs.Entries as Entries
 use Rattle.sdc1d_params.specs.Entries.{cellOf, entryOf, entryAt, entriesOf, badForm, unfitEntry, hasBadBase, isShort}
 use Rattle.sdc1d_params.specs.Tables.{Write, writeOf}
-use Rattle.sdc1d_params.specs.Params.{Params, entryCount, bases, firsts, cellAtEntry, writesOf, unfitEntries}
+use Rattle.sdc1d_params.specs.Params.{Params, entryCount, bases, firsts, writesOf, unfitEntries}
 use Rattle.built.specs.Order.{Entry, withEntries, entryIn}
 
 -- what stands past the end
@@ -45,12 +44,6 @@ badBase text e = hasBadBase text (entryOf (e .form) (e .dg) (e .ds) (e .start) (
 
 abbrev short : List ℕ → Entry → Bool
 short text e = isShort text (entryOf (e .form) (e .dg) (e .ds) (e .start) (e .size))
-
--- a test of each place of a list, and one of each element
-any-places : {A B : Type 0} (d : A) (p : B → Bool) (q : A → Bool) (xs : List A) (g : ℕ → B) → ((k : ℕ) → k < length xs → p (g k) ≡ q (getD xs k d)) → any p (tabulate (length xs) g) ≡ any q xs
-unfolding any tabulate
-any-places d p q [] g h = refl
-any-places d p q (x ∷ xs) g h = ap₂ (λ (s t : Bool). s || t) (h 0 (omega arith)) (any-places d p q xs (λ k. g (suc k)) (λ k l. h (suc k) (omega arith)))
 
 module _ (p : Params) (entries : List Entry) where
   abbrev made : Params

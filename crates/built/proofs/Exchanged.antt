@@ -1,8 +1,8 @@
 -- Tables and pairs that stand twice, of writes in another order. Assumes nothing.
 use mathlib.Core.Path.{_≡_, refl, ap, ap₂, sym, _∙_}
 use mathlib.Core.Bool.{Bool, true, false, cond, _&&_, _||_, or-true}
-use mathlib.Core.List.{List, [], _∷_, map, List·Permᴰ, List·Permᴰ·nil, List·Permᴰ·cons, List·Permᴰ·swap, List·Permᴰ·trans}
-use Prim.Native.Nat.{ℕ, _+_, _*_}
+use mathlib.Core.List.{List, List·Permᴰ, List·Permᴰ·nil, List·Permᴰ·cons, List·Permᴰ·swap, List·Permᴰ·trans}
+use Prim.Native.Nat.{ℕ}
 use native.Mathlib.Omega.{arith}
 use lib.Dec.{eqb}
 use lib.ListN.{set}
@@ -15,10 +15,10 @@ use Rattle.lists.specs.Each.{Each}
 use Rattle.lists.proofs.Any.{neither}
 use Rattle.lists.proofs.Permuted.{any-permuted, each-permuted, map-permuted}
 use Rattle.sdc1d_params.specs.Entries.{Cell, isWritten, samePair}
-use Rattle.sdc1d_params.specs.Tables.{Write, cellsOf, duplicated, placeOf, setBoth}
+use Rattle.sdc1d_params.specs.Tables.{Write, cellsOf, duplicated, setBoth}
 use Rattle.sdc1d_params.proofs.Pairs.{same-pair-comm}
 use Rattle.built.proofs.Numbers.{Small}
-use Rattle.built.proofs.Tables.{clash}
+use Rattle.built.proofs.Tables.{clash, there, back, twice}
 
 -- ---- pairs
 
@@ -41,9 +41,6 @@ duplicated-permuted (List·Permᴰ·trans p q) = duplicated-permuted p ∙ dupli
 
 -- ---- cells
 
-abbrev twice : Cell → Float → List Float → List Float
-twice c v table = set (set table (placeOf (c .row) (c .column)) v) (placeOf (c .column) (c .row)) v
-
 -- two cells set at places that are none of two others
 four : (table : List Float) (i j k l : ℕ) (v w : Float) → (i ≡ k → ⊥) → (i ≡ l → ⊥) → (j ≡ k → ⊥) → (j ≡ l → ⊥) → set (set (set (set table i v) j v) k w) l w ≡ set (set (set (set table k w) l w) i v) j v
 four table i j k l v w ik il jk jl =
@@ -63,7 +60,7 @@ module _ (c d : Cell) (small : Small c) (low : Small d) (apart : samePair c d �
 
     twice-exchanged : (v w : Float) (table : List Float) → twice d w (twice c v table) ≡ twice c v (twice d w table)
     twice-exchanged v w table =
-        four table (placeOf (c .row) (c .column)) (placeOf (c .column) (c .row)) (placeOf (d .row) (d .column)) (placeOf (d .column) (d .row)) v w
+        four table (there c) (back c) (there d) (back d) v w
         (λ e. same-way (omega (arith, small, low)) (omega (arith, small, low)))
         (λ e. other-way (omega (arith, small, low)) (omega (arith, small, low)))
         (λ e. other-way (omega (arith, small, low)) (omega (arith, small, low)))

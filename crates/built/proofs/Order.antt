@@ -5,26 +5,25 @@ use mathlib.Core.List.{List, [], _∷_, map, List·Permᴰ, List·Permᴰ·swap,
 use Prim.Native.Nat.{ℕ, _*_}
 use lib.Dec.{eqb, ltb}
 use lib.ListN.{length, getD}
-use lib.Seq.{ext-getD}
-use lib.Ieee.{Float, nan}
+use lib.Ieee.{nan}
 use borrow.Author.Tests.{eqb-true, not-false}
 use Rattle.lists.specs.Find.{any}
 use Rattle.lists.specs.Each.{Each}
 use Rattle.lists.specs.Build.{tabulate, upTo}
 use Rattle.lists.proofs.Any.{neither}
-use Rattle.lists.proofs.Build.{length-tabulate, getD-tabulate}
 use Rattle.lists.proofs.Counted.{map-tabulate}
+use Rattle.lists.proofs.Places.{tabulate-getD}
 use Rattle.lists.proofs.Permuted.{length-permuted, any-permuted, map-permuted}
 use Rattle.reply.specs.First.{firstOf, _if_, answer}
 use Rattle.reply.specs.declared.Refusal.the-variants.{WrongSize, NotABase, TooShort, UnknownName, TooManyGlues, DuplicatePair, OutOfRange}
 use Rattle.reply.specs.declared.Reply.{Reply}
 use Rattle.reply.specs.declared.Reply.the-variants.{Admitted, Refused}
-use Rattle.sdc_common.specs.Lent.{Names, gluesOf, unfitNames}
+use Rattle.sdc_common.specs.Lent.{gluesOf, unfitNames}
 use Rattle.sdc_common.specs.Spelled.{isUnknown}
 use Rattle.sdc_common.specs.Calls.{tooManyStrands, tooManyBases}
 use Rattle.sdc_common.proofs.Fit.{as-many, fit-names}
 use Rattle.sdc1d_params.specs.Entries.{unfitAt}
-use Rattle.sdc1d_params.specs.Tables.{Write, writeDg, writeDs, cellsOf, duplicated, outOfRange, emptyTable, dgTable, dsTable}
+use Rattle.sdc1d_params.specs.Tables.{Write, cellsOf, duplicated, outOfRange, emptyTable, dgTable, dsTable}
 use Rattle.sdc1d_params.specs.Params.{Params, Outcome, entryCount, bases, strandNames, firsts, writesOf, unfitCopied, unfitEntries, unfitScaffold, unfitLent, wrongSize, paramChecks, strandGluesOf, fromParams}
 use Rattle.built.specs.Order.{Entry, withEntries, entryIn, entriesIn, AsMany, refusedWith, OrderFree}
 use Rattle.built.proofs.Numbers.{Small}
@@ -131,14 +130,10 @@ module _ (p : Params) (lent : Outcome) {entries others : List Entry} (permuted :
 
 -- ---- every parameter set with as many of each number is made of its own entries
 
-of-places : {A : Type 0} (d : A) (n : ℕ) (xs : List A) → length xs ≡ n → tabulate n (λ i. getD xs i d) ≡ xs
-of-places d n xs e =
-    ext-getD d (tabulate n (λ i. getD xs i d)) xs (length-tabulate n (λ i. getD xs i d) ∙ sym e)
-    (λ i h. getD-tabulate n (λ i. getD xs i d) d i (rw (length-tabulate n (λ i. getD xs i d)) at h))
-
 module _ (p : Params) (many : AsMany p) where
+  -- one number of each entry is the slice that it was read from
   field : {A : Type 0} (f : Entry → A) (d : A) (xs : List A) → length xs ≡ entryCount p → ((i : ℕ) → f (entryIn p i) ≡ getD xs i d) → map f (entriesIn p) ≡ xs
-  field f d xs e h = map-tabulate f (entryCount p) (entryIn p) ∙ ap (tabulate (entryCount p)) (fun-ext h) ∙ of-places d (entryCount p) xs e
+  field f d xs e h = map-tabulate f (entryCount p) (entryIn p) ∙ ap (tabulate (entryCount p)) (fun-ext h) ∙ tabulate-getD d (entryCount p) xs e
 
   every : withEntries p (entriesIn p) ≡ p
   unfolding withEntries
@@ -200,7 +195,7 @@ pub order-free : OrderFree
 order-free =
     record {
       neighbours = λ p lent before after x y. same p lent (Permᴰ·append-left before (List·Permᴰ·swap refl refl));
-      any-order = λ p lent permuted. same p lent permuted;
+      any-order = λ p lent entries others permuted. same p lent permuted;
       every = every;
       uneven = uneven;
     }

@@ -1,16 +1,15 @@
 -- What the checks of `from_params` leave of a parameter set that is answered. Assumes nothing.
-use mathlib.Core.Path.{_≡_, refl, _∙_}
-use mathlib.Core.Bool.{Bool, true, false, not, _||_}
+use mathlib.Core.Path.{_≡_, refl}
+use mathlib.Core.Bool.{Bool, false, _||_}
 use mathlib.Core.List.{List, [], _∷_, map}
-use Prim.Native.Nat.{ℕ, _+_, _*_, _≤_}
-use lib.Dec.{eqb, ltb}
-use lib.ListN.{length, getD}
-use borrow.Author.Tests.{ltb-false, eqb-true, not-false}
+use Prim.Native.Nat.{ℕ, _*_, _≤_}
+use lib.Dec.{ltb}
+use lib.ListN.{length}
+use borrow.Author.Tests.{ltb-false}
 use Rattle.lists.specs.Find.{any}
-use Rattle.lists.specs.Build.{upTo}
 use Rattle.lists.specs.Each.{Each}
 use Rattle.lists.proofs.Any.{neither}
-use Rattle.lists.proofs.Kept.{each-tabulate}
+use Rattle.lists.proofs.Each.{each-tabulate}
 use Rattle.reply.specs.Number.{answered}
 use Rattle.reply.specs.First.{Check, firstOf}
 use Rattle.reply.specs.declared.Reply.the-variants.{Admitted}
@@ -20,7 +19,7 @@ use Rattle.sdc_common.specs.Lent.{gluesOf, glueAt, unfitNames}
 use Rattle.sdc_common.specs.Spelled.{isUnknown, spelledNumber}
 use Rattle.sdc_common.specs.Calls.{tooManyStrands}
 use Rattle.sdc_common.proofs.Fit.{as-many}
-use Rattle.sdc1d_params.specs.Entries.{cellOf, entryAt}
+use Rattle.sdc1d_params.specs.Entries.{entryAt}
 use Rattle.sdc1d_params.specs.Tables.{Write, writeOf, cellsOf, duplicated, outOfRange, dgTable, dsTable}
 use Rattle.sdc1d_params.specs.Params.{Params, Outcome, entryCount, firsts, firstAt, bases, cellAtEntry, writesOf, unfitCopied, unfitEntries, unfitScaffold, unfitLent, wrongSize, paramChecks, strandGluesOf, fromParams}
 use Rattle.built.proofs.Numbers.{Small, cell-small}
@@ -44,7 +43,7 @@ numbered : (lent : Outcome) (n : ℕ) → kept lent n .number ≡ n
 numbered lent n = refl
 
 -- nine conditions none of which holds
-pub none-of-nine :
+none-of-nine :
     (a b c d e f g h i : Bool)
     → (a || b || c || d || e || f || g || h || i) ≡ false
     → (a ≡ false) × (b ≡ false) × (c ≡ false) × (d ≡ false) × (e ≡ false) × (f ≡ false) × (g ≡ false) × (h ≡ false) × (i ≡ false)
@@ -64,7 +63,7 @@ all-pass : (checks : List Check) → firstOf checks ≡ Admitted → Each (λ c.
 all-pass [] e = tt
 all-pass (c ∷ cs) e = let here = passes c cs e in (here .0, all-pass cs (here .1))
 
--- what is known of it
+-- what is known of a parameter set that is answered
 pub record Passed (p : Params) (lent : Outcome) : Type 0 where
   pub size : wrongSize p lent ≡ false
   pub known : any (isUnknown (bases p)) (gluesOf (p .text) (p .scaffold)) ≡ false
@@ -73,7 +72,7 @@ pub record Passed (p : Params) (lent : Outcome) : Type 0 where
   pub ranged : any outOfRange (writesOf p) ≡ false
 
 module _ (p : Params) (lent : Outcome) where
-  -- no check holds
+  -- all of it, where no check holds
   pub checks-pass : firstOf (paramChecks p lent) ≡ Admitted → Passed p lent
   checks-pass e =
       let none = all-pass (paramChecks p lent) e in

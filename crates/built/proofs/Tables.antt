@@ -1,19 +1,19 @@
--- A cell and its mirror set in a table: what is kept, and that two different pairs may be set in either order. Assumes nothing.
+-- A cell and its mirror set in a table, and what is kept: what no cell passes, row and column 0, symmetry. Assumes nothing.
 use mathlib.Core.Path.{_≡_, refl, ap, sym, _∙_}
-use mathlib.Core.Bool.{Bool, true, false, cond, not, _&&_, _||_}
+use mathlib.Core.Bool.{Bool, true, false, cond, not, _&&_}
 use mathlib.Core.List.{List}
 use Prim.Native.Nat.{ℕ, _+_, _*_, _<_}
 use native.Mathlib.Decide.{ℕ-discrete}
 use native.Mathlib.Omega.{arith}
 use lib.Dec.{eqb}
 use lib.ListN.{length, getD, set, length-set}
-use lib.Seq.{getD-set-same, getD-set-other, set-comm}
+use lib.Seq.{getD-set-same, getD-set-other}
 use lib.Ieee.{Float}
-use borrow.Author.Tests.{eqb-true, eqb-false, eq-eqb, ne-eqb}
+use borrow.Author.Tests.{eqb-false, eq-eqb, ne-eqb}
 use Rattle.doubles.specs.Decimal.{zero}
 use Rattle.lists.specs.Find.{any}
-use Rattle.lists.proofs.Kept.{any-set}
-use Rattle.sdc1d_params.specs.Entries.{Cell, cell, isWritten, samePair}
+use Rattle.lists.proofs.Places.{any-set}
+use Rattle.sdc1d_params.specs.Entries.{Cell, isWritten}
 use Rattle.sdc1d_params.specs.Tables.{placeOf, setBoth}
 use Rattle.sdc1d_params.proofs.Writes.{set-length}
 use Rattle.design.specs.Design as Design
@@ -44,21 +44,31 @@ written c e = let halves = both (not (eqb (c .row) 0)) (not (eqb (c .column) 0))
 
 -- ---- a table after a cell and its mirror are set
 
+-- the places of the two
+abbrev pub there : Cell → ℕ
+there c = placeOf (c .row) (c .column)
+
+abbrev pub back : Cell → ℕ
+back c = placeOf (c .column) (c .row)
+
+abbrev pub twice : Cell → Float → List Float → List Float
+twice c v table = set (set table (there c) v) (back c) v
+
 module _ (c : Cell) (v : Float) (table : List Float) where
   -- what is set, or the table as it was where a name is not known
-  pub set-cases : (P : List Float → Type 0) → (isWritten c ≡ true → P (set (set table (placeOf (c .row) (c .column)) v) (placeOf (c .column) (c .row)) v)) → P table → P (setBoth c v table)
+  pub set-cases : (P : List Float → Type 0) → (isWritten c ≡ true → P (twice c v table)) → P table → P (setBoth c v table)
   unfolding setBoth
-  set-cases P there kept = go (isWritten c) refl
+  set-cases P done kept = go (isWritten c) refl
     where
-      go : (t : Bool) → isWritten c ≡ t → P (cond t (set (set table (placeOf (c .row) (c .column)) v) (placeOf (c .column) (c .row)) v) table)
-      go true e = there e
+      go : (t : Bool) → isWritten c ≡ t → P (cond t (twice c v table) table)
+      go true e = done e
       go false e = kept
 
   -- no cell passes a test that neither the table's cells nor a value that is written pass
   pub set-none : (p : Float → Bool) → any p table ≡ false → (isWritten c ≡ true → p v ≡ false) → any p (setBoth c v table) ≡ false
   set-none p e h =
       set-cases (λ (t : List Float). any p t ≡ false)
-      (λ w. any-set p (set table (placeOf (c .row) (c .column)) v) (placeOf (c .column) (c .row)) v (any-set p table (placeOf (c .row) (c .column)) v e (h w)) (h w))
+      (λ w. any-set p (set table (there c) v) (back c) v (any-set p table (there c) v e (h w)) (h w))
       e
 
   module _ (small : Small c) where
@@ -67,16 +77,16 @@ module _ (c : Cell) (v : Float) (table : List Float) where
     set-null-row g h =
         set-cases (λ (t : List Float). Design.cell t 0 g ≡ Design.cell table 0 g)
         (λ w. let wr = written c w in
-        getD-set-other (set table (placeOf (c .row) (c .column)) v) (placeOf (c .column) (c .row)) (0 * 64 + g) v zero (λ same. omega arith)
-        ∙ getD-set-other table (placeOf (c .row) (c .column)) (0 * 64 + g) v zero (λ same. omega arith))
+        getD-set-other (set table (there c) v) (back c) (0 * 64 + g) v zero (λ same. omega arith)
+        ∙ getD-set-other table (there c) (0 * 64 + g) v zero (λ same. omega arith))
         refl
 
     pub set-null-column : (g : ℕ) → g < 64 → Design.cell (setBoth c v table) g 0 ≡ Design.cell table g 0
     set-null-column g h =
         set-cases (λ (t : List Float). Design.cell t g 0 ≡ Design.cell table g 0)
         (λ w. let wr = written c w in
-        getD-set-other (set table (placeOf (c .row) (c .column)) v) (placeOf (c .column) (c .row)) (g * 64 + 0) v zero (λ same. omega arith)
-        ∙ getD-set-other table (placeOf (c .row) (c .column)) (g * 64 + 0) v zero (λ same. omega arith))
+        getD-set-other (set table (there c) v) (back c) (g * 64 + 0) v zero (λ same. omega arith)
+        ∙ getD-set-other table (there c) (g * 64 + 0) v zero (λ same. omega arith))
         refl
 
 -- ---- symmetry
@@ -115,17 +125,17 @@ set-mirrored c v table small m =
       same = λ i j h l. set-cases c v table (λ (t : List Float). Design.cell t i j ≡ Design.cell t j i) (λ w. turned i j h l) (m .same i j h l);
     }
   where
-    inside : (placeOf (c .row) (c .column) < length table) × (placeOf (c .column) (c .row) < length (set table (placeOf (c .row) (c .column)) v))
-    inside = let e = m .many in let f = length-set table (placeOf (c .row) (c .column)) v in (omega (arith, small), omega (arith, small))
+    inside : (there c < length table) × (back c < length (set table (there c) v))
+    inside = let e = m .many in let f = length-set table (there c) v in (omega (arith, small), omega (arith, small))
 
-    at-place : (k : ℕ) → getD (set (set table (placeOf (c .row) (c .column)) v) (placeOf (c .column) (c .row)) v) k zero ≡ cond (eqb k (placeOf (c .column) (c .row))) v (cond (eqb k (placeOf (c .row) (c .column))) v (getD table k zero))
+    at-place : (k : ℕ) → getD (twice c v table) k zero ≡ cond (eqb k (back c)) v (cond (eqb k (there c)) v (getD table k zero))
     at-place k =
-        set-at-place (set table (placeOf (c .row) (c .column)) v) (placeOf (c .column) (c .row)) k v (inside .1)
-        ∙ ap (cond (eqb k (placeOf (c .column) (c .row))) v) (set-at-place table (placeOf (c .row) (c .column)) k v (inside .0))
+        set-at-place (set table (there c) v) (back c) k v (inside .1)
+        ∙ ap (cond (eqb k (back c)) v) (set-at-place table (there c) k v (inside .0))
 
-    turned : (i j : ℕ) → i < 64 → j < 64 → Design.cell (set (set table (placeOf (c .row) (c .column)) v) (placeOf (c .column) (c .row)) v) i j ≡ Design.cell (set (set table (placeOf (c .row) (c .column)) v) (placeOf (c .column) (c .row)) v) j i
+    turned : (i j : ℕ) → i < 64 → j < 64 → Design.cell (twice c v table) i j ≡ Design.cell (twice c v table) j i
     turned i j h l =
         at-place (i * 64 + j)
         ∙ rw (place-turned i j (c .column) (c .row) h l (small .column) (small .row), place-turned i j (c .row) (c .column) h l (small .row) (small .column), m .same i j h l)
-        (either-way (eqb (j * 64 + i) (placeOf (c .row) (c .column))) (eqb (j * 64 + i) (placeOf (c .column) (c .row))) v (getD table (j * 64 + i) zero))
+        (either-way (eqb (j * 64 + i) (there c)) (eqb (j * 64 + i) (back c)) v (getD table (j * 64 + i) zero))
         ∙ sym (at-place (j * 64 + i))

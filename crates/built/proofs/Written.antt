@@ -1,22 +1,21 @@
 -- The glues and tables that are written: their lengths, and what holds of each glue and cell. Assumes nothing.
 use mathlib.Core.Path.{_≡_, refl, ap, sym, _∙_}
 use mathlib.Core.Bool.{Bool, true, false, not, _&&_, _||_}
-use mathlib.Core.List.{List, [], _∷_, _++_, map}
+use mathlib.Core.List.{List, _++_, map}
 use Prim.Native.Nat.{ℕ, _+_, _*_, _<_, _≤_}
 use native.Mathlib.Omega.{arith}
-use lib.ListN.{length, getD, replicate, length-append, length-map, length-replicate, getD-replicate}
-use lib.Ieee.{Float, le, lt, eq, ne}
+use lib.ListN.{length, length-append, length-map, length-replicate, getD-replicate}
+use lib.Ieee.{Float, le, lt, eq}
 use borrow.Author.Tests.{le-ltb}
 use Rattle.doubles.specs.Decimal.{nearest, zero}
 use Rattle.doubles.specs.Range.{inRange}
 use Rattle.lists.specs.Find.{any}
 use Rattle.lists.specs.Each.{Each}
 use Rattle.lists.proofs.Build.{length-tabulate}
-use Rattle.lists.proofs.Each.{each-append}
+use Rattle.lists.proofs.Each.{each-append, each-all, each-getD, each-map, fold-keeps, none-each}
 use Rattle.lists.proofs.Find.{any-replicate}
-use Rattle.lists.proofs.Kept.{fold-keeps, each-getD, each-map, each-all, each-fails}
 use Rattle.sdc_common.specs.Lent.{Names, Glue, gluesOf, glueAt}
-use Rattle.sdc_common.specs.Numbers.{basesOf, glueNumber, numbersAmong}
+use Rattle.sdc_common.specs.Numbers.{glueNumber, numbersAmong}
 use Rattle.sdc_common.specs.Spelled.{isUnknown, spelledNumber}
 use Rattle.sdc1d_params.specs.Entries.{isWritten}
 use Rattle.sdc1d_params.specs.Tables.{Write, dgInRange, dsInRange, outOfRange, writeDg, writeDs, emptyTable, dgTable, dsTable}
@@ -98,7 +97,7 @@ module _ (p : Params) where
     pub scaffold-low : any (isUnknown (bases p)) (gluesOf (p .text) (p .scaffold)) ≡ false → Each Low (map (spelledNumber (bases p)) (gluesOf (p .text) (p .scaffold)))
     scaffold-low known =
         each-map (λ (g : Glue). isUnknown (bases p) g ≡ false) Low (spelledNumber (bases p)) (λ g e. low (spelledNumber (bases p) g) (spelled-small (bases p) few g e)) (gluesOf (p .text) (p .scaffold))
-        (each-fails (isUnknown (bases p)) (gluesOf (p .text) (p .scaffold)) known)
+        (none-each (isUnknown (bases p)) (gluesOf (p .text) (p .scaffold)) known)
 
 -- ---- tables
 
@@ -113,11 +112,11 @@ empty-mirrored =
 module _ (writes : List Write) (small : Each (λ w. Small (w .at)) writes) where
   pub dg-mirrored : Mirrored (dgTable writes)
   unfolding dgTable
-  dg-mirrored = fold-keeps Mirrored (λ (w : Write). Small (w .at)) writeDg (λ t w s m. set-mirrored (w .at) (w .dg) t s m) writes small emptyTable empty-mirrored
+  dg-mirrored = fold-keeps (λ (w : Write). Small (w .at)) Mirrored writeDg (λ t w s m. set-mirrored (w .at) (w .dg) t s m) writes small emptyTable empty-mirrored
 
   pub ds-mirrored : Mirrored (dsTable writes)
   unfolding dsTable
-  ds-mirrored = fold-keeps Mirrored (λ (w : Write). Small (w .at)) writeDs (λ t w s m. set-mirrored (w .at) (w .ds) t s m) writes small emptyTable empty-mirrored
+  ds-mirrored = fold-keeps (λ (w : Write). Small (w .at)) Mirrored writeDs (λ t w s m. set-mirrored (w .at) (w .ds) t s m) writes small emptyTable empty-mirrored
 
 -- row and column 0 hold 0.0
 pub record NullZero (table : List Float) : Type 0 where
@@ -136,14 +135,14 @@ module _ (writes : List Write) (small : Each (λ w. Small (w .at)) writes) where
   pub dg-null : NullZero (dgTable writes)
   unfolding dgTable
   dg-null =
-      fold-keeps NullZero (λ (w : Write). Small (w .at)) writeDg
+      fold-keeps (λ (w : Write). Small (w .at)) NullZero writeDg
       (λ t w s n. record { row = λ g h. set-null-row (w .at) (w .dg) t s g h ∙ n .row g h; column = λ g h. set-null-column (w .at) (w .dg) t s g h ∙ n .column g h })
       writes small emptyTable empty-null
 
   pub ds-null : NullZero (dsTable writes)
   unfolding dsTable
   ds-null =
-      fold-keeps NullZero (λ (w : Write). Small (w .at)) writeDs
+      fold-keeps (λ (w : Write). Small (w .at)) NullZero writeDs
       (λ t w s n. record { row = λ g h. set-null-row (w .at) (w .ds) t s g h ∙ n .row g h; column = λ g h. set-null-column (w .at) (w .ds) t s g h ∙ n .column g h })
       writes small emptyTable empty-null
 
@@ -180,13 +179,13 @@ module _ (writes : List Write) (ranged : any outOfRange writes ≡ false) where
   pub dg-ranged : any (beyond 1024) (dgTable writes) ≡ false
   unfolding dgTable emptyTable
   dg-ranged =
-      fold-keeps (λ (t : List Float). any (beyond 1024) t ≡ false) (λ (w : Write). outOfRange w ≡ false) writeDg
+      fold-keeps (λ (w : Write). outOfRange w ≡ false) (λ (t : List Float). any (beyond 1024) t ≡ false) writeDg
       (λ t w r e. set-none (w .at) (w .dg) t (beyond 1024) e (dg-in w r))
-      writes (each-fails outOfRange writes ranged) emptyTable (any-replicate (beyond 1024) 4096 zero zero-1024)
+      writes (none-each outOfRange writes ranged) emptyTable (any-replicate (beyond 1024) 4096 zero zero-1024)
 
   pub ds-ranged : any (beyond 8) (dsTable writes) ≡ false
   unfolding dsTable emptyTable
   ds-ranged =
-      fold-keeps (λ (t : List Float). any (beyond 8) t ≡ false) (λ (w : Write). outOfRange w ≡ false) writeDs
+      fold-keeps (λ (w : Write). outOfRange w ≡ false) (λ (t : List Float). any (beyond 8) t ≡ false) writeDs
       (λ t w r e. set-none (w .at) (w .ds) t (beyond 8) e (ds-in w r))
-      writes (each-fails outOfRange writes ranged) emptyTable (any-replicate (beyond 8) 4096 zero zero-8)
+      writes (none-each outOfRange writes ranged) emptyTable (any-replicate (beyond 8) 4096 zero zero-8)

@@ -17,6 +17,7 @@ use Rattle.design.specs.Checks.{sizesOut, cellsOut, ambientOut, potentialsOut, 
 abbrev pub designOf : Outcome → List Float → Ambient → Design
 designOf built potentials ambient = design (built .scaffoldGlues) (built .strandGlues) (built .dg) (built .ds) potentials ambient
 
+-- a design that only the checks of its ambient and its potentials can still refuse
 pub record Fits (d : Design) : Type 0 where
   -- The counts are within their limits, each slice is as long as it should be, and no glue is above 63.
   pub sizes : sizesOut d ≡ false

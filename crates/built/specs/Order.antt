@@ -80,6 +80,7 @@ entriesIn p = tabulate (entryCount p) (entryIn p)
 abbrev pub refusedWith : Refusal → Outcome → Outcome
 refusedWith refusal lent = record { number = numberOf refusal; strandGlues = lent .strandGlues; scaffoldGlues = lent .scaffoldGlues; dg = lent .dg; ds = lent .ds }
 
+-- the answer does not hang on the order of the entries
 pub record OrderFree : Type 0 where
   -- Two neighbouring entries may change places: the number and all four lent slices stay the same.
   pub neighbours :
@@ -87,7 +88,7 @@ pub record OrderFree : Type 0 where
       → fromParams (withEntries p (before ++ x ∷ y ∷ after)) lent ≡ fromParams (withEntries p (before ++ y ∷ x ∷ after)) lent
   -- So they stay the same in whatever order the entries stand; `List·Permᴰ` is mathlib's relation of two lists that hold the same in another order.
   pub any-order :
-      (p : Params) (lent : Outcome) {entries others : List Entry}
+      (p : Params) (lent : Outcome) (entries others : List Entry)
       → List·Permᴰ entries others
       → fromParams (withEntries p entries) lent ≡ fromParams (withEntries p others) lent
   -- This speaks of every parameter set that has as many of each number as entries: it is the one with its own entries.

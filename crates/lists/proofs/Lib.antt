@@ -11,4 +11,4 @@ pub mod Default
 pub mod Grid
 pub mod Counted
 pub mod Permuted
-pub mod Kept
+pub mod Places

@@ -1,8 +1,8 @@
 -- Lists that hold the same in another order: mathlib's permutations. Assumes nothing.
 use mathlib.Core.Path.{_≡_, refl, ap, ap₂, subst, _∙_}
 use mathlib.Core.Bool.{Bool, true, false, _||_}
-use mathlib.Core.List.{List, [], _∷_, map, List·Permᴰ, List·Permᴰ·nil, List·Permᴰ·cons, List·Permᴰ·swap, List·Permᴰ·trans}
-use Prim.Native.Nat.{ℕ, suc}
+use mathlib.Core.List.{List, map, List·Permᴰ, List·Permᴰ·nil, List·Permᴰ·cons, List·Permᴰ·swap, List·Permᴰ·trans}
+use Prim.Native.Nat.{suc}
 use lib.ListN.{length}
 use Rattle.lists.specs.Find.{any}
 use Rattle.lists.specs.Each.{Each}
