@@ -5,9 +5,10 @@
 //! * `judge`: document 01's refusals, and answers that the Rust lacks, from the document alone.
 //! * `question`: what is asked and expected, and when an answer differs.
 //! * `comparison`, `program`, `tally`: the run.
-//! * `random`, `bases`, `doubles`, `decks`, `designs`: what the generators draw from.
+//! * `random`, `bases`, `doubles`, `decks`, `designs`, `ambients`: what the generators draw from.
 //! * `replay`: the fixed list of answers for the Rattle program of that name.
 
+pub mod ambients;
 pub mod bases;
 pub mod comparison;
 pub mod decks;

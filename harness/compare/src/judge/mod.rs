@@ -6,6 +6,7 @@
 
 pub mod deck;
 pub mod design;
+pub mod search;
 pub mod sequences;
 pub mod temperature;
 

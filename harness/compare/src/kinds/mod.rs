@@ -8,6 +8,7 @@ pub mod pair;
 pub mod raw;
 pub mod sequence;
 pub mod strength;
+pub mod ties;
 
 use crate::question::Question;
 use crate::random::Random;
@@ -42,6 +43,12 @@ pub trait Kind {
         oracle == port
     }
 
+    /// How many questions or inputs were made of each sort that the kind owes. A run that made none
+    /// of one fails.
+    fn made(&self) -> Vec<(&'static str, u64)> {
+        vec![]
+    }
+
     /// Something about the oracle's figures that is worth counting.
     fn note(&self, _oracle: &str) -> Option<&'static str> {
         None
@@ -57,6 +64,7 @@ pub fn all() -> Vec<Box<dyn Kind>> {
         Box::new(ambient::Ambients),
         Box::new(deck::Decks),
         Box::new(design::Designs::default()),
+        Box::new(ties::Ties::default()),
         Box::new(raw::RawDesigns),
     ]
 }

@@ -9,6 +9,7 @@ use super::design::WALKED;
 use super::{Ask, Kind};
 use crate::designs::{design, raw_lines, Ambient, Shape, SORTS};
 use crate::judge::design::{Lent, FRIENDS_LENT};
+use crate::judge::search::Reading;
 use crate::judge::Verdict;
 use crate::question::Question;
 use crate::random::Random;
@@ -168,19 +169,18 @@ fn energies(lent: &Lent, arguments: &Arguments) -> [Question; 2] {
     ]
 }
 
-/// Its refusals; where it is admitted, its energy beside the walk through a listing that is short.
-fn search(lent: &Lent, arguments: &Arguments) -> Option<Question> {
+/// Energy and configuration, or the refusal; beside a short listing the walk's energy too.
+fn search(lent: &Lent, arguments: &Arguments) -> Vec<Question> {
     let entries = arguments.state.1;
-    match lent.search_verdict(entries) {
-        Verdict::Admitted if lent.count() > WALKED => None,
-        Verdict::Admitted => {
-            let least = || bits(lent.walk() + 0.0);
-            let level = "mfe.level".to_string();
-            Some(Question::of_port(level, Verdict::Admitted, least))
-        }
-        refused => {
-            let line = format!("raw.mfe {entries}");
-            Some(Question::of_port(line, refused, String::new))
-        }
+    let verdict = lent.search_verdict(entries);
+    let line = format!("raw.mfe {entries}");
+    let mut questions = vec![Question::of_port(line, verdict, || {
+        let (energy, configuration) = lent.search(Reading::Document);
+        format!("{} {}", bits(energy), joined(configuration, ","))
+    })];
+    if verdict == Verdict::Admitted && lent.count() <= WALKED {
+        let least = || bits(lent.walk() + 0.0);
+        questions.push(Question::of_port("mfe.level".to_string(), verdict, least));
     }
+    questions
 }
