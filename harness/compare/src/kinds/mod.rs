@@ -5,6 +5,7 @@ pub mod deck;
 pub mod design;
 pub mod loops;
 pub mod pair;
+pub mod parameters;
 pub mod raw;
 pub mod sequence;
 pub mod strength;
@@ -63,6 +64,7 @@ pub fn all() -> Vec<Box<dyn Kind>> {
         Box::new(strength::Strengths),
         Box::new(ambient::Ambients),
         Box::new(deck::Decks),
+        Box::new(parameters::ParameterSets),
         Box::new(design::Designs::default()),
         Box::new(ties::Ties::default()),
         Box::new(raw::RawDesigns),
