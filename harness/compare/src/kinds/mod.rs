@@ -4,6 +4,7 @@ pub mod ambient;
 pub mod deck;
 pub mod design;
 pub mod loops;
+pub mod names;
 pub mod pair;
 pub mod parameters;
 pub mod raw;
@@ -64,7 +65,7 @@ pub fn all() -> Vec<Box<dyn Kind>> {
         Box::new(strength::Strengths),
         Box::new(ambient::Ambients),
         Box::new(deck::Decks),
-        Box::new(parameters::ParameterSets),
+        Box::new(names::Names),
         Box::new(design::Designs::default()),
         Box::new(ties::Ties::default()),
         Box::new(raw::RawDesigns),
