@@ -3,6 +3,7 @@
 mod answers;
 mod designs;
 mod figures;
+mod names;
 mod search;
 mod stored;
 
