@@ -2,3 +2,10 @@ pub mod Sequences
 pub mod Pairs
 pub mod Small
 pub mod Writes
+pub mod Lengths
+pub mod Named
+pub mod Laid
+pub mod Found
+pub mod Passed
+pub mod Written
+pub mod Replies
