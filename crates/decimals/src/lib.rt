@@ -1,4 +1,11 @@
 // Numbers as text: the words of a design file read as doubles, and figures printed.
+mod digits;
+
+use digits::count_places;
+use digits::put_digits;
+ghost use mathlib.Core.Path.{_≡_};
+ghost use Rattle.decimals.specs.Digits.{digitsIn, decimal};
+ghost use Rattle.decimals.specs.Print.{printed, laid};
 
 // What a word of a design file is as a number, or why it is none.
 pub enum NumberAnswer {
@@ -26,4 +33,27 @@ pub enum Printed {
     TooShort,
     // The number has no such text.
     Unprintable,
+}
+
+// The last `digits` hexadecimal digits of n, in lower case: 16 are the bits of a double, 8 a word of a deck.
+pub fn write_hex(n: u64, digits: usize, out: &mut [u8]) -> Printed
+    ensures { λ r. ⌜ (r ≡ printed (digitsIn 16 digits n) (now (out .entry))) × (now (out .exit) ≡ laid (digitsIn 16 digits n) (now (out .entry))) ⌝ }
+{
+    if out.len() < digits {
+        return Printed::TooShort;
+    }
+    put_digits(n, 16, digits, out);
+    Printed::Text(digits)
+}
+
+// A natural number in decimal digits.
+pub fn write_count(n: u64, out: &mut [u8]) -> Printed
+    ensures { λ r. ⌜ (r ≡ printed (decimal n) (now (out .entry))) × (now (out .exit) ≡ laid (decimal n) (now (out .entry))) ⌝ }
+{
+    let count = count_places(n);
+    if out.len() < count {
+        return Printed::TooShort;
+    }
+    put_digits(n, 10, count, out);
+    Printed::Text(count)
 }
