@@ -1,2 +1,5 @@
 pub mod Written
 pub mod Room
+pub mod Values
+pub mod Powers
+pub mod Quotient

@@ -1,5 +1,7 @@
 // Numbers as text: the words of a design file read as doubles, and figures printed.
 mod digits;
+mod limbs;
+mod rounding;
 
 use digits::count_places;
 use digits::put_digits;
