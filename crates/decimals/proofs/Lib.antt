@@ -3,3 +3,4 @@ pub mod Room
 pub mod Values
 pub mod Powers
 pub mod Quotient
+pub mod Bits
