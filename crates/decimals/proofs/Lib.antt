@@ -4,3 +4,4 @@ pub mod Values
 pub mod Powers
 pub mod Quotient
 pub mod Bits
+pub mod Worth
