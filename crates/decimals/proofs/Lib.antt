@@ -5,3 +5,6 @@ pub mod Powers
 pub mod Quotient
 pub mod Bits
 pub mod Worth
+pub mod Texts
+pub mod Exponents
+pub mod Placed

@@ -1,12 +1,13 @@
 -- What bytes are worth as digits, and numbers by their digits. Assumes nothing.
 use mathlib.Core.Path.{_≡_, refl, sym, ap, _∙_}
-use mathlib.Core.Bool.{Bool, true, false, _&&_}
+use mathlib.Core.Bool.{Bool, true, false, not, _&&_}
+use mathlib.Core.Logic.{_⊎_, inl, inr}
 use mathlib.Core.List.{List, [], _∷_, _++_}
 use Prim.Native.Nat.{ℕ, zero, suc, _+_, _-_, _*_, _/_, _^_, _≤_, _<_, min}
 use native.Mathlib.Nat.{le-trans, le-of-eq, le-of-lt, lt-of-lt-of-le, mul-one, mul-le-mul-left, mul-le-mul-right, pow-zero, pow-succ', add-mul, mul-assoc, div-lt-iff-lt-mul, le-div-iff-mul-le, min-eq-left, min-eq-right, zero-lt-suc}
 use native.Mathlib.Numerals.{add-one}
 use native.Mathlib.Omega.{arith}
-use lib.Dec.{leb}
+use lib.Dec.{T, leb, ltb, ltb→lt, nltb→le}
 use lib.ListN.{length, getD, drop}
 use lib.Seq.{drop-cons}
 use borrow.Author.Tests.{le-leb, lt-leb, leb-false}
@@ -84,3 +85,35 @@ above-limit limit n base d h l k t = let m : limit - d < n * base = div-lt-iff-l
 
 pub within-limit : (limit n base d : ℕ) → 1 ≤ base → d ≤ 16 → 16 ≤ limit → n ≤ (limit - d) / base → n * base + d ≤ limit
 within-limit limit n base d h l k t = let m : n * base ≤ limit - d = le-div-iff-mul-le h .0 t in omega arith
+
+-- ---- a number read up to a limit
+either : (a b : ℕ) → (a ≤ b) ⊎ (b ≤ a)
+either a b = go (ltb b a) (ltb→lt b a) (nltb→le b a)
+  where
+    go : (t : Bool) → (T t → b < a) → (T (not t) → a ≤ b) → (a ≤ b) ⊎ (b ≤ a)
+    go true h k = inr (le-of-lt (h tt))
+    go false h k = inl (k tt)
+
+pub capped : (limit base a : ℕ) (digits : List ℕ) → 1 ≤ base → min limit (numeral base (min limit a) digits) ≡ min limit (numeral base a digits)
+capped limit base a digits h = go (either a limit)
+  where
+    go : (a ≤ limit) ⊎ (limit ≤ a) → min limit (numeral base (min limit a) digits) ≡ min limit (numeral base a digits)
+    go (inl l) = rw (min-eq-right l)
+    go (inr l) = rw (min-eq-left l) (min-eq-left (numeral-grows base limit digits h) ∙ sym (min-eq-left (le-trans l (numeral-grows base a digits h))))
+
+pub at-limit : (limit n : ℕ) → limit ≤ min limit n → limit ≤ n
+at-limit limit n h = omega arith
+
+pub under-limit : (limit n : ℕ) → min limit n < limit → (min limit n ≡ n) × (n < limit)
+under-limit limit n h = (omega arith, omega arith)
+
+-- ---- digits of a base bound the number
+pub numeral-below : (base n : ℕ) (digits : List ℕ) → ((k : ℕ) → k < length digits → notDigit base (getD digits k 0) ≡ false)
+    → numeral base n digits < (n + 1) * base ^ length digits
+unfolding numeral
+numeral-below base n [] h = rw (pow-zero base) (omega arith)
+numeral-below base n (b ∷ digits) h =
+    let small : digitValue b < base = leb-false base (digitValue b) (h 0 (zero-lt-suc (length digits))) in
+    let rest = numeral-below base (n * base + digitValue b) digits (λ (k : ℕ) (l : k < length digits). h (suc k) (omega arith)) in
+    let m : (n * base + digitValue b + 1) * base ^ length digits ≤ (n + 1) * base * base ^ length digits = mul-le-mul-right (base ^ length digits) (omega arith) in
+    lt-of-lt-of-le rest (le-trans m (le-of-eq (mul-assoc (n + 1) base (base ^ length digits) ∙ ap ((n + 1) *_) (sym (pow-succ' base (length digits))))))
