@@ -8,3 +8,5 @@ pub mod Worth
 pub mod Texts
 pub mod Exponents
 pub mod Placed
+pub mod Fixed
+pub mod Sizes

@@ -1,8 +1,8 @@
 // Digits of a number in a base of up to 16: their worth, and how they are written.
 ghost use mathlib.Core.Path.{_≡_};
-ghost use Prim.Native.Nat.{_≤_, _<_, min};
+ghost use Prim.Native.Nat.{_+_, _≤_, _<_, min};
 ghost use lib.ListN.{length};
-ghost use Rattle.lists.specs.Over.{over};
+ghost use lib.Seq.{sets};
 ghost use Rattle.decimals.specs.Digits.{digitValue, digitRun, numeral, digitOf, digitsIn, places};
 
 // What a byte is worth as a digit; 16 where it is none.
@@ -63,23 +63,23 @@ fn digit(n: u64) -> u8
     if n < 10 { 48 + n as u8 } else { 87 + n as u8 }
 }
 
-// The last `count` digits of n, into the first lent bytes.
-pub(crate) fn put_digits(n: u64, base: u64, count: usize, out: &mut [u8])
-    requires { ⌜ (1 ≤ base) × (base ≤ 16) × (count ≤ length (now out)) ⌝ }
-    ensures { λ r. ⌜ now (out .exit) ≡ over (digitsIn base count n) (now (out .entry)) ⌝ }
+// The last `count` digits of n, into the lent bytes from a place on.
+pub(crate) fn put_digits(n: u64, base: u64, count: usize, at: usize, out: &mut [u8])
+    requires { ⌜ (1 ≤ base) × (base ≤ 16) × (at + count ≤ length (now out)) ⌝ }
+    ensures { λ r. ⌜ now (out .exit) ≡ sets (now (out .entry)) at (digitsIn base count n) ⌝ }
 {
     let mut left = n;
     let mut i = count;
     while 0 < i {
         i -= 1;
-        out[i] = digit(left % base);
+        out[at + i] = digit(left % base);
         left /= base;
     }
 }
 
 // How many decimal digits n has.
 pub(crate) fn count_places(n: u64) -> usize
-    ensures { λ r. ⌜ r ≡ places 10 19 n ⌝ }
+    ensures { λ r. ⌜ (r ≡ places 10 19 n) × (r ≤ 20) ⌝ }
 {
     let mut left = n;
     let mut count = 1;

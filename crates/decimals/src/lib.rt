@@ -1,6 +1,7 @@
 // Numbers as text: the words of a design file read as doubles, and figures printed.
 mod digits;
 mod limbs;
+mod printing;
 mod reading;
 mod rounding;
 
@@ -62,7 +63,7 @@ pub fn write_hex(n: u64, digits: usize, out: &mut [u8]) -> Printed
     if out.len() < digits {
         return Printed::TooShort;
     }
-    put_digits(n, 16, digits, out);
+    put_digits(n, 16, digits, 0, out);
     Printed::Text(digits)
 }
 
@@ -74,6 +75,6 @@ pub fn write_count(n: u64, out: &mut [u8]) -> Printed
     if out.len() < count {
         return Printed::TooShort;
     }
-    put_digits(n, 10, count, out);
+    put_digits(n, 10, count, 0, out);
     Printed::Text(count)
 }

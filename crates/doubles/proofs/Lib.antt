@@ -8,3 +8,4 @@ pub mod Bounds
 pub mod Least
 pub mod Zero
 pub mod Rounded
+pub mod Fields
