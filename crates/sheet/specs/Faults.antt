@@ -1,9 +1,9 @@
 -- What is wrong with a file whose every line can be read: a strand's name used twice, a statement given twice, more than document 01's limits,
 -- no ambient. The first row in the file's order counts, and the missing ambient only where no row is at fault.
-use mathlib.Core.Bool.{Bool, cond, not, _&&_, _||_}
+use mathlib.Core.Bool.{Bool, cond, _&&_, _||_}
 use mathlib.Core.List.{List}
 use Prim.Native.Nat.{ℕ}
-use lib.Dec.{eqb, ltb}
+use lib.Dec.{eqb, ltb, leb}
 use lib.ListN.{length, getD}
 use Rattle.lists.specs.Find.{any, firstIndex}
 use Rattle.lists.specs.Build.{upTo}
@@ -23,7 +23,7 @@ limitOf group = cond (eqb group strand) 61 (cond (eqb group position) 128 (cond 
 
 -- before row i there are already as many of its group as there may be
 unfoldable pub isOver : List ℕ → ℕ → Bool
-isOver kinds i = not (ltb (length (rowsBefore (groupOf (getD kinds i 0)) kinds i)) (limitOf (groupOf (getD kinds i 0))))
+isOver kinds i = leb (limitOf (groupOf (getD kinds i 0))) (length (rowsBefore (groupOf (getD kinds i 0)) kinds i))
 
 -- ---- names of strands
 
@@ -31,13 +31,13 @@ isOver kinds i = not (ltb (length (rowsBefore (groupOf (getD kinds i 0)) kinds i
 abbrev pub sameWord : List ℕ → Word → Word → Bool
 sameWord text a b = sameName (spelled text a) (spelled text b)
 
--- row j is a strand with the name of row i
-unfoldable pub hasNameOf : List ℕ → List ℕ → List ℕ → ℕ → ℕ → Bool
-hasNameOf text kinds words i j = isOf strand kinds j && sameWord text (wordOf words i 0) (wordOf words j 0)
+-- row j is a strand with a name
+unfoldable pub hasName : List ℕ → List ℕ → List ℕ → Word → ℕ → Bool
+hasName text kinds words name j = isOf strand kinds j && sameWord text name (wordOf words j 0)
 
 -- row i is a strand with the name of one before it
 unfoldable pub isNameTwice : List ℕ → List ℕ → List ℕ → ℕ → Bool
-isNameTwice text kinds words i = isOf strand kinds i && any (hasNameOf text kinds words i) (upTo i)
+isNameTwice text kinds words i = isOf strand kinds i && any (hasName text kinds words (wordOf words i 0)) (upTo i)
 
 -- ---- the answer
 

@@ -4,7 +4,7 @@ ghost use Prim.Native.Nat.{_<_, _≤_};
 ghost use lib.ListN.{length, getD, take, drop};
 ghost use Rattle.sdc_common.specs.Names.{sameName};
 ghost use Rattle.statements.specs.Words.{spelled};
-ghost use Rattle.sheet.specs.Faults.{limitOf, isOver, sameWord, isNameTwice, firstFaulty, faultAt, sheetAnswer};
+ghost use Rattle.sheet.specs.Faults.{limitOf, isOver, sameWord, hasName, isNameTwice, firstFaulty, faultAt, sheetAnswer};
 use crate::rows::count_before;
 use crate::rows::first_of;
 use crate::rows::group_of;
@@ -92,6 +92,17 @@ pub(crate) fn same_word(text: &[u8], a: Word, b: Word) -> bool
     same_bytes(bytes(text, a), bytes(text, b))
 }
 
+// Whether row j is a strand with a name.
+fn has_name(text: &[u8], kinds: &[u8], words: &[usize], name: Word, j: usize) -> bool
+    requires { ⌜ j < length (now kinds) ⌝ }
+    ensures { λ r. ⌜ r ≡ hasName (now (text .entry)) (now (kinds .entry)) (now (words .entry)) name j ⌝ }
+{
+    if group_of(kinds[j]) != STRAND {
+        return false;
+    }
+    same_word(text, name, word_of(words, j, 0))
+}
+
 // Whether row i is a strand with the name of one before it.
 fn is_name_twice(text: &[u8], kinds: &[u8], words: &[usize], i: usize) -> bool
     requires { ⌜ i < length (now kinds) ⌝ }
@@ -103,7 +114,7 @@ fn is_name_twice(text: &[u8], kinds: &[u8], words: &[usize], i: usize) -> bool
     let name = word_of(words, i, 0);
     let mut j = 0;
     while j < i {
-        if group_of(kinds[j]) == STRAND && same_word(text, name, word_of(words, j, 0)) {
+        if has_name(text, kinds, words, name, j) {
             return true;
         }
         j += 1;
