@@ -2,3 +2,4 @@ pub mod Rows
 pub mod Faults
 pub mod Parts
 pub mod Once
+pub mod Theorems

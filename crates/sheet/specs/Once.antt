@@ -9,7 +9,7 @@ use Rattle.doubles.specs.Decimal.{zero}
 use Rattle.lists.specs.Find.{firstIndex}
 use Rattle.sdc1d_params.specs.declared.Copied.{Copied}
 use Rattle.sdc1d_params.specs.declared.Copied.the-variants.{Nothing, Strand}
-use Rattle.statements.specs.Grammar.{kelvin, penalty}
+use Rattle.statements.specs.Grammar.{kelvin}
 use Rattle.statements.specs.declared.words.Word.{Word}
 use Rattle.sheet.specs.Rows.{firstOf, wordOf, numberOf}
 use Rattle.sheet.specs.Faults.{sameWord}

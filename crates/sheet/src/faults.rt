@@ -1,7 +1,7 @@
 // What is wrong with a file whose every line can be read.
 ghost use mathlib.Core.Path.{_≡_};
-ghost use Prim.Native.Nat.{_<_, _≤_};
-ghost use lib.ListN.{length, getD, take, drop};
+ghost use Prim.Native.Nat.{_<_};
+ghost use lib.ListN.{length, getD};
 ghost use Rattle.sdc_common.specs.Names.{sameName};
 ghost use Rattle.statements.specs.Words.{spelled};
 ghost use Rattle.sheet.specs.Faults.{limitOf, isOver, sameWord, hasName, isNameTwice, firstFaulty, faultAt, sheetAnswer};

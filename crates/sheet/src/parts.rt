@@ -1,8 +1,6 @@
 // What the calls take of lists of rows. Each lent slice is filled to its end.
 ghost use mathlib.Core.Path.{_≡_};
-ghost use mathlib.Core.Bool.{_||_};
-ghost use Prim.Native.Nat.{ℕ, _<_};
-ghost use lib.Dec.{eqb};
+ghost use Prim.Native.Nat.{_<_};
 ghost use lib.ListN.{length};
 ghost use Rattle.lists.specs.Build.{tabulate};
 ghost use Rattle.sheet.specs.Parts.{isPair, isSequence, markOf, partAt, startAt, sizeAt, markAt, pairAt, formAt, numberAt, potentialAt};

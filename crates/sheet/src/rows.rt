@@ -1,7 +1,7 @@
 // Rows by their kind, and what stands in a row.
 ghost use mathlib.Core.Path.{_≡_};
 ghost use Prim.Native.Nat.{_<_, _≤_};
-ghost use lib.ListN.{length, getD};
+ghost use lib.ListN.{length};
 ghost use Rattle.sheet.specs.Rows.{groupOf, rowsBefore, firstOf, laid, wordOf, numberOf, wordAmong, numberAmong, kindAmong};
 use statements::grammar::AMBIENT;
 use statements::grammar::ENERGY_GIVEN;
@@ -83,7 +83,10 @@ pub(crate) fn word_of(words: &[usize], row: usize, j: usize) -> Word
         return Word { start: 0, size: 0 };
     }
     if words.len() <= at + 1 {
-        return Word { start: words[at], size: 0 };
+        return Word {
+            start: words[at],
+            size: 0,
+        };
     }
     Word {
         start: words[at],

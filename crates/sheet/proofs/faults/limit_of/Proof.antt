@@ -1,5 +1,4 @@
 -- `sheet::faults::limit_of` meets its contract. Assumes nothing.
-use borrow.Author.Needs.{needs}
 use borrow.Author.Tests.{ne-eqb}
 use Rattle.sheet.specs.Faults.{limitOf}
 use Rattle.sheet.proofs.faults.limit_of.Statement.{statement}

@@ -1,5 +1,4 @@
 -- `sheet::parts::is_pair` meets its contract. Assumes nothing.
-use borrow.Author.Needs.{needs}
 use borrow.Author.Tests.{eq-eqb, ne-eqb}
 use Rattle.sheet.proofs.parts.is_pair.Statement.{statement}
 use Rattle.sheet.proofs.parts.is_pair.Tie as tie

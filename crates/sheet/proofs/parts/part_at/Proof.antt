@@ -1,7 +1,6 @@
 -- `sheet::parts::part_at` meets its contract. Assumes nothing.
 use borrow.Author.Needs.{needs}
 use mathlib.Core.Path.{_∙_, sym, ap}
-use Prim.Native.Nat.{ℕ}
 use mathlib.Core.Bool.{Bool, cond}
 use Rattle.sheet.specs.declared.parts.Part.{Part}
 use Rattle.sheet.specs.Rows.{wordAmong}

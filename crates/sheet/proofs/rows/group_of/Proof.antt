@@ -1,6 +1,5 @@
 -- `sheet::rows::group_of` meets its contract. Assumes nothing.
-use borrow.Author.Needs.{needs}
-use borrow.Author.Tests.{eq-eqb, ne-eqb, lt-ltb, le-ltb}
+use borrow.Author.Tests.{ne-eqb, lt-ltb, le-ltb}
 use Rattle.sheet.specs.Rows.{groupOf}
 use Rattle.sheet.proofs.rows.group_of.Statement.{statement}
 use Rattle.sheet.proofs.rows.group_of.Tie as tie

@@ -1,8 +1,8 @@
 -- `sheet::rows::rows_of` meets its contract: the rows passed over that are of the group stand in front. Assumes nothing.
 use borrow.Author.Needs.{needs}
-use mathlib.Core.Path.{_≡_, refl, sym, ap, _∙_}
+use mathlib.Core.Path.{_≡_, sym, ap, _∙_}
 use mathlib.Core.Logic.{inl, inr}
-use mathlib.Core.List.{List, _∷_}
+use mathlib.Core.List.{_∷_}
 use Prim.Native.Nat.{ℕ, _+_, _-_, _<_, _≤_}
 use native.Mathlib.Omega.{arith}
 use lib.ListN.{length, drop, take}
@@ -66,17 +66,17 @@ loop-again c =
       | inl w ↦ (
         omega (arith, w .2),
         front-step (l .loop .inv .1)
-        (ap (take (most - many)) (keep-here t n i low (eq-eqb _ _ (sym (c .before .group-of .ensures) ∙ w .0 .taken)))
-        ∙ take-next most many i rest (omega arith)
-        ∙ ap (λ (k : ℕ). i ∷ take (most - k) rest) (sym (w .2)))
-        (omega arith) (w .1) (w .2),
+            (ap (take (most - many)) (keep-here t n i low (eq-eqb _ _ (sym (c .before .group-of .ensures) ∙ w .0 .taken)))
+            ∙ take-next most many i rest (omega arith)
+            ∙ ap (λ (k : ℕ). i ∷ take (most - k) rest) (sym (w .2)))
+            (omega arith) (w .1) (w .2),
       )
       | inr w ↦ (
         omega (arith, w .2),
         front-same (l .loop .inv .1)
-        (ap (take (most - many)) (keep-later t n i low (ne-eqb _ _ (λ e. w .0 .left (c .before .group-of .ensures ∙ e))))
-        ∙ ap (λ (k : ℕ). take (most - k) rest) (sym (w .2)))
-        (w .1) (w .2),
+            (ap (take (most - many)) (keep-later t n i low (ne-eqb _ _ (λ e. w .0 .left (c .before .group-of .ensures ∙ e))))
+            ∙ ap (λ (k : ℕ). take (most - k) rest) (sym (w .2)))
+            (w .1) (w .2),
       )
     ]
 
