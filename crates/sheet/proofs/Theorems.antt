@@ -112,4 +112,4 @@ laid-whole group kinds lent e =
     rw (all, none) (append-nil (rowsOf group kinds))
 
 pub sheets : Sheets
-sheets = record { sound = sound; rows = laid-whole }
+sheets = record { words = λ room row j. refl; numbers = λ room row j. refl; sound = sound; rows = laid-whole }

@@ -3,3 +3,4 @@ pub mod Faults
 pub mod Parts
 pub mod Once
 pub mod Theorems
+pub mod Cases

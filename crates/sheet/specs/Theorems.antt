@@ -5,7 +5,8 @@ use mathlib.Core.Path.{_≡_}
 use Prim.Native.Nat.{ℕ, _≤_, _<_}
 use lib.ListN.{length}
 use Rattle.statements.specs.Grammar.{kelvin, strand, position, energyGiven}
-use Rattle.sheet.specs.Rows.{isOf, rowsOf, countOf, firstOf, laid, wordOf}
+use Rattle.statements.specs.Layout.{Room, wordIn, numberIn}
+use Rattle.sheet.specs.Rows.{isOf, rowsOf, countOf, firstOf, laid, wordOf, numberOf}
 use Rattle.sheet.specs.Faults.{limitOf, sameWord, sheetAnswer}
 use Rattle.sheet.specs.declared.faults.SheetAnswer.the-variants.{Whole}
 
@@ -20,6 +21,9 @@ pub record Sound (text kinds words : List ℕ) (users sites terms : ℕ) : Type 
       → sameWord text (wordOf words i 0) (wordOf words j 0) ≡ false
 
 pub record Sheets : Type 0 where
+  -- words and numbers of a row are where crate `statements` lays them
+  pub words : (room : Room) (row j : ℕ) → wordOf (room .words) row j ≡ wordIn room row j
+  pub numbers : (room : Room) (row j : ℕ) → numberOf (room .numbers) row j ≡ numberIn room row j
   -- the answer `Whole` is one about sound rows
   pub sound : (text kinds lines words : List ℕ) (strands positions entries : ℕ) → sheetAnswer text kinds lines words ≡ Whole strands positions entries
       → Sound text kinds words strands positions entries
