@@ -20,7 +20,7 @@ use Rattle.sheet.specs.declared.once.Ambient.the-variants.{Kelvin, Given
 unfoldable pub numberOnce : ℕ → List ℕ → List Float → ℕ → Float
 numberOnce group kinds numbers j = cond (ltb (firstOf group kinds) (length kinds)) (numberOf numbers (firstOf group kinds) j) zero
 
--- as kelvin, or as RT, strand excess and scaffold excess
+-- the ambient: kelvin, or RT, strand excess and scaffold excess
 unfoldable pub ambientOf : List ℕ → List Float → Ambient
 ambientOf kinds numbers =
     cond (ltb (firstOf kelvin kinds) (length kinds))
@@ -32,16 +32,16 @@ ambientOf kinds numbers =
 abbrev pub isNamed : List ℕ → List ℕ → Word → ℕ → Bool
 isNamed text words name row = sameWord text name (wordOf words row 0)
 
--- the number of the strand with a name, among the strands' rows; they count from 1, and 0 is no strand
+-- the number of the strand with a name, among the strands' rows: they count from 1, and it is 0 where none has the name
 unfoldable pub strandNamed : List ℕ → List ℕ → List ℕ → Word → ℕ
 strandNamed text words rows name =
     cond (ltb (firstIndex (isNamed text words name) rows) (length rows)) (suc (firstIndex (isNamed text words name) rows)) 0
 
--- whose glues are copied by a quencher or reporter whose strand is this word
+-- whose glues one with this word for its strand copies; `-` is a word of size 0
 abbrev pub copiedFrom : List ℕ → List ℕ → List ℕ → Word → Copied
 copiedFrom text words rows name = cond (eqb (name .size) 0) Nothing (Strand (strandNamed text words rows name))
 
--- whose glues the quencher or the reporter copies: nobody's where the statement is missing, or names no strand
+-- whose glues the quencher or the reporter copies: nobody's where the statement is missing, or has `-` for its strand
 unfoldable pub copiedOf : ℕ → List ℕ → List ℕ → List ℕ → List ℕ → Copied
 copiedOf group text kinds words rows =
     cond (ltb (firstOf group kinds) (length kinds)) (copiedFrom text words rows (wordOf words (firstOf group kinds) 0)) Nothing

@@ -46,7 +46,7 @@ laid group kinds lent = over (take (length lent) (rowsOf group kinds)) lent
 
 -- ---- what stands in a row
 
--- word j of a row
+-- word j of a row: its start and size in the text; a size of 0 is that of no word
 abbrev pub wordOf : List ℕ → ℕ → ℕ → Word
 wordOf words row j = wordAt (getD words (8 * row + 2 * j) 0) (getD words (8 * row + 2 * j + 1) 0)
 

@@ -15,12 +15,19 @@ use statements::grammar::POSITION;
 use statements::grammar::STRAND;
 use statements::words::Word;
 
+// The most user strands, positions and energy entries.
+const MOST_STRANDS: usize = 61;
+
+const MOST_POSITIONS: usize = 128;
+
+const MOST_ENTRIES: usize = 1024;
+
 pub enum SheetAnswer {
-    // Nothing is: how many strands, positions and entries there are.
+    // Nothing is wrong: how many strands, positions and entries there are.
     Whole(usize, usize, usize),
     // The line, and the name, of a strand that has the name of one before it.
     NameTwice(usize, Word),
-    // The line with what may stand once and stands before it, and the group of its kind: KELVIN for either way to give the ambient.
+    // The line with what may be given once and was given before, and the group of its kind: KELVIN for either way to give the ambient.
     GivenTwice(usize, u8),
     // The line with the first strand, position or entry above the limit, and the group of its kind: ENERGY_GIVEN for any entry.
     TooMany(usize, u8),
@@ -33,13 +40,13 @@ fn limit_of(group: u8) -> usize
     ensures { λ r. ⌜ r ≡ limitOf group ⌝ }
 {
     if group == STRAND {
-        return 61;
+        return MOST_STRANDS;
     }
     if group == POSITION {
-        return 128;
+        return MOST_POSITIONS;
     }
     if group == ENERGY_GIVEN {
-        return 1024;
+        return MOST_ENTRIES;
     }
     1
 }

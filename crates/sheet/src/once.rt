@@ -76,7 +76,8 @@ fn strand_named(text: &[u8], words: &[usize], rows: &[usize], name: Word) -> usi
     0
 }
 
-// Whose glues the quencher (QUENCHER) or the reporter (REPORTER) copies; `rows` are those of the strands. Strand 0 is one that is not there.
+// Whose glues the quencher (QUENCHER) or the reporter (REPORTER) copies; `rows` are those of the strands. A name that no strand has
+// gives strand 0, which `from_params` refuses.
 pub fn copied(text: &[u8], kinds: &[u8], words: &[usize], rows: &[usize], group: u8) -> Copied
     ensures { λ r. ⌜ r ≡ copiedOf group (now (text .entry)) (now (kinds .entry)) (now (words .entry)) (now (rows .entry)) ⌝ }
 {

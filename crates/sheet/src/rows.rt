@@ -131,7 +131,7 @@ pub(crate) fn number_among(numbers: &[f64], rows: &[usize], k: usize, j: usize) 
     number_of(numbers, rows[k], j)
 }
 
-// The kind of row k of a list of rows.
+// The kind of row k of a list of rows; 0, which is no entry, past its end.
 pub(crate) fn kind_among(kinds: &[u8], rows: &[usize], k: usize) -> u8
     ensures { λ r. ⌜ r ≡ kindAmong (now (kinds .entry)) (now (rows .entry)) k ⌝ }
 {
