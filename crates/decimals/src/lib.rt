@@ -1,10 +1,19 @@
 // Numbers as text: the words of a design file read as doubles, and figures printed.
 mod digits;
+mod limbs;
+mod reading;
+mod rounding;
 
 use digits::count_places;
 use digits::put_digits;
+use digits::read_digits;
+use reading::decimal;
+use reading::double;
+use reading::is_pattern;
+use reading::past;
 ghost use mathlib.Core.Path.{_≡_};
-ghost use Rattle.decimals.specs.Digits.{digitsIn, decimal};
+ghost use Rattle.decimals.specs.Digits.{digitsIn, decimal as decimal·of};
+ghost use Rattle.decimals.specs.Number.{numberOf};
 ghost use Rattle.decimals.specs.Print.{printed, laid};
 
 // What a word of a design file is as a number, or why it is none.
@@ -35,6 +44,17 @@ pub enum Printed {
     Unprintable,
 }
 
+// Reads a word of a design file as a number.
+pub fn read_number(word: &[u8]) -> NumberAnswer
+    ensures { λ r. ⌜ r ≡ numberOf (now (word .entry)) ⌝ }
+{
+    if is_pattern(word) {
+        let bits = read_digits(past(word, 2), 16, 0, 0xffff_ffff_ffff_ffff);
+        return NumberAnswer::Number(double(bits));
+    }
+    decimal(word)
+}
+
 // The last `digits` hexadecimal digits of n, in lower case: 16 are the bits of a double, 8 a word of a deck.
 pub fn write_hex(n: u64, digits: usize, out: &mut [u8]) -> Printed
     ensures { λ r. ⌜ (r ≡ printed (digitsIn 16 digits n) (now (out .entry))) × (now (out .exit) ≡ laid (digitsIn 16 digits n) (now (out .entry))) ⌝ }
@@ -48,7 +68,7 @@ pub fn write_hex(n: u64, digits: usize, out: &mut [u8]) -> Printed
 
 // A natural number in decimal digits.
 pub fn write_count(n: u64, out: &mut [u8]) -> Printed
-    ensures { λ r. ⌜ (r ≡ printed (decimal n) (now (out .entry))) × (now (out .exit) ≡ laid (decimal n) (now (out .entry))) ⌝ }
+    ensures { λ r. ⌜ (r ≡ printed (decimal·of n) (now (out .entry))) × (now (out .exit) ≡ laid (decimal·of n) (now (out .entry))) ⌝ }
 {
     let count = count_places(n);
     if out.len() < count {

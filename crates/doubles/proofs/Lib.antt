@@ -7,3 +7,4 @@ pub mod NegativeZero
 pub mod Bounds
 pub mod Least
 pub mod Zero
+pub mod Rounded
