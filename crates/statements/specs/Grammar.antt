@@ -1,0 +1,184 @@
+-- The grammar: a line is one statement, whose first word says which. Keywords are in lower case.
+--
+--     kelvin NUMBER
+--     ambient NUMBER NUMBER NUMBER
+--     strand NAME GLUE GLUE GLUE NUMBER
+--     quencher GLUE NUMBER                    GLUE is here a strand's name
+--     reporter GLUE NUMBER
+--     scaffold GLUE ..                        any number of them
+--     energy NAME dg NUMBER ds NUMBER         or: energy NAME seq BASES
+--     pair NAME NAME dg NUMBER ds NUMBER      or: pair NAME NAME seq BASES
+--     penalty NUMBER NUMBER
+--
+-- A GLUE may be `-`, which stands for none; a NAME may not.
+use mathlib.Core.Bool.{Bool, cond, _&&_}
+use mathlib.Core.List.{List, [], _∷_}
+use Prim.Native.Nat.{ℕ, _+_, _/_, _%_}
+use lib.Dec.{eqb, ltb}
+use lib.ListN.{getD}
+use Rattle.statements.specs.Words.{spells}
+use Rattle.statements.specs.declared.grammar.Item.{Item}
+use Rattle.statements.specs.declared.grammar.Item.the-variants.{Number, Name, Glue, Bases, DgOrSeq, Ds, End}
+
+-- ---- kinds of rows: a row for each statement, and for `scaffold` one for each position
+
+abbrev pub kelvin : ℕ
+kelvin = 0
+
+abbrev pub ambient : ℕ
+ambient = 1
+
+abbrev pub strand : ℕ
+strand = 2
+
+abbrev pub quencher : ℕ
+quencher = 3
+
+abbrev pub reporter : ℕ
+reporter = 4
+
+abbrev pub position : ℕ
+position = 5
+
+abbrev pub energyGiven : ℕ
+energyGiven = 6
+
+abbrev pub energySequence : ℕ
+energySequence = 7
+
+abbrev pub pairGiven : ℕ
+pairGiven = 8
+
+abbrev pub pairSequence : ℕ
+pairSequence = 9
+
+abbrev pub penalty : ℕ
+penalty = 10
+
+-- no kind: the first word is no keyword
+abbrev pub unknown : ℕ
+unknown = 11
+
+-- ---- the words with a meaning, byte by byte
+
+-- k e l v i n
+abbrev pub kelvinBytes : List ℕ
+kelvinBytes = 107 ∷ 101 ∷ 108 ∷ 118 ∷ 105 ∷ 110 ∷ []
+
+-- a m b i e n t
+abbrev pub ambientBytes : List ℕ
+ambientBytes = 97 ∷ 109 ∷ 98 ∷ 105 ∷ 101 ∷ 110 ∷ 116 ∷ []
+
+-- s t r a n d
+abbrev pub strandBytes : List ℕ
+strandBytes = 115 ∷ 116 ∷ 114 ∷ 97 ∷ 110 ∷ 100 ∷ []
+
+-- q u e n c h e r
+abbrev pub quencherBytes : List ℕ
+quencherBytes = 113 ∷ 117 ∷ 101 ∷ 110 ∷ 99 ∷ 104 ∷ 101 ∷ 114 ∷ []
+
+-- r e p o r t e r
+abbrev pub reporterBytes : List ℕ
+reporterBytes = 114 ∷ 101 ∷ 112 ∷ 111 ∷ 114 ∷ 116 ∷ 101 ∷ 114 ∷ []
+
+-- s c a f f o l d
+abbrev pub scaffoldBytes : List ℕ
+scaffoldBytes = 115 ∷ 99 ∷ 97 ∷ 102 ∷ 102 ∷ 111 ∷ 108 ∷ 100 ∷ []
+
+-- e n e r g y
+abbrev pub energyBytes : List ℕ
+energyBytes = 101 ∷ 110 ∷ 101 ∷ 114 ∷ 103 ∷ 121 ∷ []
+
+-- p a i r
+abbrev pub pairBytes : List ℕ
+pairBytes = 112 ∷ 97 ∷ 105 ∷ 114 ∷ []
+
+-- p e n a l t y
+abbrev pub penaltyBytes : List ℕ
+penaltyBytes = 112 ∷ 101 ∷ 110 ∷ 97 ∷ 108 ∷ 116 ∷ 121 ∷ []
+
+-- d g
+abbrev pub dgBytes : List ℕ
+dgBytes = 100 ∷ 103 ∷ []
+
+-- d s
+abbrev pub dsBytes : List ℕ
+dsBytes = 100 ∷ 115 ∷ []
+
+-- s e q
+abbrev pub seqBytes : List ℕ
+seqBytes = 115 ∷ 101 ∷ 113 ∷ []
+
+-- -
+abbrev pub dashBytes : List ℕ
+dashBytes = 45 ∷ []
+
+-- ---- the first word
+
+-- the kind of a statement with this first word. `energy` and `pair` are of the kind with numbers, until `seq` is met.
+unfoldable pub kindOf : List ℕ → ℕ
+kindOf word =
+    cond (spells word kelvinBytes) kelvin
+    (cond (spells word ambientBytes) ambient
+    (cond (spells word strandBytes) strand
+    (cond (spells word quencherBytes) quencher
+    (cond (spells word reporterBytes) reporter
+    (cond (spells word scaffoldBytes) position
+    (cond (spells word energyBytes) energyGiven
+    (cond (spells word pairBytes) pairGiven
+    (cond (spells word penaltyBytes) penalty unknown))))))))
+
+-- ---- the words after it
+
+-- What each word has to be, as a number to which the slot of the row is added that the word fills. A row has the word slots 0 to 3 and the
+-- number slots 0 to 2.
+abbrev pub end : ℕ
+end = 0
+
+abbrev pub number : ℕ → ℕ
+number slot = 4 + slot
+
+abbrev pub name : ℕ → ℕ
+name slot = 8 + slot
+
+abbrev pub glue : ℕ → ℕ
+glue slot = 12 + slot
+
+abbrev pub bases : ℕ → ℕ
+bases slot = 16 + slot
+
+abbrev pub dgOrSeq : ℕ
+dgOrSeq = 20
+
+abbrev pub ds : ℕ
+ds = 24
+
+-- kind by kind. `dg` or `seq` decides between the two kinds of `energy` and of `pair`, which are alike up to there.
+unfoldable pub shapes : List (List ℕ)
+shapes =
+    (number 0 ∷ end ∷ end ∷ end ∷ end ∷ end ∷ [])
+    ∷ (number 0 ∷ number 1 ∷ number 2 ∷ end ∷ end ∷ end ∷ [])
+    ∷ (name 0 ∷ glue 1 ∷ glue 2 ∷ glue 3 ∷ number 0 ∷ end ∷ [])
+    ∷ (glue 0 ∷ number 0 ∷ end ∷ end ∷ end ∷ end ∷ [])
+    ∷ (glue 0 ∷ number 0 ∷ end ∷ end ∷ end ∷ end ∷ [])
+    ∷ (glue 0 ∷ end ∷ end ∷ end ∷ end ∷ end ∷ [])
+    ∷ (name 0 ∷ dgOrSeq ∷ number 0 ∷ ds ∷ number 1 ∷ end ∷ [])
+    ∷ (name 0 ∷ dgOrSeq ∷ bases 1 ∷ end ∷ end ∷ end ∷ [])
+    ∷ (name 0 ∷ name 1 ∷ dgOrSeq ∷ number 0 ∷ ds ∷ number 1 ∷ [])
+    ∷ (name 0 ∷ name 1 ∷ dgOrSeq ∷ bases 2 ∷ end ∷ end ∷ [])
+    ∷ (number 0 ∷ number 1 ∷ end ∷ end ∷ end ∷ end ∷ [])
+    ∷ []
+
+-- what such a number stands for
+unfoldable pub decoded : ℕ → Item
+decoded code =
+    cond (eqb (code / 4) 1) (Number (code % 4))
+    (cond (eqb (code / 4) 2) (Name (code % 4))
+    (cond (eqb (code / 4) 3) (Glue (code % 4))
+    (cond (eqb (code / 4) 4) (Bases (code % 4))
+    (cond (eqb (code / 4) 5) DgOrSeq
+    (cond (eqb (code / 4) 6) Ds End)))))
+
+-- what the word at a place after the keyword has to be; after the sixth there is none
+unfoldable pub itemOf : ℕ → ℕ → Item
+itemOf kind place = cond (ltb kind unknown && ltb place 6) (decoded (getD (getD shapes kind []) place end)) End
