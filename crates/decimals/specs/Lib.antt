@@ -1,0 +1,5 @@
+pub mod Digits
+pub mod Number
+pub mod Cases
+pub mod Print
+pub mod Limbs

@@ -1,0 +1,80 @@
+// Numbers as text: the words of a design file read as doubles, and figures printed.
+mod digits;
+mod limbs;
+mod printing;
+mod reading;
+mod rounding;
+
+use digits::count_places;
+use digits::put_digits;
+use digits::read_digits;
+use reading::decimal;
+use reading::double;
+use reading::is_pattern;
+use reading::past;
+ghost use mathlib.Core.Path.{_≡_};
+ghost use Rattle.decimals.specs.Digits.{digitsIn, decimal as decimal·of};
+ghost use Rattle.decimals.specs.Number.{numberOf};
+ghost use Rattle.decimals.specs.Print.{printed, laid};
+
+// What a word of a design file is as a number, or why it is none.
+pub enum NumberAnswer {
+    Number(f64),
+    // No decimal, and no pattern of bits.
+    NotANumber,
+    // More than 17 digits from the first that is not 0.
+    TooManyDigits,
+    // An exponent, or a last place, that is too large or too small.
+    OutOfReach,
+}
+
+// The power of ten behind a decimal's digits.
+pub enum Exponent {
+    Up(u64),
+    Down(u64),
+    Malformed,
+}
+
+// What became of a text that was to be printed.
+pub enum Printed {
+    // Its length: it stands in the first lent bytes.
+    Text(usize),
+    // It is longer than the lent slice.
+    TooShort,
+    // The number has no such text.
+    Unprintable,
+}
+
+// Reads a word of a design file as a number.
+pub fn read_number(word: &[u8]) -> NumberAnswer
+    ensures { λ r. ⌜ r ≡ numberOf (now (word .entry)) ⌝ }
+{
+    if is_pattern(word) {
+        let bits = read_digits(past(word, 2), 16, 0, 0xffff_ffff_ffff_ffff);
+        return NumberAnswer::Number(double(bits));
+    }
+    decimal(word)
+}
+
+// The last `digits` hexadecimal digits of n, in lower case: 16 are the bits of a double, 8 a word of a deck.
+pub fn write_hex(n: u64, digits: usize, out: &mut [u8]) -> Printed
+    ensures { λ r. ⌜ (r ≡ printed (digitsIn 16 digits n) (now (out .entry))) × (now (out .exit) ≡ laid (digitsIn 16 digits n) (now (out .entry))) ⌝ }
+{
+    if out.len() < digits {
+        return Printed::TooShort;
+    }
+    put_digits(n, 16, digits, 0, out);
+    Printed::Text(digits)
+}
+
+// A natural number in decimal digits.
+pub fn write_count(n: u64, out: &mut [u8]) -> Printed
+    ensures { λ r. ⌜ (r ≡ printed (decimal·of n) (now (out .entry))) × (now (out .exit) ≡ laid (decimal·of n) (now (out .entry))) ⌝ }
+{
+    let count = count_places(n);
+    if out.len() < count {
+        return Printed::TooShort;
+    }
+    put_digits(n, 10, count, 0, out);
+    Printed::Text(count)
+}
