@@ -1,3 +1,5 @@
 pub mod Words
 pub mod Grammar
 pub mod Layout
+pub mod Statement
+pub mod Rows
