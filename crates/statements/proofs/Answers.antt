@@ -1,8 +1,8 @@
 -- Lines and rows, one by one. Assumes nothing.
-use mathlib.Core.Path.{_≡_, refl, sym, ap, _∙_}
+use mathlib.Core.Path.{_≡_, sym, ap, _∙_}
 use mathlib.Core.List.{List, [], _∷_, _++_, map}
 use Prim.Native.Nat.{ℕ, _+_, _≤_, _<_}
-use native.Mathlib.Nat.{add-zero, add-assoc, add-comm}
+use native.Mathlib.Nat.{add-zero}
 use native.Mathlib.Omega.{arith}
 use lib.ListN.{length, length-append}
 use borrow.Author.Tests.{lt-ltb, le-ltb}
@@ -14,7 +14,6 @@ use Rattle.statements.specs.Rows.{Row, rowsBy, rowsOfLine, rowsIn, rowsF
 use Rattle.statements.specs.declared.words.Word.{Word}
 use Rattle.statements.specs.declared.statement.Reason.{Reason}
 use Rattle.statements.specs.declared.statement.Outcome.{Outcome}
-use Rattle.statements.specs.declared.statement.Outcome.the-variants.{Nothing, Whole, Positions, Fault}
 use Rattle.statements.specs.declared.statement.Statement.{Statement}
 use Rattle.statements.specs.declared.rows.Count.the-variants as rows
 use Rattle.statements.specs.declared.ReadAnswer.the-variants.{Unreadable, TooManyRows}

@@ -1,15 +1,15 @@
 -- What a step from one byte to the next does to the lines and words that are left. Assumes nothing.
-use mathlib.Core.Path.{_≡_, refl, sym, _∙_}
+use mathlib.Core.Path.{_≡_}
 use mathlib.Core.Bool.{true, false}
 use mathlib.Core.List.{List, [], _∷_}
-use mathlib.Core.Option.{none, some}
+use mathlib.Core.Option.{some}
 use Prim.Native.Nat.{ℕ, _+_, _-_, _≤_, _<_}
 use native.Mathlib.Numerals.{add-one}
 use native.Mathlib.Omega.{arith}
 use lib.ListN.{length, getD, drop, drop-of-length-le}
 use lib.Seq.{drop-cons}
 use borrow.Author.Tests.{eq-eqb, ne-eqb, lt-ltb, le-ltb}
-use Rattle.statements.specs.Words.{isBlank, isHash, lineOf, linesFrom, wordAt, scan, wordsIn}
+use Rattle.statements.specs.Words.{isBlank, lineOf, linesFrom, wordAt, scan, wordsIn}
 
 module _ (text : List ℕ) (at : ℕ) where
   -- ---- lines

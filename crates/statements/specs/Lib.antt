@@ -3,3 +3,4 @@ pub mod Grammar
 pub mod Layout
 pub mod Statement
 pub mod Rows
+pub mod Cases

@@ -12,7 +12,6 @@ use Rattle.statements.specs.Grammar.{position}
 use Rattle.statements.specs.Statement.{blank, accepted, statementOf}
 use Rattle.statements.specs.declared.words.Word.{Word}
 use Rattle.statements.specs.declared.grammar.Item.the-variants.{Glue}
-use Rattle.statements.specs.declared.statement.Reason.{Reason}
 use Rattle.statements.specs.declared.statement.Outcome.{Outcome}
 use Rattle.statements.specs.declared.statement.Outcome.the-variants.{Nothing, Whole, Positions, Fault}
 use Rattle.statements.specs.declared.statement.Statement.{Statement}

@@ -3,13 +3,13 @@ use mathlib.Core.Bool.{Bool, true, false, cond}
 use mathlib.Core.List.{List, [], _∷_}
 use Prim.Native.Nat.{ℕ, _+_, _*_}
 use lib.Dec.{eqb}
-use lib.ListN.{length, getD, set, replicate}
+use lib.ListN.{set, replicate}
 use lib.Ieee.{Float}
 use Rattle.doubles.specs.Decimal.{zero}
 use Rattle.decimals.specs.Number.{numberOf}
 use Rattle.decimals.specs.declared.NumberAnswer.{NumberAnswer}
 use Rattle.decimals.specs.declared.NumberAnswer.the-variants as answer
-use Rattle.statements.specs.Words.{wordAt, wordsIn, spelled, spells}
+use Rattle.statements.specs.Words.{wordsIn, spelled, spells}
 use Rattle.statements.specs.Grammar.{kindOf, itemOf, sequenceKind, position, unknown, dgBytes, dsBytes, seqBytes, dashBytes}
 use Rattle.statements.specs.declared.words.Word.{Word}
 use Rattle.statements.specs.declared.grammar.Item.{Item}

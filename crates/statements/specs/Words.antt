@@ -56,9 +56,7 @@ scan none at [] = []
 scan none at (byte ∷ rest) = cond (isBlank byte) (scan none (at + 1) rest) (cond (isHash byte) [] (scan (some at) (at + 1) rest))
 scan (some start) at [] = wordAt start (at - start) ∷ []
 scan (some start) at (byte ∷ rest) =
-    cond (isBlank byte)
-    (wordAt start (at - start) ∷ scan none (at + 1) rest)
-    (scan (some start) (at + 1) rest)
+    cond (isBlank byte) (wordAt start (at - start) ∷ scan none (at + 1) rest) (scan (some start) (at + 1) rest)
 
 -- the words of a line from a place on
 unfoldable pub wordsIn : List ℕ → ℕ → List Word

@@ -6,7 +6,6 @@ pub mod words;
 
 ghost use mathlib.Core.Path.{_≡_};
 ghost use Prim.Native.Nat.{_*_};
-ghost use lib.ListN.{length};
 ghost use Rattle.statements.specs.Layout.{roomOf, unequalLengths};
 ghost use Rattle.statements.specs.Rows.{readAnswer, roomAfter};
 use statement::Reason;

@@ -5,7 +5,7 @@ ghost use Prim.Native.Nat.{_+_, _*_, _≤_, _<_};
 ghost use lib.ListN.{length};
 ghost use lib.Seq.{sets};
 ghost use Rattle.statements.specs.Words.{wordsIn, linesOf};
-ghost use Rattle.statements.specs.Layout.{Room, roomOf, Equal};
+ghost use Rattle.statements.specs.Layout.{roomOf, Equal};
 ghost use Rattle.statements.specs.Statement.{statementOf};
 ghost use Rattle.statements.specs.Rows.{rowOf, positionRow, rowsOfLine, rowsOf, countOf, answerFrom, laidRow, laid};
 use crate::ReadAnswer;

@@ -1,7 +1,6 @@
 // The statement of a line.
 ghost use mathlib.Core.Path.{_≡_};
-ghost use Prim.Native.Nat.{_≤_, _<_, _+_};
-ghost use lib.ListN.{length, replicate};
+ghost use Prim.Native.Nat.{_<_, _+_};
 ghost use Rattle.statements.specs.Words.{Inside, wordsIn};
 ghost use Rattle.statements.specs.Grammar.{InRow};
 ghost use Rattle.statements.specs.Statement.{blank, without, put, numberPut, accepted, closed, goesOn, fit, statementOf};

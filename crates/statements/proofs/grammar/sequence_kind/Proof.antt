@@ -1,5 +1,4 @@
 -- `statements::grammar::sequence_kind` meets its contract. Assumes nothing.
-use borrow.Author.Needs.{needs}
 use borrow.Author.Tests.{ne-eqb}
 use Rattle.statements.specs.Grammar.{sequenceKind}
 use Rattle.statements.proofs.grammar.sequence_kind.Statement.{statement}

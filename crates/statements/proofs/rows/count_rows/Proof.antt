@@ -1,7 +1,6 @@
 -- `statements::rows::count_rows` meets its contract. Assumes nothing.
 use borrow.Author.Needs.{needs}
-use mathlib.Core.Path.{_≡_, ap, _∙_}
-use Prim.Native.Nat.{ℕ}
+use mathlib.Core.Path.{ap, _∙_}
 use denote.Ref.{now}
 use Rattle.statements.specs.Rows.{countBy}
 use Rattle.statements.specs.declared.rows.Count.the-variants as rows

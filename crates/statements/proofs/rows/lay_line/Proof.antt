@@ -1,14 +1,11 @@
 -- `statements::rows::lay_line` meets its contract, by what the line turned out to be. Assumes nothing.
 use borrow.Author.Needs.{needs}
-use mathlib.Core.Path.{_≡_, refl, sym, ap, _∙_}
-use mathlib.Core.List.{List, map}
-use Prim.Native.Nat.{ℕ, _≤_, _<_, _-_, _+_}
+use mathlib.Core.Path.{sym, ap}
 use native.Mathlib.Omega.{arith}
 use lib.ListN.{length, length-map}
 use denote.Ref.{now}
 use Rattle.statements.specs.Words.{wordsIn}
-use Rattle.statements.specs.Layout.{roomOf}
-use Rattle.statements.specs.Rows.{Row, positionRow, rowsBy, laid}
+use Rattle.statements.specs.Rows.{positionRow, rowsBy, laid}
 use Rattle.statements.proofs.Answers.{rows-by}
 use Rattle.statements.proofs.rows.lay_line.Statement.{statement}
 use Rattle.statements.proofs.rows.lay_line.Tie as tie

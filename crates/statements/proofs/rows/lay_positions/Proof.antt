@@ -1,8 +1,8 @@
 -- `statements::rows::lay_positions` meets its contract: the words that are left, laid from here on, give the whole. Assumes nothing.
 use borrow.Author.Needs.{needs}
-use mathlib.Core.Path.{_≡_, refl, sym, ap, _∙_}
+use mathlib.Core.Path.{_≡_, refl, ap, _∙_}
 use mathlib.Core.List.{List, map}
-use Prim.Native.Nat.{ℕ, _≤_, _<_, _-_, _+_}
+use Prim.Native.Nat.{ℕ, _<_, _-_, _+_}
 use native.Mathlib.Omega.{arith}
 use lib.ListN.{length}
 use denote.Ref.{now}
@@ -10,7 +10,7 @@ use Rattle.statements.specs.Words.{wordsIn, spelled}
 use Rattle.statements.specs.Grammar.{position}
 use Rattle.statements.specs.Layout.{roomOf, Equal}
 use Rattle.statements.specs.Statement.{blank, accepted}
-use Rattle.statements.specs.Rows.{Row, rowOf, positionRow, laid}
+use Rattle.statements.specs.Rows.{rowOf, positionRow, laid}
 use Rattle.statements.specs.declared.grammar.Item.the-variants.{Glue}
 use Rattle.statements.specs.declared.words.Word.{Word}
 use Rattle.statements.specs.declared.statement.Statement.{Statement}

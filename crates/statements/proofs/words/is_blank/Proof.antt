@@ -1,5 +1,4 @@
 -- `statements::words::is_blank` meets its contract. Assumes nothing.
-use borrow.Author.Needs.{needs}
 use mathlib.Core.Logic.{⊎-elim, inl, inr}
 use borrow.Author.Tests.{ne-eqb}
 use Rattle.statements.proofs.words.is_blank.Statement.{statement}

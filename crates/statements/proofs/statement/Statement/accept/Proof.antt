@@ -1,12 +1,11 @@
 -- `statements::statement::Statement::accept` meets its contract, item by item. Assumes nothing.
 use borrow.Author.Needs.{needs}
-use mathlib.Core.Path.{_≡_, refl, sym, ap, subst, _∙_}
+use mathlib.Core.Path.{_≡_, sym, subst, _∙_}
 use mathlib.Core.Bool.{true, false}
 use denote.Ref.{now}
 use Rattle.sdc_common.specs.Names.{sameName}
 use Rattle.statements.specs.Grammar.{InRow, dashBytes, dsBytes}
-use Rattle.statements.specs.Statement.{accepted, numberPut}
-use Rattle.statements.specs.declared.grammar.Item.{Item}
+use Rattle.statements.specs.Statement.{accepted}
 use Rattle.statements.proofs.statement.Statement.accept.Statement.{statement}
 use Rattle.statements.proofs.statement.Statement.accept.Tie as tie
 

@@ -1,6 +1,6 @@
 -- `statements::statement::Statement::close` meets its contract. Assumes nothing.
 use borrow.Author.Needs.{needs}
-use mathlib.Core.Path.{_≡_, refl, sym, _∙_}
+use mathlib.Core.Path.{_≡_, refl, _∙_}
 use mathlib.Core.List.{[], _∷_}
 use denote.Enum.Declared.{tagOf}
 use types.Run.{OneOf, miss}
