@@ -9,9 +9,12 @@ use native.Mathlib.Omega.{arith}
 use lib.ListN.{length, set, replicate, length-append, length-replicate}
 use lib.Seq.{sets}
 use borrow.Author.Tests.{lt-ltb, le-ltb}
+use lib.Ieee.{Float}
 use Rattle.lists.proofs.Over.{sets-append}
+use Rattle.doubles.specs.Size.{sgn}
 use Rattle.decimals.specs.Digits.{digitsIn, decimal, places}
-use Rattle.decimals.specs.Print.{minusSigns, fixed}
+use Rattle.decimals.specs.Print.{printed, laid, minusSigns, fixed, millionths, fixedText, unprintable, fixedPrinted, fixedOut}
+use Rattle.decimals.specs.declared.Printed.the-variants.{Unprintable}
 use Rattle.decimals.proofs.Written.{digits-length, decimal-is, decimal-length}
 
 -- ---- the sign
@@ -57,3 +60,14 @@ module _ (negative : Bool) (n a b : ℕ) (e : a ≡ minusSigns negative n) (f : 
   fixed-stored out =
       stored out (replicate a 45) (digitsIn 10 b (n / 10 ^ 6)) (digitsIn 10 6 (n % 10 ^ 6)) a b (length-replicate {A = ℕ} a 45) (digits-length 10 b (n / 10 ^ 6))
       ∙ rw (← e, decimal-is (n / 10 ^ 6) b f)
+
+-- ---- a double
+module _ (x : Float) (out : List ℕ) where
+  pub unprinted : unprintable x ≡ true → (Unprintable ≡ fixedPrinted x out) × (out ≡ fixedOut x out)
+  unfolding fixedPrinted fixedOut
+  unprinted e = (rw e, rw e)
+
+  pub printed-fixed : unprintable x ≡ false → (negative : Bool) (n : ℕ) → negative ≡ sgn x → n ≡ millionths x
+      → (printed (fixed negative n) out ≡ fixedPrinted x out) × (laid (fixed negative n) out ≡ fixedOut x out)
+  unfolding fixedPrinted fixedOut fixedText
+  printed-fixed e negative n s m = (rw (e, s, m), rw (e, s, m))
