@@ -1,11 +1,11 @@
 -- The size of a double by its bits: in millionths, and whether it has a text. Assumes nothing.
-use mathlib.Core.Path.{_≡_, refl, sym, ap, _∙_, subst}
+use mathlib.Core.Path.{_≡_, sym, ap, _∙_, subst}
 use mathlib.Core.Logic.{_⊎_, inl, inr}
 use mathlib.Core.Bool.{Bool, true, false}
 use Prim.Native.Nat.{ℕ, zero, suc, _+_, _-_, _*_, _/_, _%_, _^_, _≤_, _<_}
-use native.Mathlib.Nat.{le-trans, le-of-eq, le-of-suc-le-suc, le-add-right, lt-of-lt-of-le, lt-of-le-of-lt, eq-or-lt-of-le, not-suc-le-zero, mod-eq-of-lt, mod-lt, mod-mod, mod-mod-of-dvd, add-sub-of-le, mul-assoc, mul-comm, mul-left-comm, mul-one, one-mul, mul-pos, mul-le-mul, mul-le-mul-left, mul-lt-mul-of-pos-right, mul-le-mul-right, pow-suc, zero-lt-suc, le-div-iff-mul-le, div-lt-iff-lt-mul}
+use native.Mathlib.Nat.{le-trans, le-of-eq, le-of-suc-le-suc, le-add-right, lt-of-lt-of-le, lt-of-le-of-lt, eq-or-lt-of-le, not-suc-le-zero, mod-eq-of-lt, mod-lt, mod-mod, add-sub-of-le, mul-assoc, mul-comm, one-mul, mul-pos, mul-le-mul, mul-le-mul-left, mul-lt-mul-of-pos-right, pow-suc, zero-lt-suc, le-div-iff-mul-le, div-lt-iff-lt-mul}
 use native.Mathlib.Omega.{arith}
-use lib.Dec.{T, leb, lit<, lit≤}
+use lib.Dec.{T, leb, lit≤}
 use lib.Pow.{pow-add, pow-pos, pow-mono, pow-lt}
 use borrow.Author.Tests.{le-leb, lt-leb}
 use lib.Ieee.{Float, binary64, ofFields, ofBits, toBits, fits}

@@ -1,11 +1,11 @@
 -- What a text begins with, and the parts of a word that may be a decimal. Assumes nothing.
 use mathlib.Core.Path.{_≡_, refl, sym, ap, _∙_, subst}
-use mathlib.Core.Bool.{Bool, true, false, cond, _&&_, _||_, false≢true}
-use mathlib.Core.List.{List, [], _∷_, _++_}
-use Prim.Native.Nat.{ℕ, zero, suc, _+_, _-_, _*_, _^_, _≤_, _<_, min}
+use mathlib.Core.Bool.{Bool, true, false, _&&_, false≢true}
+use mathlib.Core.List.{List}
+use Prim.Native.Nat.{ℕ, _+_, _-_, _*_, _^_, _≤_, _<_, min}
 use native.Mathlib.Nat.{le-of-eq, le-of-suc-le-suc, min-eq-right}
 use native.Mathlib.Omega.{arith}
-use lib.Dec.{ltb, eqb, leb}
+use lib.Dec.{ltb, eqb}
 use lib.ListN.{length, getD, drop, take, length-drop}
 use lib.Seq.{take-all}
 use lib.Ieee.{Float, binary64, ofBits}

@@ -2,4 +2,5 @@ pub mod Digits
 pub mod Number
 pub mod Cases
 pub mod Print
+pub mod Texts
 pub mod Limbs
