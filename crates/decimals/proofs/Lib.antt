@@ -10,3 +10,4 @@ pub mod Exponents
 pub mod Placed
 pub mod Fixed
 pub mod Sizes
+pub mod Back

@@ -4,3 +4,4 @@ pub mod Cases
 pub mod Print
 pub mod Texts
 pub mod Limbs
+pub mod Back
