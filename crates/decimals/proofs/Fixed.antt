@@ -12,7 +12,7 @@ use borrow.Author.Tests.{lt-ltb, le-ltb}
 use lib.Ieee.{Float}
 use Rattle.lists.proofs.Over.{sets-append}
 use Rattle.doubles.specs.Size.{sgn}
-use Rattle.decimals.specs.Digits.{digitsIn, decimal, places}
+use Rattle.decimals.specs.Digits.{digitsIn, decimalDigits, places}
 use Rattle.decimals.specs.Print.{printed, laid, minusSigns, fixed, millionths, fixedText, unprintable, fixedPrinted, fixedOut}
 use Rattle.decimals.specs.declared.Printed.the-variants.{Unprintable}
 use Rattle.decimals.proofs.Written.{digits-length, decimal-is, decimal-length}
@@ -50,9 +50,9 @@ module _ (negative : Bool) (n a b : ℕ) (e : a ≡ minusSigns negative n) (f : 
       let whole = decimal-length (n / 10 ^ 6) b f in
       let last = digits-length 10 6 (n % 10 ^ 6) in
       let behind : length (46 ∷ digitsIn 10 6 (n % 10 ^ 6)) ≡ 7 = ap suc last in
-      length-append (replicate (minusSigns negative n) 45) (decimal (n / 10 ^ 6) ++ (46 ∷ digitsIn 10 6 (n % 10 ^ 6)))
-      ∙ ap (length (replicate {A = ℕ} (minusSigns negative n) 45) +_) (length-append (decimal (n / 10 ^ 6)) (46 ∷ digitsIn 10 6 (n % 10 ^ 6)))
-      ∙ total (length (replicate {A = ℕ} (minusSigns negative n) 45)) (length (decimal (n / 10 ^ 6))) (length (46 ∷ digitsIn 10 6 (n % 10 ^ 6))) (front ∙ sym e) whole behind
+      length-append (replicate (minusSigns negative n) 45) (decimalDigits (n / 10 ^ 6) ++ (46 ∷ digitsIn 10 6 (n % 10 ^ 6)))
+      ∙ ap (length (replicate {A = ℕ} (minusSigns negative n) 45) +_) (length-append (decimalDigits (n / 10 ^ 6)) (46 ∷ digitsIn 10 6 (n % 10 ^ 6)))
+      ∙ total (length (replicate {A = ℕ} (minusSigns negative n) 45)) (length (decimalDigits (n / 10 ^ 6))) (length (46 ∷ digitsIn 10 6 (n % 10 ^ 6))) (front ∙ sym e) whole behind
 
   pub fixed-stored : (out : List ℕ)
       → sets (set (sets (sets out 0 (replicate a 45)) a (digitsIn 10 b (n / 10 ^ 6))) (a + b) 46) (a + b + 1) (digitsIn 10 6 (n % 10 ^ 6)) ≡ sets out 0 (fixed negative n)

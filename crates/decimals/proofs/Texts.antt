@@ -70,13 +70,13 @@ module _ (word : List ℕ) where
   pub pattern-length : isPattern word ≡ true → length word ≡ 18
   pattern-length e = eqb-true (length word) 18 (and-first _ _ (and-first _ _ (and-first _ _ e)))
 
-  pub pattern-run : isPattern word ≡ true → digitRun 16 (drop 2 word) ≡ 16
+  pattern-run : isPattern word ≡ true → digitRun 16 (drop 2 word) ≡ 16
   pattern-run e =
       eqb-true (digitRun 16 (drop 2 word)) 16
       (and-second (eqb (length word) 18 && eqb (getD word 0 0) 48 && eqb (getD word 1 0) 120) (eqb (digitRun 16 (drop 2 word)) 16) e)
 
   -- so the digits stand for a number of 64 bits
-  pub pattern-below : isPattern word ≡ true → numeral 16 0 (drop 2 word) ≤ 18446744073709551615
+  pattern-below : isPattern word ≡ true → numeral 16 0 (drop 2 word) ≤ 18446744073709551615
   pattern-below e =
       let n : length (drop 2 word) ≡ 16 = length-drop 2 word ∙ ap (_- 2) (pattern-length e) in
       let below = numeral-below 16 0 (drop 2 word) (each-fails (notDigit 16) 0 (drop 2 word) (pattern-run e ∙ sym n)) in

@@ -1,7 +1,7 @@
 pub mod Digits
 pub mod Number
-pub mod Cases
+pub mod ReadCases
 pub mod Print
-pub mod Texts
+pub mod PrintCases
 pub mod Limbs
 pub mod Back

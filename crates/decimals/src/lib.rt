@@ -15,7 +15,7 @@ use reading::double;
 use reading::is_pattern;
 use reading::past;
 ghost use mathlib.Core.Path.{_≡_};
-ghost use Rattle.decimals.specs.Digits.{digitsIn, decimal as decimal·of};
+ghost use Rattle.decimals.specs.Digits.{digitsIn, decimalDigits};
 ghost use Rattle.decimals.specs.Number.{numberOf};
 ghost use Rattle.decimals.specs.Print.{printed, laid, fixedPrinted, fixedOut};
 
@@ -34,13 +34,6 @@ pub enum NumberAnswer {
     TooManyDigits,
     // An exponent, or a last place, that is too large or too small.
     OutOfReach,
-}
-
-// The power of ten behind a decimal's digits.
-pub enum Exponent {
-    Up(u64),
-    Down(u64),
-    Malformed,
 }
 
 // What became of a text that was to be printed.
@@ -77,7 +70,7 @@ pub fn write_hex(n: u64, digits: usize, out: &mut [u8]) -> Printed
 
 // A natural number in decimal digits.
 pub fn write_count(n: u64, out: &mut [u8]) -> Printed
-    ensures { λ r. ⌜ (r ≡ printed (decimal·of n) (now (out .entry))) × (now (out .exit) ≡ laid (decimal·of n) (now (out .entry))) ⌝ }
+    ensures { λ r. ⌜ (r ≡ printed (decimalDigits n) (now (out .entry))) × (now (out .exit) ≡ laid (decimalDigits n) (now (out .entry))) ⌝ }
 {
     let count = count_places(n);
     if out.len() < count {

@@ -6,7 +6,7 @@ use Prim.Native.Nat.{ℕ}
 use lib.IntN.{pos, negsuc}
 use lib.Ieee.{Float, fin}
 use Rattle.doubles.specs.Size.{sgn, mag}
-use Rattle.decimals.specs.Digits.{digitsIn, decimal}
+use Rattle.decimals.specs.Digits.{digitsIn, decimalDigits}
 use Rattle.decimals.specs.Print.{fixedText}
 
 pub record Case : Type 0 where
@@ -60,6 +60,6 @@ pub hexadecimal : digitsIn 16 4 255 ≡ 48 ∷ 48 ∷ 102 ∷ 102 ∷ []
 unfolding digitsIn
 hexadecimal = refl
 
-pub count : decimal 1048576 ≡ 49 ∷ 48 ∷ 52 ∷ 56 ∷ 53 ∷ 55 ∷ 54 ∷ []
-unfolding decimal
+pub count : decimalDigits 1048576 ≡ 49 ∷ 48 ∷ 52 ∷ 56 ∷ 53 ∷ 55 ∷ 54 ∷ []
+unfolding decimalDigits
 count = refl
