@@ -4,4 +4,5 @@ pub mod ReadCases
 pub mod Print
 pub mod PrintCases
 pub mod Limbs
+pub mod Nearest
 pub mod Back
