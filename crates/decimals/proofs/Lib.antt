@@ -10,3 +10,5 @@ pub mod Exponents
 pub mod Placed
 pub mod Fixed
 pub mod Sizes
+pub mod Nearness
+pub mod Back

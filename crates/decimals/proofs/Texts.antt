@@ -1,11 +1,11 @@
 -- What a text begins with, and the parts of a word that may be a decimal. Assumes nothing.
 use mathlib.Core.Path.{_≡_, refl, sym, ap, _∙_, subst}
-use mathlib.Core.Bool.{Bool, true, false, cond, _&&_, _||_, false≢true}
-use mathlib.Core.List.{List, [], _∷_, _++_}
-use Prim.Native.Nat.{ℕ, zero, suc, _+_, _-_, _*_, _^_, _≤_, _<_, min}
+use mathlib.Core.Bool.{Bool, true, false, _&&_, false≢true}
+use mathlib.Core.List.{List}
+use Prim.Native.Nat.{ℕ, _+_, _-_, _*_, _^_, _≤_, _<_, min}
 use native.Mathlib.Nat.{le-of-eq, le-of-suc-le-suc, min-eq-right}
 use native.Mathlib.Omega.{arith}
-use lib.Dec.{ltb, eqb, leb}
+use lib.Dec.{ltb, eqb}
 use lib.ListN.{length, getD, drop, take, length-drop}
 use lib.Seq.{take-all}
 use lib.Ieee.{Float, binary64, ofBits}
@@ -70,13 +70,13 @@ module _ (word : List ℕ) where
   pub pattern-length : isPattern word ≡ true → length word ≡ 18
   pattern-length e = eqb-true (length word) 18 (and-first _ _ (and-first _ _ (and-first _ _ e)))
 
-  pub pattern-run : isPattern word ≡ true → digitRun 16 (drop 2 word) ≡ 16
+  pattern-run : isPattern word ≡ true → digitRun 16 (drop 2 word) ≡ 16
   pattern-run e =
       eqb-true (digitRun 16 (drop 2 word)) 16
       (and-second (eqb (length word) 18 && eqb (getD word 0 0) 48 && eqb (getD word 1 0) 120) (eqb (digitRun 16 (drop 2 word)) 16) e)
 
   -- so the digits stand for a number of 64 bits
-  pub pattern-below : isPattern word ≡ true → numeral 16 0 (drop 2 word) ≤ 18446744073709551615
+  pattern-below : isPattern word ≡ true → numeral 16 0 (drop 2 word) ≤ 18446744073709551615
   pattern-below e =
       let n : length (drop 2 word) ≡ 16 = length-drop 2 word ∙ ap (_- 2) (pattern-length e) in
       let below = numeral-below 16 0 (drop 2 word) (each-fails (notDigit 16) 0 (drop 2 word) (pattern-run e ∙ sym n)) in

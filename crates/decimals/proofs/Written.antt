@@ -1,8 +1,7 @@
 -- Digits that are written from the last to the first, and how many there are. Assumes nothing.
 use mathlib.Core.Path.{_≡_, refl, sym, ap, _∙_}
-use mathlib.Core.Bool.{cond}
 use mathlib.Core.List.{List, [], _∷_}
-use Prim.Native.Nat.{ℕ, zero, suc, _+_, _-_, _*_, _/_, _%_, _^_, _≤_, _<_}
+use Prim.Native.Nat.{ℕ, zero, suc, _+_, _-_, _/_, _%_, _^_, _≤_, _<_}
 use native.Mathlib.Nat.{not-suc-le-zero, le-of-eq, add-suc, suc-add, pow-suc, div-lt-iff-lt-mul, zero-lt-suc}
 use native.Mathlib.Numerals.{add-one, sub-one}
 use native.Mathlib.Omega.{arith}
@@ -11,7 +10,7 @@ use lib.Seq.{set-comm, sets}
 use lib.Arith.{lt-of-le-ne}
 use borrow.Author.Tests.{lt-ltb, le-ltb}
 use Rattle.lists.proofs.Over.{sets-append}
-use Rattle.decimals.specs.Digits.{digitOf, digitsIn, places, decimal}
+use Rattle.decimals.specs.Digits.{digitOf, digitsIn, places, decimalDigits}
 
 pub digits-length : (base count n : ℕ) → length (digitsIn base count n) ≡ count
 unfolding digitsIn
@@ -66,9 +65,9 @@ not-last count n h k l = lt-of-le-ne h (λ e. one-digit n k (rw e at l))
     one-digit n k l = omega arith
 
 -- the decimal digits of n, once they are counted
-pub decimal-is : (n count : ℕ) → count ≡ places 10 19 n → decimal n ≡ digitsIn 10 count n
-unfolding decimal
+pub decimal-is : (n count : ℕ) → count ≡ places 10 19 n → decimalDigits n ≡ digitsIn 10 count n
+unfolding decimalDigits
 decimal-is n count e = ap (λ (k : ℕ). digitsIn 10 k n) (sym e)
 
-pub decimal-length : (n count : ℕ) → count ≡ places 10 19 n → length (decimal n) ≡ count
+pub decimal-length : (n count : ℕ) → count ≡ places 10 19 n → length (decimalDigits n) ≡ count
 decimal-length n count e = ap length (decimal-is n count e) ∙ digits-length 10 count n

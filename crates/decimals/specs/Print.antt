@@ -8,7 +8,7 @@ use lib.Ieee.{Float, binary64}
 use lib.Ieee.Nearest.{closest}
 use Rattle.lists.specs.Over.{over}
 use Rattle.doubles.specs.Size.{sgn, mag}
-use Rattle.decimals.specs.Digits.{digitsIn, decimal}
+use Rattle.decimals.specs.Digits.{digitsIn, decimalDigits}
 use Rattle.decimals.specs.declared.Printed.{Printed}
 use Rattle.decimals.specs.declared.Printed.the-variants.{Text, TooShort, Unprintable}
 
@@ -30,8 +30,8 @@ minusSigns negative n = cond (negative && ltb 0 n) 1 0
 
 -- n millionths: the whole part, a point, six places
 unfoldable pub fixed : Bool → ℕ → List ℕ
-unfolding digitsIn decimal
-fixed negative n = replicate (minusSigns negative n) 45 ++ (decimal (n / 10 ^ 6) ++ (46 ∷ digitsIn 10 6 (n % 10 ^ 6)))
+unfolding digitsIn decimalDigits
+fixed negative n = replicate (minusSigns negative n) 45 ++ (decimalDigits (n / 10 ^ 6) ++ (46 ∷ digitsIn 10 6 (n % 10 ^ 6)))
 
 -- x to six places
 unfoldable pub fixedText : Float → List ℕ

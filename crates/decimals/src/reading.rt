@@ -1,5 +1,4 @@
 // A word taken apart as a decimal, and the number that it stands for.
-use super::Exponent;
 use super::NumberAnswer;
 use super::digits::digit_run;
 use super::digits::read_digits;
@@ -17,6 +16,13 @@ const TOO_MANY: u64 = 100_000_000_000_000_000;
 
 // The first exponent that is out of reach.
 const TOO_HIGH: u64 = 1000;
+
+// The power of ten behind a decimal's digits.
+enum Exponent {
+    Up(u64),
+    Down(u64),
+    Malformed,
+}
 
 // The text up to a place.
 fn front(text: &[u8], end: usize) -> &[u8]

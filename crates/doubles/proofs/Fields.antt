@@ -3,14 +3,12 @@ use mathlib.Core.Path.{_≡_, refl, sym, ap, _∙_}
 use mathlib.Core.Logic.{_⊎_, inl, inr}
 use mathlib.Core.Bool.{Bool, true, false, cond}
 use Prim.Native.Nat.{ℕ, zero, suc, _+_, _-_, _*_, _/_, _%_, _^_, _≤_, _<_}
-use native.Mathlib.Nat.{eq-or-lt-of-le, le-of-suc-le-suc, mul-one, mul-div-cancel, mod-mod, mod-mod-of-dvd, mod-lt, div-lt-iff-lt-mul, mul-pos, zero-lt-suc, lt-irrefl, lt-of-lt-of-le, le-of-eq, mul-comm}
-use native.Mathlib.Omega.{arith}
-use lib.Dec.{T, leb, eqb}
+use native.Mathlib.Nat.{eq-or-lt-of-le, le-of-suc-le-suc, mul-one, mul-div-cancel, mod-lt, div-lt-iff-lt-mul, mul-pos, zero-lt-suc, lt-irrefl, lt-of-lt-of-le, le-of-eq, mul-comm}
+use lib.Dec.{leb, eqb}
 use lib.Pow.{pow-pos}
 use borrow.Author.Tests.{eq-eqb, ne-eqb}
-use lib.Ieee.{Float, nan, inf, fin, Format, prec, low, up, down, odd, hid, ones, top, ofFields, ofBits, toBits, fits}
+use lib.Ieee.{Float, nan, inf, fin, Format, prec, low, down, odd, hid, ones, top, ofFields, ofBits}
 use lib.Ieee.Fits.{down-pos}
-use lib.Ieee.Bits.{ofBits-toBits}
 use lib.Ieee.Exact.{HasValue, odd-sign}
 use lib.Ieee.Scale.{overflow}
 use Rattle.doubles.specs.Size.{sgn, mag}

@@ -7,7 +7,6 @@ use native.Mathlib.Omega.{arith}
 use lib.ListN.{length, length-set}
 use lib.Seq.{sets}
 use borrow.Author.Needs.{needs}
-use denote.Ref.{now}
 use Rattle.decimals.specs.Digits.{digitsIn}
 use Rattle.decimals.proofs.Written.{sets-back, sets-none}
 use Rattle.decimals.proofs.digits.put_digits.Statement.{statement}

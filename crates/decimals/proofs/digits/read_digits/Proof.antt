@@ -1,7 +1,7 @@
 -- `decimals::digits::read_digits` meets its contract. The loop's invariant: the digits from i on, after those that stand for n, stand for the whole
 -- number. Assumes nothing.
-use mathlib.Core.Path.{_≡_, refl, sym, ap, _∙_}
-use Prim.Native.Nat.{ℕ, _≤_, _<_, _-_, _+_, _*_, min}
+use mathlib.Core.Path.{_≡_, refl, sym, _∙_}
+use Prim.Native.Nat.{_≤_, _-_, _+_, _*_}
 use native.Mathlib.Nat.{le-trans, le-of-eq, min-eq-left, min-eq-right}
 use native.Mathlib.Omega.{arith}
 use lib.ListN.{length, getD, drop, drop-of-length-le}

@@ -1,5 +1,4 @@
 -- `decimals::printing::minus_signs` meets its contract. Assumes nothing.
-use borrow.Author.Needs.{needs}
 use borrow.Author.Tests.{not-true, not-false}
 use Rattle.decimals.proofs.Fixed.{no-sign, no-sign-of-zero, one-sign}
 use Rattle.decimals.proofs.printing.minus_signs.Statement.{statement}

@@ -1,6 +1,5 @@
 -- `decimals::reading::no_digits` meets its contract. Assumes nothing.
 use lib.ListN.{length}
-use borrow.Author.Needs.{needs}
 use borrow.Author.Tests.{eq-eqb, ne-eqb}
 use denote.Ref.{now}
 use Rattle.decimals.proofs.reading.no_digits.Statement.{statement}
