@@ -4,6 +4,7 @@ mod answers;
 pub mod designs;
 mod figures;
 pub mod names;
+pub mod params;
 pub mod search;
 mod stored;
 

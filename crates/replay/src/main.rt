@@ -1,6 +1,6 @@
 // Replays the list of the Rust's answers, data/answers, whose head says how a line is written and which command made it. Each
 // question is asked of the port again, and a line that does not say what the port answers, bit for bit, is a difference; so is a
-// line that is not written as the head says.
+// line that is not written as the head says. Then it replays data/false, whose every answer was falsified, and has to report each.
 mod about;
 mod designs;
 mod kind;
@@ -254,8 +254,7 @@ fn summarize(tally: Tally) {
     print_kind(tally, Kind::Unknown);
 }
 
-fn main() {
-    let path = b"answers";
+fn replay_list(path: &[u8]) {
     let fd = os::open_read(path);
     if fd < 0 {
         os::fail(path);
@@ -263,4 +262,10 @@ fn main() {
     }
     summarize(replay(fd));
     libc::close(fd);
+}
+
+fn main() {
+    replay_list(b"answers");
+    print(b"of lines that are false:\n");
+    replay_list(b"false");
 }

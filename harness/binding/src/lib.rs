@@ -8,6 +8,7 @@
 mod deck;
 mod design;
 mod names;
+mod params;
 mod sequences;
 mod temperature;
 
@@ -20,6 +21,7 @@ pub use design::{
     state_reply, states_count, states_reply, strand_bond, strand_bond_reply, Design,
 };
 pub use names::{name_is_base, name_length, name_reply, name_start, strand_glues_reply, Names};
+pub use params::{params_reply, Built, Params};
 pub use sequences::{
     loop_dg, loop_reply, pair_dg, pair_ds, pair_reply, pair_strength, pair_strength_reply,
     sequence_dg, sequence_ds, sequence_reply, sequence_strength, sequence_strength_reply,

@@ -43,6 +43,15 @@ impl Filled<u8> {
     }
 }
 
+impl Filled<f64> {
+    pub fn doubles(length: usize) -> Self {
+        Filled {
+            slice: vec![-1.25e-77; length],
+            before: -1.25e-77,
+        }
+    }
+}
+
 impl<T: PartialEq> Filled<T> {
     pub fn is_kept(&self) -> bool {
         self.slice.iter().all(|entry| *entry == self.before)

@@ -66,6 +66,7 @@ pub fn all() -> Vec<Box<dyn Kind>> {
         Box::new(ambient::Ambients),
         Box::new(deck::Decks),
         Box::new(names::Names),
+        Box::new(parameters::ParameterSets),
         Box::new(design::Designs::default()),
         Box::new(ties::Ties::default()),
         Box::new(raw::RawDesigns),
