@@ -12,6 +12,8 @@ use Rattle.utils.specs.Single.{stringDnaDgDs}
 use Rattle.utils.specs.Pair.{sequencePairDgDs}
 use Rattle.utils.specs.Loops.{loopPenalty}
 use Rattle.utils.specs.Strength.{sequenceStrength, pairStrength}
+use Rattle.sdc_common.specs.Calls.{NameFigures, selfAndInverse}
+use Rattle.exports.specs.Flag.{flag}
 use Rattle.replay.specs.Text.{upTo, past, hexText, Decimal}
 use Rattle.replay.specs.Says.{blank, Says}
 
@@ -71,3 +73,10 @@ pub record AmbientLine (words : List ℕ) : Type 0 where
   pub kelvin : ℕ
   pub first : word words ≡ hexText kelvin
   pub answer : SaysAmbient (later words) (ambientAt (ofBits binary64 kelvin))
+
+-- NAME: the length of its base, and 1 where the name stands for it
+abbrev pub SaysName : List ℕ → NameFigures → Type 0
+SaysName words f = Says words (f .number) (f .size ∷ flag (f .from) ∷ [])
+
+abbrev pub NameLine : List ℕ → Type 0
+NameLine words = SaysName (later words) (selfAndInverse (letters (word words)) 0 (length (letters (word words))))

@@ -8,6 +8,7 @@ pub(crate) enum Kind {
     Strength,
     Strength2,
     Ambient,
+    Name,
     StrandBond,
     ScaffoldBond,
     Friends,
@@ -22,7 +23,7 @@ pub(crate) enum Kind {
 
 impl Kind {
     pub(crate) fn index(self) -> usize
-        ensures { λ r. ⌜ r < 16 ⌝ }
+        ensures { λ r. ⌜ r < 17 ⌝ }
     {
         match self {
             Kind::Sequence => 0,
@@ -31,21 +32,22 @@ impl Kind {
             Kind::Strength => 3,
             Kind::Strength2 => 4,
             Kind::Ambient => 5,
-            Kind::StrandBond => 6,
-            Kind::ScaffoldBond => 7,
-            Kind::Friends => 8,
-            Kind::Count => 9,
-            Kind::State => 10,
-            Kind::StateEnergy => 11,
-            Kind::ChainEnergy => 12,
-            Kind::Search => 13,
-            Kind::Settled => 14,
-            Kind::Unknown => 15,
+            Kind::Name => 6,
+            Kind::StrandBond => 7,
+            Kind::ScaffoldBond => 8,
+            Kind::Friends => 9,
+            Kind::Count => 10,
+            Kind::State => 11,
+            Kind::StateEnergy => 12,
+            Kind::ChainEnergy => 13,
+            Kind::Search => 14,
+            Kind::Settled => 15,
+            Kind::Unknown => 16,
         }
     }
 }
 
-// The kind of a line about sequences, loops and temperatures.
+// The kind of a line about sequences, loops, temperatures and names.
 fn of_sequences(word: &[u8]) -> Kind {
     if check::same(word, b"seq") {
         return Kind::Sequence;
@@ -64,6 +66,9 @@ fn of_sequences(word: &[u8]) -> Kind {
     }
     if check::same(word, b"ambient") {
         return Kind::Ambient;
+    }
+    if check::same(word, b"name") {
+        return Kind::Name;
     }
     Kind::Unknown
 }

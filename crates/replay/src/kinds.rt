@@ -2,7 +2,7 @@
 // whether the rest of the line says what the call answered.
 ghost use mathlib.Core.Path.{_≡_};
 ghost use mathlib.Core.Bool.{true};
-ghost use Rattle.replay.specs.Kinds.{letters as letters·of, SequenceLine, PairLine, LoopLine, StrengthLine, Strength2Line, AmbientLine};
+ghost use Rattle.replay.specs.Kinds.{letters as letters·of, SequenceLine, PairLine, LoopLine, StrengthLine, Strength2Line, AmbientLine, NameLine};
 use crate::numbers::Number;
 use crate::numbers::decimal;
 use crate::numbers::double;
@@ -104,5 +104,17 @@ pub(crate) fn ambient(words: &[u8]) -> bool
         exports::mj_ambient_strand_excess(kelvin),
         exports::mj_ambient_scaffold_excess(kelvin),
     ];
+    says(past(words, b' '), reply, &figures)
+}
+
+pub(crate) fn name(words: &[u8]) -> bool
+    ensures { λ r. ⌜ (r ≡ true → NameLine (now (words .entry))) ⌝ }
+{
+    let s = letters(up_to(words, b' '));
+    let n = s.len();
+    let reply = exports::names::mj_name_reply(s, 0, n);
+    let size = exports::names::mj_name_length(s, 0, n);
+    let is_base = exports::names::mj_name_is_base(s, 0, n);
+    let figures = [size as u64, is_base as u64];
     says(past(words, b' '), reply, &figures)
 }

@@ -18,8 +18,8 @@ use libc::STDOUT_FILENO;
 
 // How many lines of each kind were compared, and how many of them differ.
 struct Tally {
-    compared: [u64; 16],
-    differ: [u64; 16],
+    compared: [u64; 17],
+    differ: [u64; 17],
 }
 
 // How far the list was replayed: what was counted, the design that lines have set, the number of the next line and the place where it starts.
@@ -42,6 +42,7 @@ fn print_name(kind: Kind) {
         Kind::Strength => print(b"strength"),
         Kind::Strength2 => print(b"strength2"),
         Kind::Ambient => print(b"ambient"),
+        Kind::Name => print(b"name"),
         Kind::StrandBond => print(b"sbond"),
         Kind::ScaffoldBond => print(b"cbond"),
         Kind::Friends => print(b"friends"),
@@ -64,6 +65,7 @@ fn agrees(kind: Kind, words: &[u8], design: Design) -> bool {
         Kind::Strength => kinds::strength(words),
         Kind::Strength2 => kinds::strength2(words),
         Kind::Ambient => kinds::ambient(words),
+        Kind::Name => kinds::name(words),
         _ => about::agrees(kind, words, design),
     }
 }
@@ -205,8 +207,8 @@ fn replay_next(fd: i32, progress: Progress) -> Progress {
 fn replay(fd: i32) -> Tally {
     let mut progress = Progress {
         tally: Tally {
-            compared: [0; 16],
-            differ: [0; 16],
+            compared: [0; 17],
+            differ: [0; 17],
         },
         design: about::begun(b""),
         number: 1,
@@ -242,6 +244,7 @@ fn summarize(tally: Tally) {
     print_kind(tally, Kind::Strength);
     print_kind(tally, Kind::Strength2);
     print_kind(tally, Kind::Ambient);
+    print_kind(tally, Kind::Name);
     print_kind(tally, Kind::StrandBond);
     print_kind(tally, Kind::ScaffoldBond);
     print_kind(tally, Kind::Friends);

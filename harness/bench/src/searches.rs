@@ -46,12 +46,16 @@ pub fn remarks() -> Vec<String> {
         remarks.push(format!("{positions:44} {:9.1}", port / positions as f64));
     }
     let smallest = Rc::new(settling(20, 3, 3));
-    let (check, whole) = measure(&mut check_and_whole(&smallest));
-    remarks.push(format!(
-        "port, 20 x 3 friends of 3 strands: {whole:.1} ns, of which the check of {} cells {check:.1}, or {:.0} %",
-        2 * CELLS,
-        100.0 * check / whole
-    ));
+    let check = count_of_no_position(&smallest);
+    let (check, whole) = measure(&mut beside_the_search(&smallest, check));
+    let share = |part: f64, whole: f64| format!("{part:.1}, or {:.0} %", 100.0 * part / whole);
+    remarks.push(format!("port, 20 x 3 friends of 3 strands: {whole:.1} ns"));
+    let checked = share(check, whole);
+    remarks.push(format!("  the check of {} cells: {checked}", 2 * CELLS));
+    let fixed = search_of_no_position(&smallest);
+    let (fixed, whole) = measure(&mut beside_the_search(&smallest, fixed));
+    let fixed = share(fixed, whole);
+    remarks.push(format!("  all that hangs on no position: {fixed}"));
     remarks
 }
 
@@ -143,21 +147,40 @@ fn search_of_port(both: &Rc<Both>) -> Box<dyn FnMut()> {
     })
 }
 
-/// The port on both sides: the same tables without a position, of which nothing is left to do after
-/// the check, and the whole design.
-fn check_and_whole(both: &Rc<Both>) -> Row {
-    let tables = both.clone();
+/// The same tables without a position.
+fn without_positions(both: &Both) -> mj::Design<'_> {
+    mj::Design {
+        scaffold: &[],
+        ..both.port()
+    }
+}
+
+/// Of which nothing is left to do after the check.
+fn count_of_no_position(both: &Rc<Both>) -> Box<dyn FnMut()> {
+    let both = both.clone();
+    Box::new(move || {
+        black_box(mj::states_count(black_box(without_positions(&both))));
+    })
+}
+
+/// The check, and what the search sets up before it comes to a position.
+fn search_of_no_position(both: &Rc<Both>) -> Box<dyn FnMut()> {
+    let both = both.clone();
+    Box::new(move || {
+        black_box(mj::search_energy(
+            black_box(without_positions(&both)),
+            &mut [],
+        ));
+    })
+}
+
+/// The port on both sides: a part of its work, and the whole search.
+fn beside_the_search(both: &Rc<Both>, part: Box<dyn FnMut()>) -> Row {
     Row {
         label: String::new(),
         cleared: WARM,
         inputs: 1,
-        rust: Box::new(move || {
-            let design = mj::Design {
-                scaffold: &[],
-                ..tables.port()
-            };
-            black_box(mj::search_energy(black_box(design), &mut []));
-        }),
+        rust: part,
         port: search_of_port(both),
     }
 }

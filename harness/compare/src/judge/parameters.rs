@@ -286,3 +286,6 @@ impl Lent {
             .collect()
     }
 }
+
+#[cfg(test)]
+mod tests;

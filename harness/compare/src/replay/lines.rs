@@ -21,6 +21,7 @@ pub fn lines() -> Vec<Line> {
     loops(&mut lines);
     strengths(&mut random, &mut lines);
     ambients(&mut random, &mut lines);
+    names(&mut lines);
     lines.dedup();
     lines
 }
@@ -168,6 +169,16 @@ fn ambients(random: &mut Random, lines: &mut Vec<Line>) {
     }
 }
 
+/// Stars at the end, in front and inside; names of the full length and beyond.
+fn names(lines: &mut Vec<Line>) {
+    lines.extend(all_sequences(b"a*", 5).into_iter().map(Line::Name));
+    for stars in [0, 1, 2, 3, 60, 61, 62, 63, 64, 65] {
+        let name = [b"g0".as_slice(), &vec![b'*'; stars]].concat();
+        lines.push(Line::Name(name));
+        lines.push(Line::Name(vec![b'*'; stars]));
+    }
+}
+
 #[cfg(test)]
 mod tests {
     use super::*;
@@ -196,13 +207,14 @@ mod tests {
                 (kind, line.verdict().number())
             })
             .collect();
-        let owed: [(&str, &[u32]); 6] = [
+        let owed: [(&str, &[u32]); 7] = [
             ("seq", &[0, 1, 2, 3]),
             ("pair", &[0, 1, 2, 4, 5]),
             ("loop", &[0, 5]),
             ("strength", &[0, 1, 2, 3, 9]),
             ("strength2", &[0, 1, 2, 4, 5, 9]),
             ("ambient", &[0, 9]),
+            ("name", &[0, 1]),
         ];
         for (kind, replies) in owed {
             for number in replies {

@@ -4,10 +4,10 @@
 mod designs;
 mod lines;
 
-use crate::judge::{sequences, temperature, Verdict};
+use crate::judge::{parameters, sequences, temperature, Verdict};
 use crate::kinds::ambient::WHOLE_FROM;
 use crate::program::Program;
-use protocol::{bits, sequence_word, Reply};
+use protocol::{bits, bytes, sequence_word, Reply};
 use std::collections::BTreeSet;
 
 pub use lines::lines;
@@ -19,6 +19,7 @@ pub const HEADER: &str = "\
 #   loop LENGTH KIND                 ok DG
 #   strength E S, strength2 E A B    ok STRENGTH
 #   ambient KELVIN                   ok RT STRAND_EXCESS SCAFFOLD_EXCESS
+#   name N                           ok LENGTH IS_BASE: of its base; 1 where the name stands for the base. In 16 hex digits
 # A design is set by lines that are no questions, one number each, and holds for the questions that follow:
 #   design POSITIONS STRANDS RT STRAND_EXCESS SCAFFOLD_EXCESS   begins one whose other numbers are all 0
 #   scaffold I GLUE, glue I GLUE, potential I X, dg I X, ds I X   set entry I of a slice
@@ -29,7 +30,7 @@ pub const HEADER: &str = "\
 #   chain PLACES                     ok SUM ENERGY
 #   mfe, settled                     ok ENERGY, ok PLACES: what the search answers
 # or, in place of ok and its figures, refused NUMBER. Doubles are 16 hex digits, other numbers decimal.
-# A sequence stands as it is, an empty one as -. PLACES are a byte for each place, 48 and the number of its strand, so
+# A sequence or a name stands as it is, an empty one as -. PLACES are a byte for each place, 48 and the number of its strand, so
 # that 0 is an empty place; with no places they are -. Below 256 K the Rust's strand excess can be another number than
 # document 01's T - 310.15; there the Rust's scaffold excess, which is that, stands for both.
 ";
@@ -93,6 +94,7 @@ pub enum Line {
     Strength(f64, Vec<u8>),
     Strength2(f64, Vec<u8>, Vec<u8>),
     Ambient(f64),
+    Name(Vec<u8>),
 }
 
 impl Line {
@@ -107,6 +109,7 @@ impl Line {
                 format!("strength2 {} {} {}", bits(*excess), letters(a), letters(b))
             }
             Line::Ambient(kelvin) => format!("ambient {}", bits(*kelvin)),
+            Line::Name(name) => format!("name {}", letters(name)),
         }
     }
 
@@ -122,6 +125,7 @@ impl Line {
                 format!("strengthx {} {} {}", bits(*excess), word(a), word(b))
             }
             Line::Ambient(kelvin) => format!("ambient K {}", bits(*kelvin)),
+            Line::Name(name) => format!("name {}", word(name)),
         }
     }
 
@@ -133,6 +137,7 @@ impl Line {
             Line::Strength(excess, s) => sequences::sequence_strength(s, *excess),
             Line::Strength2(excess, a, b) => sequences::pair_strength(a, b, *excess),
             Line::Ambient(kelvin) => temperature::ambient(*kelvin),
+            Line::Name(name) => parameters::name_verdict(name, 0, name.len()),
         }
     }
 
@@ -148,13 +153,19 @@ impl Line {
                 let one_excess = strand == scaffold || *kelvin < WHOLE_FROM;
                 (one_rt && one_excess).then(|| format!("{rt} {scaffold} {scaffold}"))
             }
+            (Line::Name(_), [base, is_base]) => {
+                let length = bytes(base).ok()??.len();
+                let is_base: u8 = is_base.parse().ok()?;
+                Some(format!("{length:016x} {is_base:016x}"))
+            }
             _ => None,
         }
     }
 }
 
 fn letters(s: &[u8]) -> String {
-    assert!(s.iter().all(u8::is_ascii_alphanumeric), "letters alone");
+    let stands = |byte: &u8| byte.is_ascii_alphanumeric() || *byte == b'*';
+    assert!(s.iter().all(stands), "letters, digits and stars alone");
     match s {
         [] => "-".to_string(),
         letters => letters.iter().map(|byte| *byte as char).collect(),
