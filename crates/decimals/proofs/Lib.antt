@@ -1,2 +1,14 @@
 pub mod Written
 pub mod Room
+pub mod Values
+pub mod Powers
+pub mod Quotient
+pub mod Bits
+pub mod Worth
+pub mod Texts
+pub mod Exponents
+pub mod Placed
+pub mod Fixed
+pub mod Sizes
+pub mod Nearness
+pub mod Back

@@ -1,46 +1,48 @@
 -- Digits that are written from the last to the first, and how many there are. Assumes nothing.
 use mathlib.Core.Path.{_≡_, refl, sym, ap, _∙_}
-use mathlib.Core.Bool.{cond}
-use mathlib.Core.List.{List, [], _∷_, _++_, append-assoc}
-use Prim.Native.Nat.{ℕ, zero, suc, _+_, _-_, _*_, _/_, _%_, _^_, _≤_, _<_}
-use native.Mathlib.Nat.{not-suc-le-zero, pow-suc, div-lt-iff-lt-mul, zero-lt-suc}
+use mathlib.Core.List.{List, [], _∷_}
+use Prim.Native.Nat.{ℕ, zero, suc, _+_, _-_, _/_, _%_, _^_, _≤_, _<_}
+use native.Mathlib.Nat.{not-suc-le-zero, le-of-eq, add-suc, suc-add, pow-suc, div-lt-iff-lt-mul, zero-lt-suc}
 use native.Mathlib.Numerals.{add-one, sub-one}
 use native.Mathlib.Omega.{arith}
-use lib.ListN.{length, drop, set, length-append, length-set}
-use lib.Seq.{drop-cons, drop-set-lt, getD-set-same}
+use lib.ListN.{length, set, length-append}
+use lib.Seq.{set-comm, sets}
 use lib.Arith.{lt-of-le-ne}
 use borrow.Author.Tests.{lt-ltb, le-ltb}
-use Rattle.lists.specs.Over.{over}
-use Rattle.decimals.specs.Digits.{digitOf, digitsIn, places, decimal}
+use Rattle.lists.proofs.Over.{sets-append}
+use Rattle.decimals.specs.Digits.{digitOf, digitsIn, places, decimalDigits}
 
 pub digits-length : (base count n : ℕ) → length (digitsIn base count n) ≡ count
 unfolding digitsIn
 digits-length base zero n = refl
 digits-length base (suc count) n = length-append (digitsIn base count (n / base)) (digitOf (n % base) ∷ []) ∙ rw (digits-length base count (n / base)) (add-one count)
 
--- the list from a place on, once an element is stored there
-from-set : {A : Type 0} (xs : List A) (i : ℕ) (x : A) → i < length xs → drop i (set xs i x) ≡ x ∷ drop (suc i) xs
-from-set xs i x h =
-    drop-cons (set xs i x) i x (rw length-set h) ∙ rw (getD-set-same xs i x x h, drop-set-lt (suc i) xs i x (omega arith))
+-- what is stored behind a run may be stored before it
+set-behind : {A : Type 0} (xs : List A) (at : ℕ) (ys : List A) (j : ℕ) (y : A) → at + length ys ≤ j → set (sets xs at ys) j y ≡ sets (set xs j y) at ys
+set-behind xs at [] j y h = refl
+set-behind xs at (z ∷ ys) j y h =
+    set-behind (set xs at z) (suc at) ys j y (rw (add-suc, ← suc-add at (length ys)) at h) ∙ ap (λ l. sets l (suc at) ys) (set-comm xs at j z y (λ (e : at ≡ j). omega arith))
 
 -- the last digit stored, the others are still to come
-over-more : (base i n : ℕ) (out : List ℕ) → i < length out
-    → over (digitsIn base (suc i) n) out ≡ over (digitsIn base i (n / base)) (set out i (digitOf (n % base)))
-unfolding over digitsIn
-over-more base i n out h =
+sets-more : (base i n at : ℕ) (out : List ℕ) → sets (set out (at + i) (digitOf (n % base))) at (digitsIn base i (n / base)) ≡ sets out at (digitsIn base (suc i) n)
+unfolding digitsIn
+sets-more base i n at out =
     let front = digitsIn base i (n / base) in
     let last = digitOf (n % base) in
-    rw (length-append front (last ∷ []), digits-length base i (n / base), append-assoc front (last ∷ []), add-one i)
-    (ap (front ++_) (sym (from-set out i last h)))
+    let size = digits-length base i (n / base) in
+    sym
+    (sets-append out at front (last ∷ [])
+    ∙ ap (λ k. set (sets out at front) (at + k) last) size
+    ∙ set-behind out at front (at + i) last (le-of-eq (ap (at +_) size)))
 
-pub over-back : (base i n : ℕ) (out : List ℕ) → 0 < i → i ≤ length out
-    → over (digitsIn base (i - 1) (n / base)) (set out (i - 1) (digitOf (n % base))) ≡ over (digitsIn base i n) out
-over-back base zero n out p h = absurd (not-suc-le-zero p)
-over-back base (suc i) n out p h = simp sub-one (sym (over-more base i n out h))
+pub sets-back : (base i n at : ℕ) (out : List ℕ) → 0 < i
+    → sets (set out (at + (i - 1)) (digitOf (n % base))) at (digitsIn base (i - 1) (n / base)) ≡ sets out at (digitsIn base i n)
+sets-back base zero n at out p = absurd (not-suc-le-zero p)
+sets-back base (suc i) n at out p = simp sub-one (sets-more base i n at out)
 
-pub over-none : (base n : ℕ) (out : List ℕ) → over (digitsIn base 0 n) out ≡ out
-unfolding over digitsIn
-over-none base n out = refl
+pub sets-none : (base n at : ℕ) (out : List ℕ) → sets out at (digitsIn base 0 n) ≡ out
+unfolding digitsIn
+sets-none base n at out = refl
 
 -- 10 divides out of a number of two digits or more
 pub places-more : (more n : ℕ) → 10 ≤ n → places 10 (suc more) n ≡ suc (places 10 more (n / 10))
@@ -63,9 +65,9 @@ not-last count n h k l = lt-of-le-ne h (λ e. one-digit n k (rw e at l))
     one-digit n k l = omega arith
 
 -- the decimal digits of n, once they are counted
-pub decimal-is : (n count : ℕ) → count ≡ places 10 19 n → decimal n ≡ digitsIn 10 count n
-unfolding decimal
+pub decimal-is : (n count : ℕ) → count ≡ places 10 19 n → decimalDigits n ≡ digitsIn 10 count n
+unfolding decimalDigits
 decimal-is n count e = ap (λ (k : ℕ). digitsIn 10 k n) (sym e)
 
-pub decimal-length : (n count : ℕ) → count ≡ places 10 19 n → length (decimal n) ≡ count
+pub decimal-length : (n count : ℕ) → count ≡ places 10 19 n → length (decimalDigits n) ≡ count
 decimal-length n count e = ap length (decimal-is n count e) ∙ digits-length 10 count n

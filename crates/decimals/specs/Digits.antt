@@ -45,6 +45,6 @@ places base zero n = 1
 places base (suc more) n = cond (ltb n base) 1 (suc (places base more (n / base)))
 
 -- n below 10 ^ 20 in decimal digits
-unfoldable pub decimal : ℕ → List ℕ
+unfoldable pub decimalDigits : ℕ → List ℕ
 unfolding digitsIn places
-decimal n = digitsIn 10 (places 10 19 n) n
+decimalDigits n = digitsIn 10 (places 10 19 n) n

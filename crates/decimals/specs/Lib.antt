@@ -1,5 +1,8 @@
 pub mod Digits
 pub mod Number
-pub mod Cases
+pub mod ReadCases
 pub mod Print
+pub mod PrintCases
 pub mod Limbs
+pub mod Nearest
+pub mod Back

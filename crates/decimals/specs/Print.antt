@@ -1,14 +1,14 @@
 -- The texts that numbers are printed as, and what printing one into a lent slice answers and leaves there.
 use mathlib.Core.Bool.{Bool, cond, _&&_}
-use mathlib.Core.List.{List, [], _∷_, _++_}
+use mathlib.Core.List.{List, _∷_, _++_}
 use Prim.Native.Nat.{ℕ, _*_, _/_, _%_, _^_}
 use lib.Dec.{leb, ltb}
-use lib.ListN.{length}
+use lib.ListN.{length, replicate}
 use lib.Ieee.{Float, binary64}
 use lib.Ieee.Nearest.{closest}
 use Rattle.lists.specs.Over.{over}
 use Rattle.doubles.specs.Size.{sgn, mag}
-use Rattle.decimals.specs.Digits.{digitsIn, decimal}
+use Rattle.decimals.specs.Digits.{digitsIn, decimalDigits}
 use Rattle.decimals.specs.declared.Printed.{Printed}
 use Rattle.decimals.specs.declared.Printed.the-variants.{Text, TooShort, Unprintable}
 
@@ -24,10 +24,14 @@ laid text out = cond (ltb (length out) (length text)) out (over text out)
 unfoldable pub millionths : Float → ℕ
 millionths x = closest (mag binary64 x * 10 ^ 6) (2 ^ 1074)
 
--- n millionths: the whole part, a point, six places; no sign where all is 0
+-- how many minus signs stand in front: one, but none where all is 0
+abbrev pub minusSigns : Bool → ℕ → ℕ
+minusSigns negative n = cond (negative && ltb 0 n) 1 0
+
+-- n millionths: the whole part, a point, six places
 unfoldable pub fixed : Bool → ℕ → List ℕ
-unfolding digitsIn decimal
-fixed negative n = cond (negative && ltb 0 n) (45 ∷ []) [] ++ decimal (n / 10 ^ 6) ++ (46 ∷ digitsIn 10 6 (n % 10 ^ 6))
+unfolding digitsIn decimalDigits
+fixed negative n = replicate (minusSigns negative n) 45 ++ (decimalDigits (n / 10 ^ 6) ++ (46 ∷ digitsIn 10 6 (n % 10 ^ 6)))
 
 -- x to six places
 unfoldable pub fixedText : Float → List ℕ

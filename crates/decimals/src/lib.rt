@@ -1,11 +1,29 @@
 // Numbers as text: the words of a design file read as doubles, and figures printed.
 mod digits;
+mod limbs;
+mod printing;
+mod reading;
+mod rounding;
 
 use digits::count_places;
 use digits::put_digits;
+use digits::read_digits;
+use printing::in_millionths;
+use printing::write_millionths;
+use reading::decimal;
+use reading::double;
+use reading::is_pattern;
+use reading::past;
 ghost use mathlib.Core.Path.{_≡_};
-ghost use Rattle.decimals.specs.Digits.{digitsIn, decimal};
-ghost use Rattle.decimals.specs.Print.{printed, laid};
+ghost use Rattle.decimals.specs.Digits.{digitsIn, decimalDigits};
+ghost use Rattle.decimals.specs.Number.{numberOf};
+ghost use Rattle.decimals.specs.Print.{printed, laid, fixedPrinted, fixedOut};
+
+// The bit of the sign.
+const SIGN: u64 = 0x8000_0000_0000_0000;
+
+// The bits of 2 ^ 43.
+const UNPRINTABLE: u64 = 0x42a0_0000_0000_0000;
 
 // What a word of a design file is as a number, or why it is none.
 pub enum NumberAnswer {
@@ -18,13 +36,6 @@ pub enum NumberAnswer {
     OutOfReach,
 }
 
-// The power of ten behind a decimal's digits.
-pub enum Exponent {
-    Up(u64),
-    Down(u64),
-    Malformed,
-}
-
 // What became of a text that was to be printed.
 pub enum Printed {
     // Its length: it stands in the first lent bytes.
@@ -35,6 +46,17 @@ pub enum Printed {
     Unprintable,
 }
 
+// Reads a word of a design file as a number.
+pub fn read_number(word: &[u8]) -> NumberAnswer
+    ensures { λ r. ⌜ r ≡ numberOf (now (word .entry)) ⌝ }
+{
+    if is_pattern(word) {
+        let bits = read_digits(past(word, 2), 16, 0, 0xffff_ffff_ffff_ffff);
+        return NumberAnswer::Number(double(bits));
+    }
+    decimal(word)
+}
+
 // The last `digits` hexadecimal digits of n, in lower case: 16 are the bits of a double, 8 a word of a deck.
 pub fn write_hex(n: u64, digits: usize, out: &mut [u8]) -> Printed
     ensures { λ r. ⌜ (r ≡ printed (digitsIn 16 digits n) (now (out .entry))) × (now (out .exit) ≡ laid (digitsIn 16 digits n) (now (out .entry))) ⌝ }
@@ -42,18 +64,31 @@ pub fn write_hex(n: u64, digits: usize, out: &mut [u8]) -> Printed
     if out.len() < digits {
         return Printed::TooShort;
     }
-    put_digits(n, 16, digits, out);
+    put_digits(n, 16, digits, 0, out);
     Printed::Text(digits)
 }
 
 // A natural number in decimal digits.
 pub fn write_count(n: u64, out: &mut [u8]) -> Printed
-    ensures { λ r. ⌜ (r ≡ printed (decimal n) (now (out .entry))) × (now (out .exit) ≡ laid (decimal n) (now (out .entry))) ⌝ }
+    ensures { λ r. ⌜ (r ≡ printed (decimalDigits n) (now (out .entry))) × (now (out .exit) ≡ laid (decimalDigits n) (now (out .entry))) ⌝ }
 {
     let count = count_places(n);
     if out.len() < count {
         return Printed::TooShort;
     }
-    put_digits(n, 10, count, out);
+    put_digits(n, 10, count, 0, out);
     Printed::Text(count)
+}
+
+// A double with six places: the nearest such decimal, of two equally near the one whose last digit is even. What rounds to 0 has no sign.
+// 2 ^ 43 in size and more, infinities and NaN are unprintable.
+pub fn write_fixed(x: f64, out: &mut [u8]) -> Printed
+    ensures { λ r. ⌜ (r ≡ fixedPrinted x (now (out .entry))) × (now (out .exit) ≡ fixedOut x (now (out .entry))) ⌝ }
+{
+    let bits = doubles::bits(x);
+    let size = bits % SIGN;
+    if UNPRINTABLE <= size {
+        return Printed::Unprintable;
+    }
+    write_millionths(SIGN <= bits, in_millionths(size), out)
 }

@@ -7,3 +7,5 @@ pub mod NegativeZero
 pub mod Bounds
 pub mod Least
 pub mod Zero
+pub mod Rounded
+pub mod Fields

@@ -3,10 +3,10 @@ use mathlib.Core.Path.{sym, ap, _∙_}
 use mathlib.Core.List.{List}
 use Prim.Native.Nat.{ℕ}
 use native.Mathlib.Omega.{arith}
+use lib.Seq.{sets}
 use borrow.Author.Needs.{needs}
 use denote.Ref.{now}
-use Rattle.lists.specs.Over.{over}
-use Rattle.decimals.specs.Digits.{decimal}
+use Rattle.decimals.specs.Digits.{decimalDigits}
 use Rattle.decimals.proofs.Written.{decimal-is, decimal-length}
 use Rattle.decimals.proofs.Room.{no-room, room}
 use Rattle.decimals.proofs.write_count.Statement.{statement}
@@ -18,7 +18,7 @@ count-places-requires c κs = search needs
 returns : tie.Need-returns
 returns c =
     let n = c .before .before .before .args .n in
-    no-room (decimal n) (now (c .before .before .before .args .out)) (c .before .count-places .result) (decimal-length n _ (c .before .count-places .ensures)) (c .if1 .taken)
+    no-room (decimalDigits n) (now (c .before .before .before .args .out)) (c .before .count-places .result) (decimal-length n _ (c .before .count-places .ensures .0)) (c .if1 .taken)
 
 put-digits-requires : tie.Need-put-digits-requires
 put-digits-requires c κs = search needs
@@ -30,8 +30,8 @@ returns-2 : tie.Need-returns-2
 returns-2 c =
     let a = c .before .before .before .before .before .before .before .args in
     let count = c .before .before .before .before .before .count-places in
-    let fits = room (decimal (a .n)) (now (a .out)) (count .result) (decimal-length (a .n) _ (count .ensures)) (omega arith) in
-    (fits .0, c .before .before .put-digits .ensures ∙ ap (λ (text : List ℕ). over text (now (a .out))) (sym (decimal-is (a .n) _ (count .ensures))) ∙ fits .1)
+    let fits = room (decimalDigits (a .n)) (now (a .out)) (count .result) (decimal-length (a .n) _ (count .ensures .0)) (omega arith) in
+    (fits .0, c .before .before .put-digits .ensures ∙ ap (λ (text : List ℕ). sets (now (a .out)) 0 text) (sym (decimal-is (a .n) _ (count .ensures .0))) ∙ fits .1)
 
 pub write-count-spec : {M : Type 1} → statement M
 write-count-spec =

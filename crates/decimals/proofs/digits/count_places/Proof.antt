@@ -1,6 +1,6 @@
 -- `decimals::digits::count_places` meets its contract. The loop's invariant: the digits counted and those of what is left are all. A number of 64
 -- bits has at most 20 digits. Assumes nothing.
-use mathlib.Core.Path.{_≡_, refl, sym, ap, _∙_}
+use mathlib.Core.Path.{_≡_, refl}
 use Prim.Native.Nat.{suc, _≤_, _<_, _+_, _-_, _^_}
 use native.Mathlib.Omega.{arith}
 use borrow.Author.Needs.{needs}

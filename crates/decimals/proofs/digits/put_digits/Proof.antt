@@ -1,24 +1,23 @@
--- `decimals::digits::put_digits` meets its contract. The loop's invariant: the digits still to come, laid over what stands there, give the whole.
+-- `decimals::digits::put_digits` meets its contract. The loop's invariant: the digits still to come, stored where they belong, give the whole.
 -- Assumes nothing.
-use mathlib.Core.Path.{_≡_, refl, sym, ap, _∙_}
-use Prim.Native.Nat.{_-_, _≤_, _<_}
+use mathlib.Core.Path.{_≡_, refl, sym, _∙_}
+use Prim.Native.Nat.{_+_, _-_, _≤_, _<_}
 use native.Mathlib.Nat.{mod-lt}
 use native.Mathlib.Omega.{arith}
 use lib.ListN.{length, length-set}
+use lib.Seq.{sets}
 use borrow.Author.Needs.{needs}
-use denote.Ref.{now}
-use Rattle.lists.specs.Over.{over}
 use Rattle.decimals.specs.Digits.{digitsIn}
-use Rattle.decimals.proofs.Written.{over-back, over-none}
+use Rattle.decimals.proofs.Written.{sets-back, sets-none}
 use Rattle.decimals.proofs.digits.put_digits.Statement.{statement}
 use Rattle.decimals.proofs.digits.put_digits.Tie as tie
 
 abbrev Inv-loop : tie.InvT-loop
-Inv-loop n base count out₀ left₀ i₀ out left i =
-    (i ≤ count) × (length out ≡ length out₀) × (over (digitsIn base i left) out ≡ over (digitsIn base count n) out₀)
+Inv-loop n base count at out₀ left₀ i₀ out left i =
+    (i ≤ count) × (length out ≡ length out₀) × (sets out at (digitsIn base i left) ≡ sets out₀ at (digitsIn base count n))
 
 abbrev μ-loop : tie.MeasureT-loop
-μ-loop n base count out₀ left₀ i₀ out left i = i
+μ-loop n base count at out₀ left₀ i₀ out left i = i
 
 loop-holds : tie.Need-loop-holds Inv-loop μ-loop
 loop-holds c = (omega arith, refl, refl)
@@ -37,6 +36,9 @@ digit-requires c κs =
     let below = mod-lt (l .left) h in
     omega arith
 
+add-out : tie.Need-add-out Inv-loop μ-loop
+add-out c = search needs
+
 slice-write-out : tie.Need-slice-write-out Inv-loop μ-loop
 slice-write-out c = search needs
 
@@ -51,8 +53,8 @@ loop-again c =
     let a = c .before .before .before .before .args in
     let l = c .before .before .loop in (
       omega arith,
-      length-set (l .out) (l .i - 1) (c .digit .result) ∙ l .inv .1,
-      rw (c .digit .ensures) (over-back (a .base) (l .i) (l .left) (l .out) (c .before .loop-test .taken) (omega arith) ∙ l .inv .2),
+      length-set (l .out) (a .at + (l .i - 1)) (c .digit .result) ∙ l .inv .1,
+      rw (c .digit .ensures) (sets-back (a .base) (l .i) (l .left) (a .at) (l .out) (c .before .loop-test .taken) ∙ l .inv .2),
     )
 
 same-length : tie.Need-same-length Inv-loop μ-loop
@@ -63,7 +65,7 @@ returns c =
     let a = c .before .before .before .args in
     let l = c .before .loop in
     let done : l .i ≡ 0 = omega arith in
-    sym (over-none (a .base) (l .left) (l .out)) ∙ rw done at (l .inv .2)
+    sym (sets-none (a .base) (l .left) (a .at) (l .out)) ∙ rw done at (l .inv .2)
 
 pub put-digits-spec : {M : Type 1} → statement M
 put-digits-spec =
@@ -75,6 +77,7 @@ put-digits-spec =
     sub-i
     rem-digit
     digit-requires
+    add-out
     slice-write-out
     div-left
     loop-less

@@ -1,0 +1,86 @@
+-- `decimals::printing::shifted_millionths` meets its contract. Assumes nothing.
+use mathlib.Core.Path.{_≡_, sym, ap, _∙_}
+use Prim.Native.Nat.{_+_, _*_, _^_}
+use native.Mathlib.Omega.{arith}
+use lib.ListN.{length}
+use borrow.Author.Needs.{needs}
+use Rattle.decimals.specs.Limbs.{valueOf}
+use Rattle.decimals.proofs.Powers.{once-below}
+use Rattle.decimals.proofs.Sizes.{million-room, below-unit, unit-room, unit-same}
+use Rattle.decimals.proofs.printing.shifted_millionths.Statement.{statement}
+use Rattle.decimals.proofs.printing.shifted_millionths.Tie as tie
+
+limbs-of-requires : tie.Need-limbs-of-requires
+limbs-of-requires c κs = search needs
+
+limbs-of-requires-2 : tie.Need-limbs-of-requires-2
+limbs-of-requires-2 c κs = search needs
+
+slice-aggregate-times : tie.Need-slice-aggregate-times
+slice-aggregate-times c = search needs
+
+cast-times : tie.Need-cast-times
+cast-times c = search needs
+
+times-requires : tie.Need-times-requires
+times-requires c κs =
+    let s = c .before .before .before in
+    let num = c .before .before .limbs-of in
+    let e : length (num .result) ≡ 44 = search needs in
+    rw (e, num .ensures) (million-room (s .args .significand) (s .pre .0))
+
+slice-aggregate-times-power : tie.Need-slice-aggregate-times-power
+slice-aggregate-times-power c = search needs
+
+add-times-power : tie.Need-add-times-power
+add-times-power c = search needs
+
+times-power-requires : tie.Need-times-power-requires
+times-power-requires c κs =
+    let s = c .before .before .before .before .before .before in
+    let den = c .before .before .before .before .limbs-of2 in
+    let e : length (den .result) ≡ 44 = search needs in
+    (omega arith, rw (e, den .ensures) (once-below (1 * 2 ^ (s .args .shift + 63)) 2 (2 ^ (32 * 44)) (omega arith) (unit-room (s .args .shift) (s .pre .2))))
+
+slice-aggregate-nearest-quotient : tie.Need-slice-aggregate-nearest-quotient
+slice-aggregate-nearest-quotient c = search needs
+
+slice-aggregate-nearest-quotient-2 : tie.Need-slice-aggregate-nearest-quotient-2
+slice-aggregate-nearest-quotient-2 c = search needs
+
+nearest-quotient-requires : tie.Need-nearest-quotient-requires
+nearest-quotient-requires c κs =
+    let s = c .before .before .before .before .before .before .before .before .before .before in
+    let num = c .before .before .before .before .before .before .times in
+    let den = c .before .before .before .times-power in
+    let m : length (num .last .0) ≡ 44 = search needs in
+    let n : length (den .last .0) ≡ 44 = search needs in
+    let digits : valueOf (num .last .0) ≡ s .args .significand * 1000000 = num .ensures ∙ ap (_* 1000000) (c .before .before .before .before .before .before .before .before .before .limbs-of .ensures) in
+    let unit : valueOf (den .last .0) ≡ 1 * 2 ^ (s .args .shift + 63) = den .ensures ∙ ap (_* 2 ^ (s .args .shift + 63)) (c .before .before .before .before .before .before .before .before .limbs-of2 .ensures) in
+    (m ∙ sym n, rw (digits, unit) (below-unit (s .args .significand) (s .args .shift) (s .pre .0) (s .pre .1)), rw (n, unit) (unit-room (s .args .shift) (s .pre .2)), omega arith)
+
+returns : tie.Need-returns
+returns c =
+    let s = c .before .before .before .before .before .before .before .before .before .before .before .before in
+    let num = c .before .before .before .before .before .before .before .before .times in
+    let den = c .before .before .before .before .before .times-power in
+    let digits : valueOf (num .last .0) ≡ s .args .significand * 1000000 = num .ensures ∙ ap (_* 1000000) (c .before .before .before .before .before .before .before .before .before .before .before .limbs-of .ensures) in
+    let unit : valueOf (den .last .0) ≡ 1 * 2 ^ (s .args .shift + 63) = den .ensures ∙ ap (_* 2 ^ (s .args .shift + 63)) (c .before .before .before .before .before .before .before .before .before .before .limbs-of2 .ensures) in
+    c .before .nearest-quotient .ensures ∙ rw (digits, unit) (unit-same (s .args .significand * 1000000) (s .args .shift))
+
+pub shifted-millionths-spec : {M : Type 1} → statement M
+shifted-millionths-spec =
+    tie.close
+    (tie.spec
+    limbs-of-requires
+    limbs-of-requires-2
+    slice-aggregate-times
+    cast-times
+    times-requires
+    slice-aggregate-times-power
+    add-times-power
+    times-power-requires
+    slice-aggregate-nearest-quotient
+    slice-aggregate-nearest-quotient-2
+    nearest-quotient-requires
+    returns)

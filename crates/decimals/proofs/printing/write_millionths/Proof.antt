@@ -1,0 +1,89 @@
+-- `decimals::printing::write_millionths` meets its contract. Assumes nothing.
+use mathlib.Core.Path.{_≡_, _∙_}
+use Prim.Native.Nat.{_+_}
+use native.Mathlib.Omega.{arith}
+use lib.ListN.{length, length-set}
+use lib.Seq.{sets}
+use borrow.Author.Needs.{needs}
+use denote.Ref.{now}
+use Rattle.decimals.specs.Print.{fixed}
+use Rattle.decimals.proofs.Fixed.{fixed-length, fixed-stored}
+use Rattle.decimals.proofs.Room.{no-room, room}
+use Rattle.decimals.proofs.printing.write_millionths.Statement.{statement}
+use Rattle.decimals.proofs.printing.write_millionths.Tie as tie
+
+minus-signs-requires : tie.Need-minus-signs-requires
+minus-signs-requires c κs = search needs
+
+count-places-requires : tie.Need-count-places-requires
+count-places-requires c κs = search needs
+
+add-point : tie.Need-add-point
+add-point c = search needs
+
+add-if1 : tie.Need-add-if1
+add-if1 c = search needs
+
+returns : tie.Need-returns
+returns c =
+    let a = c .before .before .before .before .args in
+    let signs = c .before .before .minus-signs in
+    let whole = c .before .count-places in
+    no-room (fixed (a .negative) (a .n)) (now (a .out)) (signs .result + whole .result + 7) (fixed-length (a .negative) (a .n) (signs .result) (whole .result) (signs .ensures .0) (whole .ensures .0)) (c .if1 .taken)
+
+put-signs-requires : tie.Need-put-signs-requires
+put-signs-requires c κs = search needs
+
+put-digits-requires : tie.Need-put-digits-requires
+put-digits-requires c κs = search needs
+
+slice-write-out : tie.Need-slice-write-out
+slice-write-out c = search needs
+
+add-put-digits : tie.Need-add-put-digits
+add-put-digits c = search needs
+
+put-digits-requires-2 : tie.Need-put-digits-requires-2
+put-digits-requires-2 c κs =
+    let out : length (c .before .before .before .put-digits .last .1 .1 .1 .1 .0) ≡ length (now (c .before .before .before .before .before .before .before .before .before .before .before .before .before .args .out)) = c .before .before .before .put-digits .kept .1 .1 .1 .1 .0 ∙ c .before .before .before .before .before .before .before .put-signs .kept .1 .0 in
+    (omega arith, omega arith, simp length-set (omega arith))
+
+add-t9 : tie.Need-add-t9
+add-t9 c = search needs
+
+same-length : tie.Need-same-length
+same-length c =
+    c .before .before .put-digits2 .kept .1 .1 .1 .1 .0
+    ∙ length-set (c .before .before .before .before .before .before .put-digits .last .1 .1 .1 .1 .0) (c .before .before .before .before .before .before .before .before .before .before .before .before .before .before .minus-signs .result + c .before .before .before .before .before .before .before .before .before .before .before .before .before .count-places .result) 46
+    ∙ c .before .before .before .before .before .before .put-digits .kept .1 .1 .1 .1 .0
+    ∙ c .before .before .before .before .before .before .before .before .before .before .put-signs .kept .1 .0
+
+returns-2 : tie.Need-returns-2
+returns-2 c =
+    let a = c .before .before .before .before .before .before .before .before .before .before .before .before .before .before .before .before .args in
+    let signs = c .before .before .before .before .before .before .before .before .before .before .before .before .before .before .minus-signs in
+    let whole = c .before .before .before .before .before .before .before .before .before .before .before .before .before .count-places in
+    let first = c .before .before .before .before .before .before .before .before .before .before .put-signs .ensures in
+    let second = c .before .before .before .before .before .before .put-digits .ensures in
+    let fits = room (fixed (a .negative) (a .n)) (now (a .out)) (signs .result + whole .result + 7) (fixed-length (a .negative) (a .n) (signs .result) (whole .result) (signs .ensures .0) (whole .ensures .0)) (omega arith) in
+    let all : c .before .before .put-digits2 .last .1 .1 .1 .1 .0 ≡ sets (now (a .out)) 0 (fixed (a .negative) (a .n)) =
+    c .before .before .put-digits2 .ensures ∙ rw (second, first) (fixed-stored (a .negative) (a .n) (signs .result) (whole .result) (signs .ensures .0) (whole .ensures .0) (now (a .out))) in
+    (fits .0, all ∙ fits .1)
+
+pub write-millionths-spec : {M : Type 1} → statement M
+write-millionths-spec =
+    tie.close
+    (tie.spec
+    minus-signs-requires
+    count-places-requires
+    add-point
+    add-if1
+    returns
+    put-signs-requires
+    put-digits-requires
+    slice-write-out
+    add-put-digits
+    put-digits-requires-2
+    add-t9
+    same-length
+    returns-2)

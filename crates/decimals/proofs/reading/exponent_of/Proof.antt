@@ -1,0 +1,57 @@
+-- `decimals::reading::exponent_of` meets its contract. Assumes nothing.
+use mathlib.Core.Path.{sym, _∙_}
+use borrow.Author.Needs.{needs}
+use denote.Ref.{now}
+use Rattle.decimals.proofs.Exponents.{exponent-none, exponent-small, exponent-large, exponent-other}
+use Rattle.decimals.proofs.reading.exponent_of.Statement.{statement}
+use Rattle.decimals.proofs.reading.exponent_of.Tie as tie
+
+returns : tie.Need-returns
+returns c = exponent-none (now (c .before .before .args .rest)) (c .if1 .taken)
+
+begins-with-requires : tie.Need-begins-with-requires
+begins-with-requires c κs = search needs
+
+past-requires : tie.Need-past-requires
+past-requires c κs = search needs
+
+exponent-after-requires : tie.Need-exponent-after-requires
+exponent-after-requires c κs = search needs
+
+returns-2 : tie.Need-returns-2
+returns-2 c =
+    c .exponent-after .ensures
+    ∙ exponent-small (now (c .before .before .before .before .before .before .args .rest)) (c .before .before .before .before .if1 .left) _ (c .before .past .ensures) (sym (c .before .before .before .begins-with .ensures) ∙ c .before .before .if2 .taken)
+
+begins-with-requires-2 : tie.Need-begins-with-requires-2
+begins-with-requires-2 c κs = search needs
+
+past-requires-2 : tie.Need-past-requires-2
+past-requires-2 c κs = search needs
+
+exponent-after-requires-2 : tie.Need-exponent-after-requires-2
+exponent-after-requires-2 c κs = search needs
+
+returns-3 : tie.Need-returns-3
+returns-3 c =
+    c .exponent-after2 .ensures
+    ∙ exponent-large (now (c .before .before .before .before .before .before .before .before .args .rest)) (c .before .before .before .before .before .before .if1 .left) _ (c .before .past2 .ensures) (sym (c .before .before .before .before .before .begins-with .ensures) ∙ c .before .before .before .before .if2 .left) (sym (c .before .before .before .begins-with2 .ensures) ∙ c .before .before .if3 .taken)
+
+returns-4 : tie.Need-returns-4
+returns-4 c =
+    exponent-other (now (c .before .before .before .before .before .before .args .rest)) (c .before .before .before .before .if1 .left) (sym (c .before .before .before .begins-with .ensures) ∙ c .before .before .if2 .left) (sym (c .before .begins-with2 .ensures) ∙ c .if3 .left)
+
+pub exponent-of-spec : {M : Type 1} → statement M
+exponent-of-spec =
+    tie.close
+    (tie.spec
+    returns
+    begins-with-requires
+    past-requires
+    exponent-after-requires
+    returns-2
+    begins-with-requires-2
+    past-requires-2
+    exponent-after-requires-2
+    returns-3
+    returns-4)

@@ -1,0 +1,63 @@
+-- `decimals::reading::place` meets its contract. Assumes nothing.
+use mathlib.Core.Path.{refl}
+use Prim.Native.Nat.{_-_}
+use native.Mathlib.Omega.{arith}
+use borrow.Author.Needs.{needs}
+use Rattle.decimals.proofs.Placed.{double-is, placed-near, placed-high, placed-low}
+use Rattle.decimals.proofs.reading.place.Statement.{statement}
+use Rattle.decimals.proofs.reading.place.Tie as tie
+
+sub-if2 : tie.Need-sub-if2
+sub-if2 c = search needs
+
+returns : tie.Need-returns
+returns c =
+    let a = c .before .before .args in
+    placed-high (a .negative) (a .digits) (a .up) (a .down) (omega arith)
+
+sub-decimal-bits : tie.Need-sub-decimal-bits
+sub-decimal-bits c = search needs
+
+decimal-bits-requires : tie.Need-decimal-bits-requires
+decimal-bits-requires c κs = search needs
+
+double-requires : tie.Need-double-requires
+double-requires c κs = search needs
+
+returns-2 : tie.Need-returns-2
+returns-2 c =
+    let a = c .before .before .before .before .args in
+    let x = double-is (a .negative) (a .digits) (a .up) (a .down) (a .up - a .down) 0 (c .before .decimal-bits .result) (c .double .result) (c .double .ensures) (c .before .decimal-bits .ensures) refl (omega arith) in
+    placed-near (a .negative) (a .digits) (a .up) (a .down) (omega arith) (omega arith) (c .double .result) x
+
+returns-3 : tie.Need-returns-3
+returns-3 c =
+    let a = c .before .before .args in
+    placed-low (a .negative) (a .digits) (a .up) (a .down) (omega arith)
+
+decimal-bits-requires-2 : tie.Need-decimal-bits-requires-2
+decimal-bits-requires-2 c κs = search needs
+
+double-requires-2 : tie.Need-double-requires-2
+double-requires-2 c κs = search needs
+
+returns-4 : tie.Need-returns-4
+returns-4 c =
+    let a = c .before .before .before .before .args in
+    let x = double-is (a .negative) (a .digits) (a .up) (a .down) 0 (a .down - a .up) (c .before .decimal-bits2 .result) (c .double2 .result) (c .double2 .ensures) (c .before .decimal-bits2 .ensures) (omega arith) refl in
+    placed-near (a .negative) (a .digits) (a .up) (a .down) (omega arith) (omega arith) (c .double2 .result) x
+
+pub place-spec : {M : Type 1} → statement M
+place-spec =
+    tie.close
+    (tie.spec
+    sub-if2
+    returns
+    sub-decimal-bits
+    decimal-bits-requires
+    double-requires
+    returns-2
+    returns-3
+    decimal-bits-requires-2
+    double-requires-2
+    returns-4)
