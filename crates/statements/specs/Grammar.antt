@@ -11,9 +11,9 @@
 --     penalty NUMBER NUMBER
 --
 -- A GLUE may be `-`, which stands for none; a NAME may not.
-use mathlib.Core.Bool.{Bool, cond, _&&_}
+use mathlib.Core.Bool.{cond, _&&_}
 use mathlib.Core.List.{List, [], _∷_}
-use Prim.Native.Nat.{ℕ, _+_, _/_, _%_}
+use Prim.Native.Nat.{ℕ, _+_, _-_, _<_}
 use lib.Dec.{eqb, ltb}
 use lib.ListN.{getD}
 use Rattle.statements.specs.Words.{spells}
@@ -136,22 +136,22 @@ abbrev pub end : ℕ
 end = 0
 
 abbrev pub number : ℕ → ℕ
-number slot = 4 + slot
+number slot = 1 + slot
 
 abbrev pub name : ℕ → ℕ
-name slot = 8 + slot
+name slot = 4 + slot
 
 abbrev pub glue : ℕ → ℕ
-glue slot = 12 + slot
+glue slot = 8 + slot
 
 abbrev pub bases : ℕ → ℕ
-bases slot = 16 + slot
+bases slot = 12 + slot
 
 abbrev pub dgOrSeq : ℕ
-dgOrSeq = 20
+dgOrSeq = 16
 
 abbrev pub ds : ℕ
-ds = 24
+ds = 17
 
 -- kind by kind. `dg` or `seq` decides between the two kinds of `energy` and of `pair`, which are alike up to there.
 unfoldable pub shapes : List (List ℕ)
@@ -172,13 +172,27 @@ shapes =
 -- what such a number stands for
 unfoldable pub decoded : ℕ → Item
 decoded code =
-    cond (eqb (code / 4) 1) (Number (code % 4))
-    (cond (eqb (code / 4) 2) (Name (code % 4))
-    (cond (eqb (code / 4) 3) (Glue (code % 4))
-    (cond (eqb (code / 4) 4) (Bases (code % 4))
-    (cond (eqb (code / 4) 5) DgOrSeq
-    (cond (eqb (code / 4) 6) Ds End)))))
+    cond (eqb code end) End
+    (cond (ltb code (name 0)) (Number (code - number 0))
+    (cond (ltb code (glue 0)) (Name (code - name 0))
+    (cond (ltb code (bases 0)) (Glue (code - glue 0))
+    (cond (ltb code dgOrSeq) (Bases (code - bases 0))
+    (cond (eqb code dgOrSeq) DgOrSeq Ds)))))
 
 -- what the word at a place after the keyword has to be; after the sixth there is none
 unfoldable pub itemOf : ℕ → ℕ → Item
 itemOf kind place = cond (ltb kind unknown && ltb place 6) (decoded (getD (getD shapes kind []) place end)) End
+
+-- the kind with a sequence for its numbers
+unfoldable pub sequenceKind : ℕ → ℕ
+sequenceKind kind = cond (eqb kind energyGiven) energySequence (cond (eqb kind pairGiven) pairSequence kind)
+
+-- the slot is one of a row's
+abbrev pub InRow : Item → Type 0
+InRow (Number slot) = slot < 3
+InRow (Name slot) = slot < 4
+InRow (Glue slot) = slot < 4
+InRow (Bases slot) = slot < 4
+InRow DgOrSeq = Unit
+InRow Ds = Unit
+InRow End = Unit

@@ -55,8 +55,8 @@ pub record Equal (room : Room) : Type 0 where
   pub words : length (room .words) ≡ 8 * length (room .kinds)
   pub numbers : length (room .numbers) ≡ 3 * length (room .kinds)
 
+abbrev pub unequalLengths : ℕ → ℕ → ℕ → ℕ → Bool
+unequalLengths kinds lines words numbers = not (eqb lines kinds) || not (eqb words (8 * kinds)) || not (eqb numbers (3 * kinds))
+
 abbrev pub unequal : Room → Bool
-unequal room =
-    not (eqb (length (room .lines)) (length (room .kinds)))
-    || not (eqb (length (room .words)) (8 * length (room .kinds)))
-    || not (eqb (length (room .numbers)) (3 * length (room .kinds)))
+unequal room = unequalLengths (length (room .kinds)) (length (room .lines)) (length (room .words)) (length (room .numbers))

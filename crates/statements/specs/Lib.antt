@@ -1,3 +1,6 @@
 pub mod Words
 pub mod Grammar
 pub mod Layout
+pub mod Statement
+pub mod Rows
+pub mod Cases

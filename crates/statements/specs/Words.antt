@@ -1,12 +1,13 @@
 -- Lines and words of a text, which is a list of bytes. Lines end at byte 10. Blanks are space, tab and carriage return. A word that begins
 -- with `#` begins a comment up to the line's end; a `#` further inside a word, and any other byte, is a byte of words like any letter.
-use mathlib.Core.Bool.{Bool, true, false, cond, _&&_, _||_}
+use mathlib.Core.Bool.{Bool, cond, _||_}
 use mathlib.Core.List.{List, [], _∷_}
 use mathlib.Core.Option.{Option, none, some}
 use mathlib.Core.Path.{_≡_}
 use Prim.Native.Nat.{ℕ, _+_, _-_, _≤_, _<_}
 use lib.Dec.{eqb, ltb}
 use lib.ListN.{length, take, drop}
+use Rattle.sdc_common.specs.Names.{sameName}
 use Rattle.statements.specs.declared.words.Word.{Word}
 
 abbrev pub isNewline : ℕ → Bool
@@ -55,9 +56,7 @@ scan none at [] = []
 scan none at (byte ∷ rest) = cond (isBlank byte) (scan none (at + 1) rest) (cond (isHash byte) [] (scan (some at) (at + 1) rest))
 scan (some start) at [] = wordAt start (at - start) ∷ []
 scan (some start) at (byte ∷ rest) =
-    cond (isBlank byte)
-    (wordAt start (at - start) ∷ scan none (at + 1) rest)
-    (scan (some start) (at + 1) rest)
+    cond (isBlank byte) (wordAt start (at - start) ∷ scan none (at + 1) rest) (scan (some start) (at + 1) rest)
 
 -- the words of a line from a place on
 unfoldable pub wordsIn : List ℕ → ℕ → List Word
@@ -68,11 +67,8 @@ unfoldable pub spelled : List ℕ → Word → List ℕ
 spelled line word = take (word .size) (drop (word .start) line)
 
 -- the same bytes
-unfoldable pub spells : List ℕ → List ℕ → Bool
-spells [] [] = true
-spells [] (b ∷ bs) = false
-spells (a ∷ rest) [] = false
-spells (a ∷ rest) (b ∷ bs) = eqb a b && spells rest bs
+abbrev pub spells : List ℕ → List ℕ → Bool
+spells word keyword = sameName word keyword
 
 -- ---- what reading word by word goes by
 
@@ -83,6 +79,6 @@ Inside line word = word .start + word .size ≤ length line
 -- the first word from a place on; a size of 0 where there is none
 pub record Next (line : List ℕ) (at : ℕ) (word : Word) : Type 0 where
   pub on : at ≤ word .start
-  pub inside : Inside line word
+  pub inside : 0 < word .size → Inside line word
   pub last : word .size ≡ 0 → wordsIn line at ≡ []
   pub more : 0 < word .size → wordsIn line at ≡ word ∷ wordsIn line (word .start + word .size)

@@ -1,4 +1,8 @@
-// The grammar: the kinds of rows.
+// The grammar: the kinds of rows, their keywords, and what each word after the keyword has to be.
+ghost use mathlib.Core.Path.{_≡_};
+ghost use Prim.Native.Nat.{_<_};
+ghost use Rattle.statements.specs.Grammar.{kindOf, sequenceKind, InRow, decoded, itemOf};
+use crate::words::spells;
 
 // The kinds of rows. `scaffold` gives a row for each position.
 pub const KELVIN: u8 = 0;
@@ -23,6 +27,9 @@ pub const PAIR_SEQUENCE: u8 = 9;
 
 pub const PENALTY: u8 = 10;
 
+// A word that is no keyword.
+pub(crate) const UNKNOWN: u8 = 11;
+
 // What a word after the keyword has to be, and the slot of the row that it fills.
 pub enum Item {
     Number(usize),
@@ -35,4 +42,123 @@ pub enum Item {
     Ds,
     // No word.
     End,
+}
+
+// Items as bytes, to which the slot is added.
+const END: u8 = 0;
+
+const NUMBER: u8 = 1;
+
+const NAME: u8 = 4;
+
+const GLUE: u8 = 8;
+
+const BASES: u8 = 12;
+
+const DG_OR_SEQ: u8 = 16;
+
+const DS: u8 = 17;
+
+const SHAPES: [[u8; 6]; 11] = [
+    [NUMBER, END, END, END, END, END],
+    [NUMBER, NUMBER + 1, NUMBER + 2, END, END, END],
+    [NAME, GLUE + 1, GLUE + 2, GLUE + 3, NUMBER, END],
+    [GLUE, NUMBER, END, END, END, END],
+    [GLUE, NUMBER, END, END, END, END],
+    [GLUE, END, END, END, END, END],
+    [NAME, DG_OR_SEQ, NUMBER, DS, NUMBER + 1, END],
+    [NAME, DG_OR_SEQ, BASES + 1, END, END, END],
+    [NAME, NAME + 1, DG_OR_SEQ, NUMBER, DS, NUMBER + 1],
+    [NAME, NAME + 1, DG_OR_SEQ, BASES + 2, END, END],
+    [NUMBER, NUMBER + 1, END, END, END, END],
+];
+
+// The kind of a statement with this first word. `energy` and `pair` are of the kind with numbers, until `seq` is met.
+pub(crate) fn kind_of(word: &[u8]) -> u8
+    ensures { λ r. ⌜ r ≡ kindOf (now (word .entry)) ⌝ }
+{
+    if spells(word, b"kelvin") {
+        return KELVIN;
+    }
+    if spells(word, b"ambient") {
+        return AMBIENT;
+    }
+    if spells(word, b"strand") {
+        return STRAND;
+    }
+    if spells(word, b"quencher") {
+        return QUENCHER;
+    }
+    if spells(word, b"reporter") {
+        return REPORTER;
+    }
+    if spells(word, b"scaffold") {
+        return POSITION;
+    }
+    if spells(word, b"energy") {
+        return ENERGY_GIVEN;
+    }
+    if spells(word, b"pair") {
+        return PAIR_GIVEN;
+    }
+    if spells(word, b"penalty") {
+        return PENALTY;
+    }
+    UNKNOWN
+}
+
+// The kind with a sequence for its numbers.
+pub(crate) fn sequence_kind(kind: u8) -> u8
+    ensures { λ r. ⌜ r ≡ sequenceKind kind ⌝ }
+{
+    match kind {
+        ENERGY_GIVEN => ENERGY_SEQUENCE,
+        PAIR_GIVEN => PAIR_SEQUENCE,
+        _ => kind,
+    }
+}
+
+// The item that a byte stands for.
+fn decoded(code: u8) -> Item
+    ensures { λ r. ⌜ (r ≡ decoded code) × InRow r ⌝ }
+{
+    if code == END {
+        return Item::End;
+    }
+    if code < NAME {
+        return Item::Number(wide(code - NUMBER));
+    }
+    if code < GLUE {
+        return Item::Name(wide(code - NAME));
+    }
+    if code < BASES {
+        return Item::Glue(wide(code - GLUE));
+    }
+    if code < DG_OR_SEQ {
+        return Item::Bases(wide(code - BASES));
+    }
+    if code == DG_OR_SEQ {
+        return Item::DgOrSeq;
+    }
+    Item::Ds
+}
+
+fn wide(code: u8) -> usize
+    ensures { λ r. ⌜ r ≡ code ⌝ }
+{
+    code as usize
+}
+
+// What the word at a place after the keyword has to be.
+pub(crate) fn item_at(kind: u8, place: usize) -> Item
+    ensures { λ r. ⌜ (r ≡ itemOf kind place) × InRow r ⌝ }
+{
+    if UNKNOWN <= kind {
+        return Item::End;
+    }
+    if 6 <= place {
+        return Item::End;
+    }
+    let row = wide(kind);
+    decoded(SHAPES[row][place])
 }

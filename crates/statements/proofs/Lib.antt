@@ -1,0 +1,5 @@
+pub mod Bytes
+pub mod Laying
+pub mod Fitting
+pub mod Answers
+pub mod Reading

@@ -1,0 +1,76 @@
+-- `statements::rows::store_numbers` meets its contract: what is left to store, stored, gives the whole. Assumes nothing.
+use borrow.Author.Needs.{needs}
+use mathlib.Core.Path.{_≡_, refl, sym, _∙_}
+use Prim.Native.Nat.{_≤_, _-_, _+_}
+use native.Mathlib.Nat.{add-zero}
+use native.Mathlib.Omega.{arith}
+use lib.ListN.{length, drop, getD, length-set}
+use lib.Seq.{sets}
+use lib.Ieee.{nan}
+use Rattle.statements.proofs.Laying.{sets-more, sets-done}
+use Rattle.statements.proofs.rows.store_numbers.Statement.{statement}
+use Rattle.statements.proofs.rows.store_numbers.Tie as tie
+
+abbrev Inv-loop : tie.InvT-loop
+Inv-loop numbers₀ at row i₀ numbers i = (i ≤ length row) × (length numbers ≡ length numbers₀) × (sets numbers (at + i) (drop i row) ≡ sets numbers₀ at row)
+
+abbrev μ-loop : tie.MeasureT-loop
+μ-loop numbers₀ at row i₀ numbers i = length row - i
+
+loop-holds : tie.Need-loop-holds Inv-loop μ-loop
+loop-holds c = (omega arith, refl, rw add-zero)
+
+mul-numbers : tie.Need-mul-numbers Inv-loop μ-loop
+mul-numbers c = search needs
+
+array-read-numbers : tie.Need-array-read-numbers Inv-loop μ-loop
+array-read-numbers c = search needs
+
+add-numbers : tie.Need-add-numbers Inv-loop μ-loop
+add-numbers c = search needs
+
+mul-numbers-2 : tie.Need-mul-numbers-2 Inv-loop μ-loop
+mul-numbers-2 c = search needs
+
+slice-write-numbers : tie.Need-slice-write-numbers Inv-loop μ-loop
+slice-write-numbers c = search needs
+
+add-i : tie.Need-add-i Inv-loop μ-loop
+add-i c = search needs
+
+loop-less : tie.Need-loop-less Inv-loop μ-loop
+loop-less c = search needs
+
+loop-again : tie.Need-loop-again Inv-loop μ-loop
+loop-again c =
+    let l = c .before .loop in
+    let a = c .before .before .args in
+    let kept = length-set (l .numbers) (a .at + l .i) (getD (a .t3) (l .i) nan) in
+    (omega arith, kept ∙ l .inv .1, sets-more nan (l .numbers) (a .t3) (a .at) (l .i) (omega arith) ∙ l .inv .2)
+
+same-length : tie.Need-same-length Inv-loop μ-loop
+same-length c = search needs
+
+returns : tie.Need-returns Inv-loop μ-loop
+returns c =
+    let l = c .before .loop in
+    let a = c .before .before .args in
+    sym (sets-done (l .numbers) (a .t3) (a .at) (l .i) (omega arith)) ∙ l .inv .2
+
+pub store-numbers-spec : {M : Type 1} → statement M
+store-numbers-spec =
+    tie.close
+    (tie.spec
+    Inv-loop
+    μ-loop
+    loop-holds
+    mul-numbers
+    array-read-numbers
+    add-numbers
+    mul-numbers-2
+    slice-write-numbers
+    add-i
+    loop-less
+    loop-again
+    same-length
+    returns)

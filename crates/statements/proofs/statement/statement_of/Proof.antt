@@ -1,0 +1,89 @@
+-- `statements::statement::statement_of` meets its contract. Assumes nothing.
+use borrow.Author.Needs.{needs}
+use mathlib.Core.Path.{_∙_}
+use native.Mathlib.Omega.{arith}
+use Prim.Native.Nat.{_+_}
+use denote.Ref.{now}
+use borrow.Author.Tests.{eq-eqb, ne-eqb}
+use Rattle.statements.specs.Words.{wordsIn}
+use Rattle.statements.specs.Statement.{statementFrom, statementOfWords, statementOf}
+use Rattle.statements.proofs.Answers.{by-kind}
+use Rattle.statements.proofs.statement.statement_of.Statement.{statement}
+use Rattle.statements.proofs.statement.statement_of.Tie as tie
+
+next-word-requires : tie.Need-next-word-requires
+next-word-requires c κs = search needs
+
+without-requires : tie.Need-without-requires
+without-requires c κs = search needs
+
+returns : tie.Need-returns
+unfolding statementOf statementOfWords
+returns c = rw (c .before .before .before .next-word .ensures .last (c .before .if1 .taken)) (c .without .ensures)
+
+bytes-requires : tie.Need-bytes-requires
+bytes-requires c κs = c .before .before .next-word .ensures .inside (omega arith)
+
+kind-of-requires : tie.Need-kind-of-requires
+kind-of-requires c κs = search needs
+
+without-requires-2 : tie.Need-without-requires-2
+without-requires-2 c κs = search needs
+
+returns-2 : tie.Need-returns-2
+unfolding statementFrom
+returns-2 c =
+    let line = now (c .before .before .before .before .before .before .before .before .args .line) in
+    let key = c .before .before .before .before .before .before .next-word .result in
+    let more = c .before .before .before .before .before .before .next-word .ensures .more (omega arith) in
+    let kind = c .before .before .kind-of .result in
+    let known = by-kind line (c .before .before .before .before .before .before .before .before .args .at) key (wordsIn line (key .start + key .size)) (now (c .before .before .before .bytes .result)) kind more (c .before .before .before .bytes .ensures) (c .before .before .kind-of .ensures) in
+    (c .without2 .ensures ∙ simp (eq-eqb kind 11 (c .before .if2 .taken))) ∙ known
+
+add-t10 : tie.Need-add-t10
+add-t10 c =
+    let inside = c .before .before .before .before .before .before .before .next-word .ensures .inside (omega arith) in
+    search needs
+
+without-requires-3 : tie.Need-without-requires-3
+without-requires-3 c κs = search needs
+
+returns-3 : tie.Need-returns-3
+unfolding statementFrom
+returns-3 c =
+    let line = now (c .before .before .before .before .before .before .before .before .before .before .args .line) in
+    let key = c .before .before .before .before .before .before .before .before .next-word .result in
+    let more = c .before .before .before .before .before .before .before .before .next-word .ensures .more (omega arith) in
+    let kind = c .before .before .before .before .kind-of .result in
+    let known = by-kind line (c .before .before .before .before .before .before .before .before .before .before .args .at) key (wordsIn line (key .start + key .size)) (now (c .before .before .before .before .before .bytes .result)) kind more (c .before .before .before .before .before .bytes .ensures) (c .before .before .before .before .kind-of .ensures) in
+    (c .without3 .ensures ∙ simp (ne-eqb kind 11 (c .before .before .before .if2 .left), eq-eqb kind 5 (c .before .before .if3 .taken))) ∙ known
+
+fit-requires : tie.Need-fit-requires
+fit-requires c κs = c .before .before .before .before .before .before .next-word .ensures .inside (omega arith)
+
+returns-4 : tie.Need-returns-4
+unfolding statementFrom
+returns-4 c =
+    let line = now (c .before .before .before .before .before .before .before .before .before .args .line) in
+    let key = c .before .before .before .before .before .before .before .next-word .result in
+    let more = c .before .before .before .before .before .before .before .next-word .ensures .more (omega arith) in
+    let kind = c .before .before .before .kind-of .result in
+    let known = by-kind line (c .before .before .before .before .before .before .before .before .before .args .at) key (wordsIn line (key .start + key .size)) (now (c .before .before .before .before .bytes .result)) kind more (c .before .before .before .before .bytes .ensures) (c .before .before .before .kind-of .ensures) in
+    (c .fit .ensures ∙ simp (ne-eqb kind 11 (c .before .before .if2 .left), ne-eqb kind 5 (c .before .if3 .left))) ∙ known
+
+pub statement-of-spec : {M : Type 1} → statement M
+statement-of-spec =
+    tie.close
+    (tie.spec
+    next-word-requires
+    without-requires
+    returns
+    bytes-requires
+    kind-of-requires
+    without-requires-2
+    returns-2
+    add-t10
+    without-requires-3
+    returns-3
+    fit-requires
+    returns-4)
