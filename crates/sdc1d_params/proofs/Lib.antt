@@ -2,3 +2,9 @@ pub mod Sequences
 pub mod Pairs
 pub mod Small
 pub mod Writes
+pub mod Lengths
+pub mod Named
+pub mod Laid
+pub mod Found
+pub mod Passed
+pub mod Written

@@ -1,4 +1,6 @@
 pub mod Entries
 pub mod Tables
 pub mod Cells
+pub mod Scaffold
 pub mod Params
+pub mod Checked

@@ -15,7 +15,7 @@ use Rattle.sdc_common.specs.Lent.{Names, namesOf, Glue, partOf, glueAt, gluesOf
 use Rattle.sdc_common.specs.Numbers.{basesOf, numbersAmong}
 use Rattle.sdc_common.specs.Spelled.{isUnknown, spelledNumber}
 use Rattle.sdc_common.specs.Calls.{tooManyStrands, tooManyBases}
-use Rattle.sdc1d_params.specs.Entries.{Cell, cellOf, Energies, entryAt, entriesOf, hasBadBase, isShort, unfitAt}
+use Rattle.sdc1d_params.specs.Entries.{Cell, cellOf, Energies, energiesOf, entryAt, entriesOf, hasBadBase, isShort, unfitAt}
 use Rattle.sdc1d_params.specs.Tables.{Write, writeOf, cellsOf, duplicated, outOfRange, dgTable, dsTable}
 use Rattle.sdc1d_params.specs.declared.Copied.{Copied}
 use Rattle.sdc1d_params.specs.declared.Copied.the-variants.{Nothing, Strand}
@@ -42,6 +42,31 @@ pub record Outcome : Type 0 where
   pub scaffoldGlues : List ℕ
   pub dg : List Float
   pub ds : List Float
+
+-- a parameter set out of the slices, in the order in which the call takes them
+abbrev pub paramsOf : List ℕ → ℕ → List ℕ → List ℕ → List ℕ → List ℕ → List ℕ → List ℕ → List ℕ → List ℕ → List ℕ → List ℕ → List ℕ → List ℕ → List Float → List Float → List ℕ → List ℕ → Float → Float → Copied → Copied → Params
+paramsOf text users strandStarts strandLengths strandMarks scaffoldStarts scaffoldLengths scaffoldMarks firstStarts firstLengths secondStarts secondLengths secondMarks forms dgs dss starts lengths penaltyDg penaltyDs quencher reporter =
+    record {
+      text = text;
+      users = users;
+      strands = namesOf strandStarts strandLengths strandMarks;
+      scaffold = namesOf scaffoldStarts scaffoldLengths scaffoldMarks;
+      firstStarts = firstStarts;
+      firstLengths = firstLengths;
+      seconds = namesOf secondStarts secondLengths secondMarks;
+      energies = energiesOf forms dgs dss starts lengths;
+      penaltyDg = penaltyDg;
+      penaltyDs = penaltyDs;
+      quencher = quencher;
+      reporter = reporter;
+    }
+
+abbrev pub outcomeOf : ℕ → List ℕ → List ℕ → List Float → List Float → Outcome
+outcomeOf number strandGlues scaffoldGlues dg ds = record { number = number; strandGlues = strandGlues; scaffoldGlues = scaffoldGlues; dg = dg; ds = ds }
+
+-- what is lent to be written, as it comes
+abbrev pub lentOf : List ℕ → List ℕ → List Float → List Float → Outcome
+lentOf strandGlues scaffoldGlues dg ds = outcomeOf answered strandGlues scaffoldGlues dg ds
 
 -- ---- what the names and entries are
 
@@ -76,25 +101,28 @@ unfitCopied users Nothing = false
 unfitCopied users (Strand k) = eqb k 0 || ltb users k
 
 -- energy entries: 1,024
+abbrev pub unfitEnergies : List ℕ → Energies → Bool
+unfitEnergies text e =
+    ltb 1024 (length (e .forms))
+    || not (eqb (length (e .dgs)) (length (e .forms)))
+    || not (eqb (length (e .dss)) (length (e .forms)))
+    || not (eqb (length (e .starts)) (length (e .forms)))
+    || not (eqb (length (e .lengths)) (length (e .forms)))
+    || any (unfitAt text e) (upTo (length (e .forms)))
+
 abbrev pub unfitEntries : Params → Bool
-unfitEntries p =
-    ltb 1024 (entryCount p)
-    || not (eqb (length (p .energies .dgs)) (entryCount p))
-    || not (eqb (length (p .energies .dss)) (entryCount p))
-    || not (eqb (length (p .energies .starts)) (entryCount p))
-    || not (eqb (length (p .energies .lengths)) (entryCount p))
-    || any (unfitAt (p .text) (p .energies)) (upTo (entryCount p))
+unfitEntries p = unfitEnergies (p .text) (p .energies)
 
 -- a scaffold has 0 to 128 positions
 abbrev pub unfitScaffold : Params → Outcome → Bool
 unfitScaffold p lent = ltb 128 (length (lent .scaffoldGlues)) || unfitNames (length (lent .scaffoldGlues)) (p .text) (p .scaffold)
 
 -- the lent glues and tables are not as long as what is written: strand 0, the user strands, quencher and reporter; 64 rows of 64
+abbrev pub unfitLengths : ℕ → ℕ → ℕ → ℕ → Bool
+unfitLengths users glues dg ds = not (eqb glues (3 * (users + 3))) || not (eqb dg 4096) || not (eqb ds 4096)
+
 abbrev pub unfitLent : Params → Outcome → Bool
-unfitLent p lent =
-    not (eqb (length (lent .strandGlues)) (3 * (p .users + 3)))
-    || not (eqb (length (lent .dg)) 4096)
-    || not (eqb (length (lent .ds)) 4096)
+unfitLent p lent = unfitLengths (p .users) (length (lent .strandGlues)) (length (lent .dg)) (length (lent .ds))
 
 unfoldable pub wrongSize : Params → Outcome → Bool
 wrongSize p lent =
@@ -138,10 +166,11 @@ reporterGlues numbers Nothing = 0 ∷ 0 ∷ 0 ∷ []
 reporterGlues numbers (Strand k) = 0 ∷ glueOfStrand numbers k 1 ∷ glueOfStrand numbers k 2 ∷ []
 
 -- strand 0 has no glue; then the user strands from 1, the quencher, the reporter
+abbrev pub withCopies : List ℕ → Copied → Copied → List ℕ
+withCopies numbers quencher reporter = (0 ∷ 0 ∷ 0 ∷ []) ++ numbers ++ quencherGlues numbers quencher ++ reporterGlues numbers reporter
+
 unfoldable pub strandGluesOf : Params → List ℕ
-strandGluesOf p =
-    let numbers = numbersAmong (strandNames p) (strandNames p) in
-    (0 ∷ 0 ∷ 0 ∷ []) ++ numbers ++ quencherGlues numbers (p .quencher) ++ reporterGlues numbers (p .reporter)
+strandGluesOf p = withCopies (numbersAmong (strandNames p) (strandNames p)) (p .quencher) (p .reporter)
 
 -- a refusal leaves what was lent as it was
 unfoldable pub fromParams : Params → Outcome → Outcome

@@ -17,7 +17,7 @@ star-step : (t : Bool) (m n : ℕ) → m ≡ n → cond (t && eqb m 0) 0 (suc m)
 star-step t m n e = ap (λ (k : ℕ). cond (t && eqb k 0) 0 (suc k)) e
 
 -- one trailing star more changes nothing
-base-star : (s : Name) → baseLength (s ++ (42 ∷ [])) ≡ baseLength s
+pub base-star : (s : Name) → baseLength (s ++ (42 ∷ [])) ≡ baseLength s
 unfolding baseLength
 base-star [] = refl
 base-star (b ∷ s) = star-step (isStar b) _ _ (base-star s)

@@ -60,10 +60,13 @@ present-step true present unfit a e = absurd (let z : _≡_ {A = ℕ} 0 1 = cc i
 present-step false present unfit a e = neither (not present) unfit e .1
 
 module _ (text : List ℕ) (mark start size : ℕ) where
+  pub present-fit : (mark ≡ 0 → ⊥) → Fit text mark start size → unfitName text start size ≡ false
+  unfolding unfitGlue
+  present-fit h e = present-step (isAbsent mark) (isPresent mark) (unfitName text start size) (ne-eqb mark 0 h) e
+
   -- a present name that is fit ends within the text
   pub present-fits : (mark ≡ 0 → ⊥) → Fit text mark start size → start + size ≤ length text
-  unfolding unfitGlue
-  present-fits h e = fits text start size (present-step (isAbsent mark) (isPresent mark) (unfitName text start size) (ne-eqb mark 0 h) e)
+  present-fits h e = fits text start size (present-fit h e)
 
   pub glue-absent : mark ≡ 0 → glueOf text mark start size ≡ none
   unfolding glueOf

@@ -3,3 +3,5 @@ pub mod Held
 pub mod Fit
 pub mod Given
 pub mod Replies
+pub mod Spelled
+pub mod Looked

@@ -1,5 +1,5 @@
 // Names of glues, as sdc_common.rs reads them, and their numbers.
-mod names;
+pub mod names;
 mod table;
 
 ghost use mathlib.Core.Path.{_≡_};
@@ -18,7 +18,7 @@ use table::fill_numbers;
 // The most user strands of a build, and the most base names that the tables have numbers for.
 const MOST_STRANDS: usize = 61;
 
-const MOST_BASES: usize = 31;
+pub const MOST_BASES: usize = 31;
 
 // A name's base, by its start and length, and whether the name stands for the base or for base*; or why there is none.
 pub enum NameAnswer {
@@ -45,7 +45,7 @@ pub fn self_and_inverse(text: &[u8], start: usize, length: usize) -> NameAnswer
 }
 
 // Whether the strands' names are not as they should be: three for each user strand.
-fn unfit_strands(
+pub fn unfit_strands(
     text: &[u8],
     users: usize,
     starts: &[usize],

@@ -6,9 +6,9 @@ ghost use Rattle.sdc_common.specs.Names.{baseLength, sameName};
 ghost use Rattle.sdc_common.specs.Lent.{unfitName, unfitGlue, namesOf, unfitNames};
 
 // A mark beside a name.
-pub(crate) const ABSENT: u8 = 0;
+pub const ABSENT: u8 = 0;
 
-const PRESENT: u8 = 1;
+pub const PRESENT: u8 = 1;
 
 // The longest name, its stars counted.
 const LONGEST: usize = 64;
@@ -74,13 +74,7 @@ fn unfit_glue(text: &[u8], mark: u8, start: usize, length: usize) -> bool
 }
 
 // Whether n names are not as they should be.
-pub(crate) fn unfit_names(
-    n: usize,
-    text: &[u8],
-    starts: &[usize],
-    lengths: &[usize],
-    marks: &[u8],
-) -> bool
+pub fn unfit_names(n: usize, text: &[u8], starts: &[usize], lengths: &[usize], marks: &[u8]) -> bool
     ensures { λ r. ⌜ r ≡ unfitNames n (now (text .entry)) (namesOf (now (starts .entry)) (now (lengths .entry)) (now (marks .entry))) ⌝ }
 {
     if starts.len() != n {

@@ -1,0 +1,60 @@
+-- `sdc1d_params::is_unknown` meets its contract: the stars are counted from the base. Assumes nothing.
+use borrow.Author.Needs.{needs}
+use mathlib.Core.Path.{_≡_, ap, sym, _∙_}
+use mathlib.Core.Bool.{Bool, false}
+use native.Mathlib.Omega.{arith}
+use denote.Ref.{now}
+use Rattle.sdc_common.specs.Lent.{unfitName}
+use Rattle.sdc_common.specs.Calls.{nameFigures}
+use Rattle.sdc_common.proofs.Held.{present-fit}
+use Rattle.sdc1d_params.proofs.Named.{base-given, base-refused, base-inside, stars-given, absent-known, unnumbered, by-stars}
+use Rattle.sdc1d_params.proofs.scaffold.is_unknown.Statement.{statement}
+use Rattle.sdc1d_params.proofs.scaffold.is_unknown.Tie as tie
+
+returns : tie.Need-returns
+returns c = absent-known (now (c .before .before .args .text)) (c .before .before .args .mark) (c .before .before .args .start) (c .before .before .args .length) (c .before .before .args .number) (c .if1 .taken)
+
+returns-2 : tie.Need-returns-2
+returns-2 c = unnumbered (now (c .before .before .before .args .text)) (c .before .before .before .args .mark) (c .before .before .before .args .start) (c .before .before .before .args .length) (c .before .before .before .args .number) (c .before .if1 .left) (c .if2 .taken)
+
+self-and-inverse-requires : tie.Need-self-and-inverse-requires
+self-and-inverse-requires c κs = search needs
+
+enum-known-base : tie.Need-enum-known-base
+enum-known-base c = search needs
+
+sub-result : tie.Need-sub-result
+sub-result c =
+    let a = c .before .before .before .before .before .before .before .args in
+    let fit : unfitName (now (a .text)) (a .start) (a .length) ≡ false = present-fit (now (a .text)) (a .mark) (a .start) (a .length) (c .before .before .before .before .before .if1 .left) (c .before .before .before .before .before .before .before .pre) in
+    let v = c .before .base .given .0 in
+    omega (arith, base-inside (now (a .text)) (a .start) (a .length) fit (v .1 .0) (base-given (now (a .text)) (a .start) (a .length) fit (v .0) (v .1 .0) (v .1 .1 .0) (sym (ap nameFigures (c .before .base .given .1)) ∙ c .before .before .before .self-and-inverse .ensures)))
+
+enum-told : tie.Need-enum-told
+enum-told c = search needs
+
+returns-3 : tie.Need-returns-3
+returns-3 c =
+    let a = c .before .before .before .before .before .before .before .args in
+    let fit : unfitName (now (a .text)) (a .start) (a .length) ≡ false = present-fit (now (a .text)) (a .mark) (a .start) (a .length) (c .before .before .before .before .before .if1 .left) (c .before .before .before .before .before .before .before .pre) in
+    let v = c .before .base .given .0 in
+    by-stars (now (a .text)) (a .mark) (a .start) (a .length) (a .number) (c .before .before .before .before .before .if1 .left) (c .before .before .before .before .if2 .left) _ (stars-given (now (a .text)) (a .start) (a .length) fit (v .1 .0) (base-given (now (a .text)) (a .start) (a .length) fit (v .0) (v .1 .0) (v .1 .1 .0) (sym (ap nameFigures (c .before .base .given .1)) ∙ c .before .before .before .self-and-inverse .ensures)))
+
+returns-4 : tie.Need-returns-4
+returns-4 c =
+    let a = c .before .before .before .before .before .before .args in
+    let fit : unfitName (now (a .text)) (a .start) (a .length) ≡ false = present-fit (now (a .text)) (a .mark) (a .start) (a .length) (c .before .before .before .before .if1 .left) (c .before .before .before .before .before .before .pre) in
+    absurd (base-refused (now (a .text)) (a .start) (a .length) fit (c .enum-told .given .0 .0) (sym (ap nameFigures (c .enum-told .given .1)) ∙ c .before .before .self-and-inverse .ensures))
+
+pub is-unknown-spec : {M : Type 1} → statement M
+is-unknown-spec =
+    tie.close
+    (tie.spec
+    returns
+    returns-2
+    self-and-inverse-requires
+    enum-known-base
+    sub-result
+    enum-told
+    returns-3
+    returns-4)

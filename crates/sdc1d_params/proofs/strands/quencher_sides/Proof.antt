@@ -1,0 +1,58 @@
+-- `sdc1d_params::quencher_sides` meets its contract: strand k has its glues from 3 k on. Assumes nothing.
+use borrow.Author.Needs.{needs}
+use mathlib.Core.Path.{_≡_, refl, ap, ap₂, sym, _∙_}
+use mathlib.Core.List.{[], _∷_}
+use Prim.Native.Nat.{_*_}
+use native.Mathlib.Omega.{arith}
+use lib.ListN.{drop}
+use denote.Ref.{now}
+use Rattle.sdc1d_params.specs.Params.{unfitCopied, quencherGlues}
+use Rattle.sdc1d_params.proofs.Lengths.{copied-fits}
+use Rattle.sdc1d_params.proofs.Laid.{side-at}
+use Rattle.sdc1d_params.proofs.strands.quencher_sides.Statement.{statement}
+use Rattle.sdc1d_params.proofs.strands.quencher_sides.Tie as tie
+
+enum-told : tie.Need-enum-told
+enum-told c = search needs
+
+enum-known-quencher : tie.Need-enum-known-quencher
+enum-known-quencher c = search needs
+
+mul-t6 : tie.Need-mul-t6
+mul-t6 c = let h = copied-fits (c .before .before .before .args .users) (c .before .quencher .given .0 .0) (sym (ap (unfitCopied (c .before .before .before .args .users)) (c .before .quencher .given .1)) ∙ c .before .before .before .pre .2) in omega arith
+
+shared-slice-read-t8 : tie.Need-shared-slice-read-t8
+shared-slice-read-t8 c = let h = copied-fits (c .before .before .before .before .args .users) (c .before .before .quencher .given .0 .0) (sym (ap (unfitCopied (c .before .before .before .before .args .users)) (c .before .before .quencher .given .1)) ∙ c .before .before .before .before .pre .2) in omega arith
+
+mul-t9 : tie.Need-mul-t9
+mul-t9 c = let h = copied-fits (c .before .before .before .before .args .users) (c .before .before .quencher .given .0 .0) (sym (ap (unfitCopied (c .before .before .before .before .args .users)) (c .before .before .quencher .given .1)) ∙ c .before .before .before .before .pre .2) in omega arith
+
+add-t10 : tie.Need-add-t10
+add-t10 c = let h = copied-fits (c .before .before .before .before .args .users) (c .before .before .quencher .given .0 .0) (sym (ap (unfitCopied (c .before .before .before .before .args .users)) (c .before .before .quencher .given .1)) ∙ c .before .before .before .before .pre .2) in omega arith
+
+shared-slice-read-t12 : tie.Need-shared-slice-read-t12
+shared-slice-read-t12 c = let h = copied-fits (c .before .before .before .before .before .args .users) (c .before .before .before .quencher .given .0 .0) (sym (ap (unfitCopied (c .before .before .before .before .before .args .users)) (c .before .before .before .quencher .given .1)) ∙ c .before .before .before .before .before .pre .2) in omega arith
+
+returns : tie.Need-returns
+returns c = sym (ap (quencherGlues (drop 3 (now (c .before .before .args .glues)))) (c .enum-told .given .1))
+
+returns-2 : tie.Need-returns-2
+returns-2 c =
+    let h = copied-fits (c .before .before .before .before .before .args .users) (c .before .before .before .quencher .given .0 .0) (sym (ap (unfitCopied (c .before .before .before .before .before .args .users)) (c .before .before .before .quencher .given .1)) ∙ c .before .before .before .before .before .pre .2) in
+    let k = c .before .before .before .quencher .given .0 .0 in
+    let glues = now (c .before .before .before .before .before .args .glues) in
+    rw (c .before .before .before .quencher .given .1) (rw (side-at glues k 0 (3 * k) (h .0) (omega arith), side-at glues k 1 _ (h .0) refl))
+
+pub quencher-sides-spec : {M : Type 1} → statement M
+quencher-sides-spec =
+    tie.close
+    (tie.spec
+    enum-told
+    enum-known-quencher
+    mul-t6
+    shared-slice-read-t8
+    mul-t9
+    add-t10
+    shared-slice-read-t12
+    returns
+    returns-2)

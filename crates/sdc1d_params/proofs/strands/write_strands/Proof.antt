@@ -1,0 +1,145 @@
+-- `sdc1d_params::write_strands` meets its contract: the four parts follow each other. Assumes nothing.
+use borrow.Author.Needs.{needs}
+use mathlib.Core.Path.{_≡_, refl, ap, sym, _∙_}
+use native.Mathlib.Omega.{arith}
+use denote.Ref.{now}
+use lib.ListN.{length}
+use Rattle.sdc_common.specs.Lent.{Names, namesOf, gluesOf}
+use Rattle.sdc_common.specs.Numbers.{numbersAmong}
+use Rattle.sdc_common.proofs.Fit.{few-strands}
+use Rattle.sdc1d_params.proofs.Laid.{strands-laid, part-many, glues-given, numbers-many}
+use Rattle.sdc1d_params.proofs.strands.write_strands.Statement.{statement}
+use Rattle.sdc1d_params.proofs.strands.write_strands.Tie as tie
+
+mul-end : tie.Need-mul-end
+mul-end c = search needs
+
+add-end : tie.Need-add-end
+add-end c = search needs
+
+sub-write-sides : tie.Need-sub-write-sides
+sub-write-sides c = search needs
+
+part-write-sides-start : tie.Need-part-write-sides-start
+part-write-sides-start c = search needs
+
+part-write-sides-end : tie.Need-part-write-sides-end
+part-write-sides-end c = search needs
+
+write-sides-requires : tie.Need-write-sides-requires
+write-sides-requires c κs = search needs
+
+sub-strand-glues : tie.Need-sub-strand-glues
+sub-strand-glues c = search needs
+
+part-strand-glues-start : tie.Need-part-strand-glues-start
+part-strand-glues-start c = search needs
+
+part-strand-glues-end : tie.Need-part-strand-glues-end
+part-strand-glues-end c = search needs
+
+strand-glues-requires : tie.Need-strand-glues-requires
+strand-glues-requires c κs = search needs
+
+quencher-sides-requires : tie.Need-quencher-sides-requires
+quencher-sides-requires c κs =
+    let a = c .before .before .before .before .before .before .before .before .before .before .before .before .before .before .args in
+    let strands : Names = namesOf (now (a .starts)) (now (a .lengths)) (now (a .marks)) in
+    let few = few-strands (a .users) (now (a .text)) strands (c .before .before .before .before .before .before .before .before .before .before .before .before .before .before .pre .0 .0) in
+    (few, omega arith, c .before .before .before .before .before .before .before .before .before .before .before .before .before .before .pre .1 .0 .0)
+
+reporter-sides-requires : tie.Need-reporter-sides-requires
+reporter-sides-requires c κs =
+    let a = c .before .before .before .before .before .before .before .before .before .before .before .before .before .before .before .before .args in
+    let strands : Names = namesOf (now (a .starts)) (now (a .lengths)) (now (a .marks)) in
+    let few = few-strands (a .users) (now (a .text)) strands (c .before .before .before .before .before .before .before .before .before .before .before .before .before .before .before .before .pre .0 .0) in
+    (few, omega arith, c .before .before .before .before .before .before .before .before .before .before .before .before .before .before .before .before .pre .1 .0 .1)
+
+add-write-sides : tie.Need-add-write-sides
+add-write-sides c =
+    let a = c .before .before .before .before .before .before .before .before .before .before .before .before .before .before .before .before .before .args in
+    let strands : Names = namesOf (now (a .starts)) (now (a .lengths)) (now (a .marks)) in
+    let few = few-strands (a .users) (now (a .text)) strands (c .before .before .before .before .before .before .before .before .before .before .before .before .before .before .before .before .before .pre .0 .0) in
+    omega arith
+
+sub-write-sides-2 : tie.Need-sub-write-sides-2
+sub-write-sides-2 c = search needs
+
+part-write-sides-start-2 : tie.Need-part-write-sides-start-2
+part-write-sides-start-2 c = search needs
+
+part-write-sides-end-2 : tie.Need-part-write-sides-end-2
+part-write-sides-end-2 c = search needs
+
+write-sides-requires-2 : tie.Need-write-sides-requires-2
+write-sides-requires-2 c κs = search needs
+
+add-write-sides-2 : tie.Need-add-write-sides-2
+add-write-sides-2 c =
+    let a = c .before .before .before .before .before .before .before .before .before .before .before .before .before .before .before .before .before .before .before .before .before .args in
+    let strands : Names = namesOf (now (a .starts)) (now (a .lengths)) (now (a .marks)) in
+    let few = few-strands (a .users) (now (a .text)) strands (c .before .before .before .before .before .before .before .before .before .before .before .before .before .before .before .before .before .before .before .before .before .pre .0 .0) in
+    omega arith
+
+add-write-sides-3 : tie.Need-add-write-sides-3
+add-write-sides-3 c =
+    let a = c .before .before .before .before .before .before .before .before .before .before .before .before .before .before .before .before .before .before .before .before .before .args in
+    let strands : Names = namesOf (now (a .starts)) (now (a .lengths)) (now (a .marks)) in
+    let few = few-strands (a .users) (now (a .text)) strands (c .before .before .before .before .before .before .before .before .before .before .before .before .before .before .before .before .before .before .before .before .before .pre .0 .0) in
+    omega arith
+
+sub-write-sides-3 : tie.Need-sub-write-sides-3
+sub-write-sides-3 c = search needs
+
+part-write-sides-start-3 : tie.Need-part-write-sides-start-3
+part-write-sides-start-3 c = search needs
+
+part-write-sides-end-3 : tie.Need-part-write-sides-end-3
+part-write-sides-end-3 c = omega (arith, c .before .before .before .before .before .before .before .before .before .before .before .before .before .before .before .before .before .before .before .before .before .pre .1 .1)
+
+write-sides-requires-3 : tie.Need-write-sides-requires-3
+write-sides-requires-3 c κs = search needs
+
+same-length : tie.Need-same-length
+same-length c = search needs
+
+returns : tie.Need-returns
+returns c =
+    let a = c .before .before .before .before .before .before .before .before .before .before .before .before .before .before .before .before .before .before .before .before .before .before .before .before .before .args in
+    let strands : Names = namesOf (now (a .starts)) (now (a .lengths)) (now (a .marks)) in
+    strands-laid (a .users) (now (a .glues)) (numbersAmong (gluesOf (now (a .text)) strands) (gluesOf (now (a .text)) strands)) (a .quencher) (a .reporter) (c .before .before .before .before .before .before .before .before .before .before .before .before .before .before .before .before .before .before .before .before .before .before .before .before .before .pre .1 .1)
+    (numbers-many (a .users) (now (a .text)) strands (c .before .before .before .before .before .before .before .before .before .before .before .before .before .before .before .before .before .before .before .before .before .before .before .before .before .pre .0 .0)) (c .before .before .before .before .before .before .before .before .before .before .before .before .before .before .before .before .before .before .before .before .before .before .before .before .before .pre .1 .0 .0) (c .before .before .before .before .before .before .before .before .before .before .before .before .before .before .before .before .before .before .before .before .before .before .before .before .before .pre .1 .0 .1) _ _ _ _
+    (c .before .before .before .before .before .before .before .before .before .before .before .before .before .before .before .before .before .before .write-sides .ensures)
+    (c .before .before .before .before .before .before .before .before .before .before .before .before .before .before .strand-glues .ensures .1 ∙ glues-given (a .users) (now (a .text)) strands (c .before .before .before .before .before .before .before .before .before .before .before .before .before .before .before .before .before .before .before .before .before .before .before .before .before .pre .0 .0) (c .before .before .before .before .before .before .before .before .before .before .before .before .before .before .before .before .before .before .before .before .before .before .before .before .before .pre .0 .1) _ (part-many (a .users) _ (now (a .glues)) (c .before .before .before .before .before .before .before .before .before .before .before .before .before .before .before .before .before .before .write-sides .ensures) (c .before .before .before .before .before .before .before .before .before .before .before .before .before .before .before .before .before .before .before .before .before .before .before .before .before .pre .1 .1)))
+    (c .before .before .before .before .before .before .write-sides2 .ensures ∙ c .before .before .before .before .before .before .before .before .before .before .quencher-sides .ensures)
+    (c .before .before .write-sides3 .ensures ∙ c .before .before .before .before .before .before .before .before .reporter-sides .ensures)
+
+pub write-strands-spec : {M : Type 1} → statement M
+write-strands-spec =
+    tie.close
+    (tie.spec
+    mul-end
+    add-end
+    sub-write-sides
+    part-write-sides-start
+    part-write-sides-end
+    write-sides-requires
+    sub-strand-glues
+    part-strand-glues-start
+    part-strand-glues-end
+    strand-glues-requires
+    quencher-sides-requires
+    reporter-sides-requires
+    add-write-sides
+    sub-write-sides-2
+    part-write-sides-start-2
+    part-write-sides-end-2
+    write-sides-requires-2
+    add-write-sides-2
+    add-write-sides-3
+    sub-write-sides-3
+    part-write-sides-start-3
+    part-write-sides-end-3
+    write-sides-requires-3
+    same-length
+    returns)

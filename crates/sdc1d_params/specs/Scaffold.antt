@@ -1,0 +1,17 @@
+-- Scaffold names as the build finds them: by the numbers of the reduced names, which have lost the stars.
+use mathlib.Core.Bool.{Bool, false, _||_}
+use mathlib.Core.List.{List}
+use mathlib.Core.Option.{none, some}
+use Prim.Native.Nat.{ℕ}
+use lib.Dec.{eqb, ltb}
+use lib.ListN.{getD}
+use Rattle.sdc_common.specs.Names.{starsOf}
+use Rattle.sdc_common.specs.Lent.{Names, Glue, glueAt}
+
+-- unknown as spelled: the reduced name has no number, or there are two stars or more
+unfoldable pub unknownBy : ℕ → Glue → Bool
+unknownBy number none = false
+unknownBy number (some name) = eqb number 0 || ltb 1 (starsOf name)
+
+abbrev pub unknownAt : List ℕ → Names → List ℕ → ℕ → Bool
+unknownAt text names numbers i = unknownBy (getD numbers i 0) (glueAt text names i)

@@ -1,0 +1,60 @@
+-- `sheet::faults::check` meets its contract. Assumes nothing.
+use borrow.Author.Needs.{needs}
+use mathlib.Core.Path.{_∙_, ap}
+use borrow.Author.Tests.{lt-ltb, le-ltb}
+use Rattle.sheet.specs.Faults.{faultAt, sheetAnswer}
+use Rattle.sheet.proofs.faults.check.Statement.{statement}
+use Rattle.sheet.proofs.faults.check.Tie as tie
+
+first-faulty-requires : tie.Need-first-faulty-requires
+first-faulty-requires c κs = search needs
+
+fault-at-requires : tie.Need-fault-at-requires
+fault-at-requires c κs = search needs
+
+returns : tie.Need-returns
+unfolding sheetAnswer
+returns c =
+    let a = c .before .before .before .before .before .before .before .args in
+    let e = c .before .before .first-faulty .ensures in
+    rw (lt-ltb _ _ (rw e at (c .before .if1 .taken))) (c .fault-at .ensures ∙ ap (faultAt (a .text .now) (a .kinds .now) (a .lines .now) (a .words .now)) e)
+
+first-of-requires : tie.Need-first-of-requires
+first-of-requires c κs = search needs
+
+count-before-requires : tie.Need-count-before-requires
+count-before-requires c κs = search needs
+
+count-before-requires-2 : tie.Need-count-before-requires-2
+count-before-requires-2 c κs = search needs
+
+count-before-requires-3 : tie.Need-count-before-requires-3
+count-before-requires-3 c κs = search needs
+
+returns-2 : tie.Need-returns-2
+unfolding sheetAnswer
+returns-2 c =
+    let e = c .before .before .before .before .before .before .first-faulty .ensures in
+    let f = c .before .before .before .before .first-of .ensures in
+    rw (le-ltb _ _ (rw e at (c .before .before .before .before .before .if1 .left)), lt-ltb _ _ (rw f at (c .before .before .before .if2 .taken)), c .before .before .count-before .ensures, c .before .count-before2 .ensures, c .count-before3 .ensures)
+
+returns-3 : tie.Need-returns-3
+unfolding sheetAnswer
+returns-3 c =
+    let e = c .before .before .before .first-faulty .ensures in
+    let f = c .before .first-of .ensures in
+    simp (le-ltb _ _ (rw e at (c .before .before .if1 .left)), le-ltb _ _ (rw f at (c .if2 .left)))
+
+pub check-spec : {M : Type 1} → statement M
+check-spec =
+    tie.close
+    (tie.spec
+    first-faulty-requires
+    fault-at-requires
+    returns
+    first-of-requires
+    count-before-requires
+    count-before-requires-2
+    count-before-requires-3
+    returns-2
+    returns-3)

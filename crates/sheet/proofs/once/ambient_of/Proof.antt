@@ -1,0 +1,63 @@
+-- `sheet::once::ambient_of` meets its contract. Assumes nothing.
+use borrow.Author.Needs.{needs}
+use mathlib.Core.Path.{_∙_, ap}
+use Prim.Native.Nat.{ℕ}
+use borrow.Author.Tests.{lt-ltb, le-ltb, eq-eqb, ne-eqb}
+use Rattle.sheet.specs.Rows.{numberOf}
+use Rattle.sheet.specs.Once.{ambientOf}
+use Rattle.sheet.specs.declared.once.Ambient.the-variants.{Kelvin, Given}
+use Rattle.sheet.proofs.once.ambient_of.Statement.{statement}
+use Rattle.sheet.proofs.once.ambient_of.Tie as tie
+
+first-of-requires : tie.Need-first-of-requires
+first-of-requires c κs = search needs
+
+returns : tie.Need-returns
+unfolding ambientOf
+returns c =
+    let e = c .before .first-of .ensures in
+    simp (le-ltb _ _ (rw e at (c .if1 .taken)))
+
+shared-slice-read-if2 : tie.Need-shared-slice-read-if2
+shared-slice-read-if2 c = search needs
+
+number-of-requires : tie.Need-number-of-requires
+number-of-requires c κs = search needs
+
+returns-2 : tie.Need-returns-2
+unfolding ambientOf
+returns-2 c =
+    let a = c .before .before .before .before .before .before .before .args in
+    let e = c .before .before .before .before .first-of .ensures in
+    rw (lt-ltb _ _ (rw e at (c .before .before .before .if1 .left)), eq-eqb _ _ (rw e at (c .before .if2 .taken))) (ap Kelvin (c .number-of .ensures ∙ ap (λ (r : ℕ). numberOf (a .numbers .now) r 0) e))
+
+number-of-requires-2 : tie.Need-number-of-requires-2
+number-of-requires-2 c κs = search needs
+
+number-of-requires-3 : tie.Need-number-of-requires-3
+number-of-requires-3 c κs = search needs
+
+number-of-requires-4 : tie.Need-number-of-requires-4
+number-of-requires-4 c κs = search needs
+
+returns-3 : tie.Need-returns-3
+unfolding ambientOf
+returns-3 c =
+    let a = c .before .before .before .before .before .before .before .before .before .args in
+    let e = c .before .before .before .before .before .before .first-of .ensures in
+    rw (lt-ltb _ _ (rw e at (c .before .before .before .before .before .if1 .left)), ne-eqb _ _ (rw e at (c .before .before .before .if2 .left)))
+    (rw (c .before .before .number-of2 .ensures, c .before .number-of3 .ensures, c .number-of4 .ensures) (ap (λ (r : ℕ). Given (numberOf (a .numbers .now) r 0) (numberOf (a .numbers .now) r 1) (numberOf (a .numbers .now) r 2)) e))
+
+pub ambient-of-spec : {M : Type 1} → statement M
+ambient-of-spec =
+    tie.close
+    (tie.spec
+    first-of-requires
+    returns
+    shared-slice-read-if2
+    number-of-requires
+    returns-2
+    number-of-requires-2
+    number-of-requires-3
+    number-of-requires-4
+    returns-3)

@@ -1,0 +1,63 @@
+-- `sheet::parts::fill_pairs` meets its contract. Assumes nothing.
+use borrow.Author.Needs.{needs}
+use mathlib.Core.Path.{ap, _∙_}
+use Prim.Native.Nat.{_-_}
+use native.Mathlib.Omega.{arith}
+use lib.ListN.{length}
+use Rattle.sheet.specs.Parts.{isPair, markOf, pairAt}
+use Rattle.sheet.proofs.Fill.{Filled, filled-none, filled-length, filled-more, filled-whole}
+use Rattle.sheet.proofs.parts.fill_pairs.Statement.{statement}
+use Rattle.sheet.proofs.parts.fill_pairs.Tie as tie
+
+abbrev Inv-loop : tie.InvT-loop
+Inv-loop kinds rows marks₀ m₀ marks m = Filled (pairAt kinds rows) marks₀ m marks
+
+abbrev μ-loop : tie.MeasureT-loop
+μ-loop kinds rows marks₀ m₀ marks m = length marks₀ - m
+
+loop-holds : tie.Need-loop-holds Inv-loop μ-loop
+loop-holds c = filled-none _ _
+
+kind-among-requires : tie.Need-kind-among-requires Inv-loop μ-loop
+kind-among-requires c κs = search needs
+
+is-pair-requires : tie.Need-is-pair-requires Inv-loop μ-loop
+is-pair-requires c κs = search needs
+
+mark-of-requires : tie.Need-mark-of-requires Inv-loop μ-loop
+mark-of-requires c κs = search needs
+
+slice-write-marks : tie.Need-slice-write-marks Inv-loop μ-loop
+slice-write-marks c = search needs
+
+add-m : tie.Need-add-m Inv-loop μ-loop
+add-m c = search needs
+
+loop-less : tie.Need-loop-less Inv-loop μ-loop
+loop-less c = omega (arith, filled-length (c .before .before .before .before .loop .inv))
+
+loop-again : tie.Need-loop-again Inv-loop μ-loop
+loop-again c = filled-more (c .before .before .before .before .loop .inv) (c .before .before .before .loop-test .taken) (c .mark-of .ensures ∙ ap markOf (c .before .is-pair .ensures ∙ ap isPair (c .before .before .kind-among .ensures)))
+
+same-length : tie.Need-same-length Inv-loop μ-loop
+same-length c = filled-length (c .before .loop .inv)
+
+returns : tie.Need-returns Inv-loop μ-loop
+returns c = filled-whole (c .before .loop .inv) (c .loop-test .left)
+
+pub fill-pairs-spec : {M : Type 1} → statement M
+fill-pairs-spec =
+    tie.close
+    (tie.spec
+    Inv-loop
+    μ-loop
+    loop-holds
+    kind-among-requires
+    is-pair-requires
+    mark-of-requires
+    slice-write-marks
+    add-m
+    loop-less
+    loop-again
+    same-length
+    returns)

@@ -1,0 +1,60 @@
+-- `sheet::parts::fill_starts` meets its contract. Assumes nothing.
+use borrow.Author.Needs.{needs}
+use mathlib.Core.Path.{ap}
+use Prim.Native.Nat.{_-_}
+use native.Mathlib.Omega.{arith}
+use lib.ListN.{length}
+use Rattle.statements.specs.declared.words.Word.{Word}
+use Rattle.sheet.specs.Parts.{startAt}
+use Rattle.sheet.proofs.Fill.{Filled, filled-none, filled-length, filled-more, filled-whole}
+use Rattle.sheet.proofs.parts.fill_starts.Statement.{statement}
+use Rattle.sheet.proofs.parts.fill_starts.Tie as tie
+
+abbrev Inv-loop : tie.InvT-loop
+Inv-loop kinds words rows part starts₀ m₀ starts m = Filled (startAt kinds words rows part) starts₀ m starts
+
+abbrev μ-loop : tie.MeasureT-loop
+μ-loop kinds words rows part starts₀ m₀ starts m = length starts₀ - m
+
+loop-holds : tie.Need-loop-holds Inv-loop μ-loop
+loop-holds c = filled-none _ _
+
+part-at-requires : tie.Need-part-at-requires Inv-loop μ-loop
+part-at-requires c κs = search needs
+
+mul-starts : tie.Need-mul-starts Inv-loop μ-loop
+mul-starts c = search needs
+
+slice-write-starts : tie.Need-slice-write-starts Inv-loop μ-loop
+slice-write-starts c = search needs
+
+add-m : tie.Need-add-m Inv-loop μ-loop
+add-m c = search needs
+
+loop-less : tie.Need-loop-less Inv-loop μ-loop
+loop-less c = omega (arith, filled-length (c .before .before .loop .inv))
+
+loop-again : tie.Need-loop-again Inv-loop μ-loop
+loop-again c = filled-more (c .before .before .loop .inv) (c .before .loop-test .taken) (ap (λ (w : Word). w .start) (c .part-at .ensures))
+
+same-length : tie.Need-same-length Inv-loop μ-loop
+same-length c = filled-length (c .before .loop .inv)
+
+returns : tie.Need-returns Inv-loop μ-loop
+returns c = filled-whole (c .before .loop .inv) (c .loop-test .left)
+
+pub fill-starts-spec : {M : Type 1} → statement M
+fill-starts-spec =
+    tie.close
+    (tie.spec
+    Inv-loop
+    μ-loop
+    loop-holds
+    part-at-requires
+    mul-starts
+    slice-write-starts
+    add-m
+    loop-less
+    loop-again
+    same-length
+    returns)

@@ -1,0 +1,58 @@
+-- `sheet::parts::potentials` meets its contract. Assumes nothing.
+use borrow.Author.Needs.{needs}
+use Prim.Native.Nat.{_-_}
+use native.Mathlib.Omega.{arith}
+use lib.ListN.{length}
+use Rattle.sheet.specs.Parts.{potentialAt}
+use Rattle.sheet.proofs.Fill.{Filled, filled-none, filled-length, filled-more, filled-whole}
+use Rattle.sheet.proofs.parts.potentials.Statement.{statement}
+use Rattle.sheet.proofs.parts.potentials.Tie as tie
+
+abbrev Inv-loop : tie.InvT-loop
+Inv-loop kinds numbers rows out₀ m₀ out m = Filled (potentialAt kinds numbers rows) out₀ m out
+
+abbrev μ-loop : tie.MeasureT-loop
+μ-loop kinds numbers rows out₀ m₀ out m = length out₀ - m
+
+loop-holds : tie.Need-loop-holds Inv-loop μ-loop
+loop-holds c = filled-none _ _
+
+potential-at-requires : tie.Need-potential-at-requires Inv-loop μ-loop
+potential-at-requires c κs = search needs
+
+mul-out : tie.Need-mul-out Inv-loop μ-loop
+mul-out c = search needs
+
+slice-write-out : tie.Need-slice-write-out Inv-loop μ-loop
+slice-write-out c = search needs
+
+add-m : tie.Need-add-m Inv-loop μ-loop
+add-m c = search needs
+
+loop-less : tie.Need-loop-less Inv-loop μ-loop
+loop-less c = omega (arith, filled-length (c .before .before .loop .inv))
+
+loop-again : tie.Need-loop-again Inv-loop μ-loop
+loop-again c = filled-more (c .before .before .loop .inv) (c .before .loop-test .taken) (c .potential-at .ensures)
+
+same-length : tie.Need-same-length Inv-loop μ-loop
+same-length c = filled-length (c .before .loop .inv)
+
+returns : tie.Need-returns Inv-loop μ-loop
+returns c = filled-whole (c .before .loop .inv) (c .loop-test .left)
+
+pub potentials-spec : {M : Type 1} → statement M
+potentials-spec =
+    tie.close
+    (tie.spec
+    Inv-loop
+    μ-loop
+    loop-holds
+    potential-at-requires
+    mul-out
+    slice-write-out
+    add-m
+    loop-less
+    loop-again
+    same-length
+    returns)

@@ -1,0 +1,6 @@
+pub mod Rows
+pub mod Faults
+pub mod Parts
+pub mod Once
+pub mod Theorems
+pub mod Cases

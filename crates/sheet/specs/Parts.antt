@@ -1,0 +1,65 @@
+-- What the calls take of lists of rows: a lent slice is filled to its end, entry m as these definitions say.
+use mathlib.Core.Bool.{Bool, cond, _||_}
+use mathlib.Core.List.{List}
+use Prim.Native.Nat.{ℕ, _+_, _-_, _/_, _%_}
+use lib.Dec.{eqb, ltb}
+use lib.Ieee.{Float}
+use lib.ListN.{length}
+use Rattle.doubles.specs.Decimal.{zero}
+use Rattle.statements.specs.Grammar.{quencher, reporter, energySequence, pairGiven, pairSequence}
+use Rattle.statements.specs.declared.words.Word.{Word}
+use Rattle.sheet.specs.Rows.{wordAmong, numberAmong, kindAmong}
+use Rattle.sheet.specs.Once.{numberOnce}
+use Rattle.sheet.specs.declared.parts.Part.{Part}
+use Rattle.sheet.specs.declared.parts.Part.the-variants.{Glues, First, Second, Sequence}
+
+-- ---- words
+
+abbrev pub isPair : ℕ → Bool
+isPair kind = eqb kind pairGiven || eqb kind pairSequence
+
+abbrev pub isSequence : ℕ → Bool
+isSequence kind = eqb kind energySequence || eqb kind pairSequence
+
+-- the word at entry m. An entry's bases stand after its one or two names.
+unfoldable pub partAt : List ℕ → List ℕ → List ℕ → Part → ℕ → Word
+partAt kinds words rows Glues m = wordAmong words rows (m / 3) (1 + m % 3)
+partAt kinds words rows First m = wordAmong words rows m 0
+partAt kinds words rows Second m = wordAmong words rows m 1
+partAt kinds words rows Sequence m = wordAmong words rows m (cond (isPair (kindAmong kinds rows m)) 2 1)
+
+abbrev pub startAt : List ℕ → List ℕ → List ℕ → Part → ℕ → ℕ
+startAt kinds words rows part m = partAt kinds words rows part m .start
+
+abbrev pub sizeAt : List ℕ → List ℕ → List ℕ → Part → ℕ → ℕ
+sizeAt kinds words rows part m = partAt kinds words rows part m .size
+
+-- ---- marks
+
+abbrev pub markOf : Bool → ℕ
+markOf holds = cond holds 1 0
+
+-- a word is there: 1; a size of 0 is that of no word
+abbrev pub markAt : List ℕ → List ℕ → List ℕ → Part → ℕ → ℕ
+markAt kinds words rows part m = markOf (ltb 0 (sizeAt kinds words rows part m))
+
+-- an entry is for a pair of names: 1
+abbrev pub pairAt : List ℕ → List ℕ → ℕ → ℕ
+pairAt kinds rows m = markOf (isPair (kindAmong kinds rows m))
+
+-- an entry gives a sequence: 1
+abbrev pub formAt : List ℕ → List ℕ → ℕ → ℕ
+formAt kinds rows m = markOf (isSequence (kindAmong kinds rows m))
+
+-- ---- numbers
+
+abbrev pub numberAt : List Float → List ℕ → ℕ → ℕ → Float
+numberAt numbers rows j m = numberAmong numbers rows m j
+
+-- strand 0 has 0.0; then come the strands of the rows, the quencher and the reporter
+unfoldable pub potentialAt : List ℕ → List Float → List ℕ → ℕ → Float
+potentialAt kinds numbers rows m =
+    cond (eqb m 0) zero
+    (cond (ltb (m - 1) (length rows)) (numberAmong numbers rows (m - 1) 0)
+    (cond (eqb (m - 1) (length rows)) (numberOnce quencher kinds numbers 0)
+    (numberOnce reporter kinds numbers 0)))

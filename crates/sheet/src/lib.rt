@@ -1,0 +1,5 @@
+// A design file's rows, gathered into what the calls take.
+pub mod faults;
+pub mod once;
+pub mod parts;
+pub mod rows;
