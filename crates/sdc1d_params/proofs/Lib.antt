@@ -8,3 +8,4 @@ pub mod Laid
 pub mod Found
 pub mod Passed
 pub mod Written
+pub mod Replies

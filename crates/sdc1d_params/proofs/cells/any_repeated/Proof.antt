@@ -1,12 +1,11 @@
 -- `sdc1d_params::any_repeated` meets its contract: no two cells that were passed over are of one pair. Assumes nothing.
 use borrow.Author.Needs.{needs}
-use mathlib.Core.Path.{_≡_, refl, sym, ap, ap₂, _∙_}
-use mathlib.Core.Bool.{true, false}
-use Prim.Native.Nat.{ℕ, _+_, _-_, _≤_, _<_}
+use mathlib.Core.Path.{_≡_, refl, sym, ap, _∙_}
+use mathlib.Core.Bool.{false}
+use Prim.Native.Nat.{ℕ, _-_, _≤_}
 use native.Mathlib.Omega.{arith}
-use lib.ListN.{length, getD}
+use lib.ListN.{length}
 use denote.Ref.{now}
-use Rattle.lists.specs.Find.{any}
 use Rattle.lists.specs.Build.{tabulate}
 use Rattle.sdc1d_params.specs.Tables.{duplicated}
 use Rattle.sdc1d_params.specs.Cells.{cellAt}

@@ -1,10 +1,9 @@
 -- `sdc1d_params::is_repeated` meets its contract: no cell that was passed over is of the pair. Assumes nothing.
 use borrow.Author.Needs.{needs}
-use mathlib.Core.Path.{_≡_, refl, sym, ap, ap₂, _∙_}
-use mathlib.Core.Bool.{true, false}
-use Prim.Native.Nat.{ℕ, _+_, _-_, _≤_, _<_}
+use mathlib.Core.Path.{_≡_, refl, sym, ap, _∙_}
+use mathlib.Core.Bool.{false}
+use Prim.Native.Nat.{ℕ, _-_, _≤_}
 use native.Mathlib.Omega.{arith}
-use lib.ListN.{length, getD}
 use denote.Ref.{now}
 use Rattle.lists.specs.Find.{any}
 use Rattle.lists.specs.Build.{tabulate}

@@ -1,5 +1,4 @@
 -- `sdc1d_params::same_cell` meets its contract. Assumes nothing.
-use borrow.Author.Needs.{needs}
 use borrow.Author.Tests.{eq-eqb, ne-eqb}
 use Rattle.sdc1d_params.proofs.cells.same_cell.Statement.{statement}
 use Rattle.sdc1d_params.proofs.cells.same_cell.Tie as tie

@@ -1,10 +1,10 @@
 -- `sdc1d_params::same_pair` meets its contract. Assumes nothing.
 use borrow.Author.Needs.{needs}
-use mathlib.Core.Path.{_≡_, sym, ap, _∙_}
-use mathlib.Core.Bool.{Bool, true, false, _&&_}
+use mathlib.Core.Path.{_≡_, sym, _∙_}
+use mathlib.Core.Bool.{true, false, _&&_}
 use lib.Dec.{eqb}
 use borrow.Author.Tests.{not-true, not-false}
-use Rattle.sdc1d_params.specs.Entries.{Cell, cell, isWritten, samePair}
+use Rattle.sdc1d_params.specs.Entries.{cell, isWritten, samePair}
 use Rattle.sdc1d_params.proofs.cells.same_pair.Statement.{statement}
 use Rattle.sdc1d_params.proofs.cells.same_pair.Tie as tie
 

@@ -1,7 +1,7 @@
 -- `sdc1d_params::check` meets its contract: each return is the first check that holds, and the last leaves what is written. Assumes nothing.
 use borrow.Author.Needs.{needs}
 use mathlib.Core.Path.{_≡_, ap, sym, _∙_}
-use mathlib.Core.Bool.{true, false}
+use mathlib.Core.Bool.{false}
 use denote.Ref.{now}
 use Rattle.lists.specs.Find.{any}
 use Rattle.reply.specs.declared.Refusal.the-variants.{WrongSize, NotABase, TooShort, UnknownName, TooManyGlues, DuplicatePair, OutOfRange}
