@@ -12,11 +12,16 @@
  *
  *    1 size     a sequence of more than 256 bytes; a lent slice of another length; more than 128
  *               entries or positions; not 1 to 64 strands; a glue above 63; a strand or a position
- *               that the design lacks
+ *               that the design lacks; more than 61 user strands or 1,024 energy entries; a name of
+ *               more than 64 bytes; a name or a sequence that leaves the text; a mark or a form of
+ *               another value; a quencher or reporter that is no user strand
  *    2 base     a byte other than a, c, g, t in either case
  *    3 short    a single sequence of fewer than 2 bases
  *    4 unequal  paired sequences of different length
  *    5 loop     a loop kind other than 0, 1, 2, or a loop length that the table lacks
+ *    6 unknown  a scaffold name that no strand glue has, as it is spelled
+ *    7 glues    the strands use more than 31 base names
+ *    8 twice    two energy entries name the same unordered pair of known names
  *    9 range    a number not finite or outside its range; an entry of a configuration above 63 that is
  *               to be written as a deck
  *   10 null     strand 0 has a glue, or row or column 0 of a table a nonzero cell
@@ -83,6 +88,56 @@ size_t mj_deck_read_count(const uint32_t *words, size_t n, uint8_t *entries, siz
 size_t mj_deck_read_place(const uint32_t *words, size_t n, uint8_t *entries, size_t lent);
 uint32_t mj_deck_write_reply(const uint8_t *configuration, size_t n, uint32_t *words, size_t lent);
 size_t mj_deck_write_count(const uint8_t *configuration, size_t n, uint32_t *words, size_t lent);
+
+/* Names. All names lie in one text; each is a start and a length in it, and lists of names have a
+ * mark for each beside them: 0 absent, 1 present. The start and length of an absent name are not
+ * looked at. A name's trailing stars are stripped to its base; an even number of them means the
+ * base, an odd number base*. UTF-8 is not asked for. */
+
+/* The base of a name (self_and_inverse): where it starts, its length, and 1 where the name stands for
+ * it, 0 where it stands for base*. Reply 1. */
+uint32_t mj_name_reply(const uint8_t *text, size_t n, size_t start, size_t length);
+size_t mj_name_start(const uint8_t *text, size_t n, size_t start, size_t length);
+size_t mj_name_length(const uint8_t *text, size_t n, size_t start, size_t length);
+uint32_t mj_name_is_base(const uint8_t *text, size_t n, size_t start, size_t length);
+
+/* The numbers of all glues of the user strands, 0 to 61 of them, three names for each: west, bottom,
+ * east; into as many lent glues. A new base takes the next two numbers from 1, for itself and for
+ * base*; an absent name is 0. On a refusal all glues are kept. Replies 1, 7. */
+uint32_t mj_strand_glues_reply(const uint8_t *text, size_t n, size_t users, const size_t *starts,
+                               size_t start_count, const size_t *lengths, size_t length_count,
+                               const uint8_t *marks, size_t mark_count, uint8_t *glues, size_t lent);
+
+/* A design's glues and tables from names and energies (from_params).
+ *
+ *   strand_*     three names for each user strand, 0 to 61 of them
+ *   scaffold_*   a name for each position, 0 to 128 of them, looked up as it is spelled
+ *   first_*, second_*   the names of each energy entry, 0 to 1,024 of them: the first is always there,
+ *                the second where its mark says so. An entry for one name is for its base and base*
+ *   forms        0 where the entry is the two doubles of dgs and dss, 1 where it is the sequence at a
+ *                start and length in the text, of 2 to 256 bases, whose energies are those of
+ *                mj_sequence_dg and mj_sequence_ds
+ *   penalty_dg, penalty_ds   are added to both numbers of every entry; 0.0 for none
+ *   quencher, reporter       the number of the user strand that is copied, from 1; 0 for none
+ *
+ * Written are strand_glues, three for strand 0, for each user strand, for the quencher (west and
+ * bottom of its strand) and for the reporter (bottom and east of its strand); scaffold_glues, one for
+ * each position; dg and ds, 4,096 cells each, a cell and its mirror for each entry both of whose names
+ * are known, all else 0.0. On a refusal all are kept. Replies 1, 2, 3, 6, 7, 8, 9. */
+uint32_t mj_params_reply(
+    const uint8_t *text, size_t n, size_t users, const size_t *strand_starts,
+    size_t strand_start_count, const size_t *strand_lengths, size_t strand_length_count,
+    const uint8_t *strand_marks, size_t strand_mark_count, const size_t *scaffold_starts,
+    size_t scaffold_start_count, const size_t *scaffold_lengths, size_t scaffold_length_count,
+    const uint8_t *scaffold_marks, size_t scaffold_mark_count, const size_t *first_starts,
+    size_t first_start_count, const size_t *first_lengths, size_t first_length_count,
+    const size_t *second_starts, size_t second_start_count, const size_t *second_lengths,
+    size_t second_length_count, const uint8_t *second_marks, size_t second_mark_count,
+    const uint8_t *forms, size_t form_count, const double *dgs, size_t dg_count, const double *dss,
+    size_t ds_count, const size_t *starts, size_t start_count, const size_t *lengths,
+    size_t length_count, double penalty_dg, double penalty_ds, size_t quencher, size_t reporter,
+    uint8_t *strand_glues, size_t strand_glues_lent, uint8_t *scaffold_glues,
+    size_t scaffold_glues_lent, double *dg, size_t dg_lent, double *ds, size_t ds_lent);
 
 /* Designs. A design is five slices, each a pointer and a length, and the ambient:
  *

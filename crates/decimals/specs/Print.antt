@@ -42,10 +42,12 @@ fixedText x = fixed (sgn x) (millionths x)
 abbrev pub unprintable : Float → Bool
 unprintable x = leb (2 ^ 43 * 2 ^ 1074) (mag binary64 x)
 
+-- what printing x answers
 unfoldable pub fixedPrinted : Float → List ℕ → Printed
 unfolding fixedText
 fixedPrinted x out = cond (unprintable x) Unprintable (printed (fixedText x) out)
 
+-- and what the lent slice then holds
 unfoldable pub fixedOut : Float → List ℕ → List ℕ
 unfolding fixedText
 fixedOut x out = cond (unprintable x) out (laid (fixedText x) out)

@@ -5,5 +5,4 @@ pub mod Valid
 pub mod Reading
 pub mod Writing
 pub mod Theorems
-pub mod Bench
 pub mod Cases

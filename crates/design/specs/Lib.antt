@@ -2,4 +2,3 @@ pub mod Design
 pub mod Checks
 pub mod Answers
 pub mod Laws
-pub mod Bench

@@ -1,2 +1,4 @@
+pub mod Copied
+pub mod Flag
 pub mod Lent
 pub mod Place

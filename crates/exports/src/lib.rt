@@ -1,9 +1,11 @@
 // The calls on sequences and temperatures as C functions, one for the reply number and one for each double, as its 64 bits.
 // include/mujplesten.h declares them; each works out its whole call.
 mod answers;
-mod designs;
+pub mod designs;
 mod figures;
-mod search;
+pub mod names;
+pub mod params;
+pub mod search;
 mod stored;
 
 ghost use mathlib.Core.Path.{_≡_};

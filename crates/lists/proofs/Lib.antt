@@ -10,3 +10,5 @@ pub mod Each
 pub mod Default
 pub mod Grid
 pub mod Counted
+pub mod Permuted
+pub mod Places

@@ -1,4 +1,3 @@
 pub mod Tables
 pub mod Entries
 pub mod Answers
-pub mod Bench

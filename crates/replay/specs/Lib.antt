@@ -1,3 +1,6 @@
 pub mod Text
 pub mod Says
 pub mod Kinds
+pub mod Places
+pub mod Setting
+pub mod Designs

@@ -8,6 +8,8 @@ use Rattle.io.specs.Digits.{digits, Fewest}
 use Rattle.lists.specs.Find.{firstIndex}
 use Rattle.replay.specs.declared.numbers.Number.{Number}
 use Rattle.replay.specs.declared.numbers.Number.the-variants.{Is, Malformed}
+use Rattle.replay.specs.declared.numbers.Byte.{Byte}
+use Rattle.replay.specs.declared.numbers.Byte.the-variants as byte
 
 -- what comes before the first mark, and all of a text that has none
 abbrev pub upTo : ℕ → List ℕ → List ℕ
@@ -35,3 +37,7 @@ ReadHex word Malformed = Unit {0}
 abbrev pub ReadDecimal : List ℕ → Number → Type 0
 ReadDecimal word (Is number) = Decimal word number
 ReadDecimal word Malformed = Unit {0}
+
+abbrev pub ReadByte : List ℕ → Byte → Type 0
+ReadByte word (byte.Is number) = Decimal word number
+ReadByte word byte.Malformed = Unit {0}

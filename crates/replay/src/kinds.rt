@@ -12,7 +12,7 @@ use crate::parts::up_to;
 use crate::says::says;
 
 // The sequence that a word stands for; an empty one is written as `-`.
-fn letters(word: &[u8]) -> &[u8]
+pub(crate) fn letters(word: &[u8]) -> &[u8]
     ensures { λ r. ⌜ now r ≡ letters·of (now (word .entry)) ⌝ }
 {
     if word.len() == 1 {

@@ -1,33 +1,31 @@
 // Replays the list of the Rust's answers, data/answers, whose head says how a line is written and which command made it. Each
 // question is asked of the port again, and a line that does not say what the port answers, bit for bit, is a difference; so is a
-// line that is not written as the head says.
+// line that is not written as the head says. Then it replays data/false, whose every answer was falsified, and has to report each.
+mod about;
+mod designs;
+mod kind;
 mod kinds;
 mod numbers;
 mod parts;
+mod places;
 mod says;
+mod setting;
 
-ghost use Prim.Native.Nat.{_<_};
+use about::Design;
+use kind::Kind;
+use kind::kind_of;
 use libc::STDOUT_FILENO;
-
-enum Kind {
-    Sequence,
-    Pair,
-    Loop,
-    Strength,
-    Strength2,
-    Ambient,
-    Unknown,
-}
 
 // How many lines of each kind were compared, and how many of them differ.
 struct Tally {
-    compared: [u64; 7],
-    differ: [u64; 7],
+    compared: [u64; 16],
+    differ: [u64; 16],
 }
 
-// How far the list was replayed: what was counted, the number of the next line and the place where it starts.
+// How far the list was replayed: what was counted, the design that lines have set, the number of the next line and the place where it starts.
 struct Progress {
     tally: Tally,
+    design: Design,
     number: u64,
     at: usize,
     ended: bool,
@@ -35,44 +33,6 @@ struct Progress {
 
 // A block of a line and what follows it has 4,096 bytes, so that a longer line could be cut short.
 const LONGEST_LINE: usize = 4095;
-
-impl Kind {
-    fn index(self) -> usize
-        ensures { λ r. ⌜ r < 7 ⌝ }
-    {
-        match self {
-            Kind::Sequence => 0,
-            Kind::Pair => 1,
-            Kind::Loop => 2,
-            Kind::Strength => 3,
-            Kind::Strength2 => 4,
-            Kind::Ambient => 5,
-            Kind::Unknown => 6,
-        }
-    }
-}
-
-fn kind_of(word: &[u8]) -> Kind {
-    if check::same(word, b"seq") {
-        return Kind::Sequence;
-    }
-    if check::same(word, b"pair") {
-        return Kind::Pair;
-    }
-    if check::same(word, b"loop") {
-        return Kind::Loop;
-    }
-    if check::same(word, b"strength") {
-        return Kind::Strength;
-    }
-    if check::same(word, b"strength2") {
-        return Kind::Strength2;
-    }
-    if check::same(word, b"ambient") {
-        return Kind::Ambient;
-    }
-    Kind::Unknown
-}
 
 fn print_name(kind: Kind) {
     match kind {
@@ -82,12 +42,21 @@ fn print_name(kind: Kind) {
         Kind::Strength => print(b"strength"),
         Kind::Strength2 => print(b"strength2"),
         Kind::Ambient => print(b"ambient"),
+        Kind::StrandBond => print(b"sbond"),
+        Kind::ScaffoldBond => print(b"cbond"),
+        Kind::Friends => print(b"friends"),
+        Kind::Count => print(b"nstates"),
+        Kind::State => print(b"state"),
+        Kind::StateEnergy => print(b"gsys"),
+        Kind::ChainEnergy => print(b"chain"),
+        Kind::Search => print(b"mfe"),
+        Kind::Settled => print(b"settled"),
         Kind::Unknown => print(b"of no kind"),
     }
 }
 
 // Whether a line says what the port answers.
-fn agrees(kind: Kind, words: &[u8]) -> bool {
+fn agrees(kind: Kind, words: &[u8], design: Design) -> bool {
     match kind {
         Kind::Sequence => kinds::sequence(words),
         Kind::Pair => kinds::pair(words),
@@ -95,7 +64,7 @@ fn agrees(kind: Kind, words: &[u8]) -> bool {
         Kind::Strength => kinds::strength(words),
         Kind::Strength2 => kinds::strength2(words),
         Kind::Ambient => kinds::ambient(words),
-        Kind::Unknown => false,
+        _ => about::agrees(kind, words, design),
     }
 }
 
@@ -142,17 +111,44 @@ fn counted(mut tally: Tally, kind: Kind, agreed: bool) -> Tally {
     tally
 }
 
-fn replay_line(tally: Tally, number: u64, line: &[u8]) -> Tally {
+// What was counted, and the design, after a line.
+struct Replayed {
+    tally: Tally,
+    design: Design,
+}
+
+// A line that is no question. One that sets nothing is a difference.
+fn replay_setting(tally: Tally, design: Design, number: u64, line: &[u8]) -> Replayed {
+    let step = about::set(design, parts::up_to(line, b' '), parts::past(line, b' '));
+    let design = step.design;
+    let done = step.done;
+    if is_well_formed(line) && done {
+        return Replayed { tally, design };
+    }
+    print_difference(number, line);
+    Replayed {
+        tally: counted(tally, Kind::Unknown, false),
+        design,
+    }
+}
+
+fn replay_line(tally: Tally, design: Design, number: u64, line: &[u8]) -> Replayed {
     if is_comment(line) {
-        return tally;
+        return Replayed { tally, design };
     }
     let kind = kind_of(parts::up_to(line, b' '));
+    if kind.index() == Kind::Unknown.index() {
+        return replay_setting(tally, design, number, line);
+    }
     let words = parts::past(line, b' ');
-    let agreed = is_well_formed(line) && agrees(kind, words);
+    let agreed = is_well_formed(line) && agrees(kind, words, design);
     if !agreed {
         print_difference(number, line);
     }
-    counted(tally, kind, agreed)
+    Replayed {
+        tally: counted(tally, kind, agreed),
+        design,
+    }
 }
 
 // Where in the file the next line starts; no place that a file has stands for one that is too far.
@@ -166,8 +162,10 @@ fn offset(at: usize) -> i64 {
 fn ended(progress: Progress, complaint: &[u8]) -> Progress {
     print(complaint);
     let tally = progress.tally;
+    let design = progress.design;
     Progress {
         tally,
+        design,
         number: progress.number,
         at: progress.at,
         ended: true,
@@ -191,8 +189,12 @@ fn replay_next(fd: i32, progress: Progress) -> Progress {
     }
     let number = progress.number;
     let next = std::num::wrapping_add_usize(progress.at, line.len());
+    let replayed = replay_line(progress.tally, progress.design, number, line);
+    let tally = replayed.tally;
+    let design = replayed.design;
     Progress {
-        tally: replay_line(progress.tally, number, line),
+        tally,
+        design,
         number: std::num::wrapping_add_u64(number, 1),
         at: std::num::wrapping_add_usize(next, 1),
         ended: false,
@@ -203,9 +205,10 @@ fn replay_next(fd: i32, progress: Progress) -> Progress {
 fn replay(fd: i32) -> Tally {
     let mut progress = Progress {
         tally: Tally {
-            compared: [0; 7],
-            differ: [0; 7],
+            compared: [0; 16],
+            differ: [0; 16],
         },
+        design: about::begun(b""),
         number: 1,
         at: 0,
         ended: false,
@@ -239,11 +242,19 @@ fn summarize(tally: Tally) {
     print_kind(tally, Kind::Strength);
     print_kind(tally, Kind::Strength2);
     print_kind(tally, Kind::Ambient);
+    print_kind(tally, Kind::StrandBond);
+    print_kind(tally, Kind::ScaffoldBond);
+    print_kind(tally, Kind::Friends);
+    print_kind(tally, Kind::Count);
+    print_kind(tally, Kind::State);
+    print_kind(tally, Kind::StateEnergy);
+    print_kind(tally, Kind::ChainEnergy);
+    print_kind(tally, Kind::Search);
+    print_kind(tally, Kind::Settled);
     print_kind(tally, Kind::Unknown);
 }
 
-fn main() {
-    let path = b"answers";
+fn replay_list(path: &[u8]) {
     let fd = os::open_read(path);
     if fd < 0 {
         os::fail(path);
@@ -251,4 +262,10 @@ fn main() {
     }
     summarize(replay(fd));
     libc::close(fd);
+}
+
+fn main() {
+    replay_list(b"answers");
+    print(b"of lines that are false:\n");
+    replay_list(b"false");
 }

@@ -4,10 +4,15 @@ ghost use mathlib.Core.Path.{_≡_};
 ghost use mathlib.Core.Bool.{true};
 ghost use lib.Ieee as Ieee;
 ghost use lib.Ieee.{binary64};
-ghost use Rattle.replay.specs.Text.{hexText, Decimal, ReadHex, ReadDecimal};
+ghost use Rattle.replay.specs.Text.{hexText, Decimal, ReadHex, ReadDecimal, ReadByte};
 
 pub(crate) enum Number {
     Is(u64),
+    Malformed,
+}
+
+pub(crate) enum Byte {
+    Is(u8),
     Malformed,
 }
 
@@ -80,6 +85,18 @@ pub(crate) fn decimal(word: &[u8]) -> Number
         return Number::Is(x);
     }
     Number::Malformed
+}
+
+pub(crate) fn small(word: &[u8]) -> Byte
+    ensures { λ r. ⌜ ReadByte (now (word .entry)) r ⌝ }
+{
+    let Number::Is(x) = decimal(word) else {
+        return Byte::Malformed;
+    };
+    if 255 < x {
+        return Byte::Malformed;
+    }
+    Byte::Is(x as u8)
 }
 
 // The double with these bits. Every pattern of a NaN gives the one NaN that calls are given.

@@ -9,7 +9,7 @@ use crate::parts::past;
 use crate::parts::up_to;
 
 // `refused NUMBER`.
-fn refused(words: &[u8], number: u32) -> bool
+pub(crate) fn refused(words: &[u8], number: u32) -> bool
     ensures { λ r. ⌜ (r ≡ true → SaysRefused (now (words .entry)) number) ⌝ }
 {
     if check::same(up_to(words, b' '), b"refused") {

@@ -1,5 +1,6 @@
 pub mod Sequences
 pub mod Pairs
+pub mod Marked
 pub mod Small
 pub mod Writes
 pub mod Lengths

@@ -1,5 +1,5 @@
 -- The reply at each check, and what the checks leave to the writing. Assumes nothing.
-use mathlib.Core.Path.{_≡_, ap, ap₂, sym, _∙_}
+use mathlib.Core.Path.{_≡_, refl, ap, ap₂, sym, _∙_}
 use mathlib.Core.Bool.{Bool, true, false, not, _||_}
 use mathlib.Core.List.{List}
 use Prim.Native.Nat.{ℕ, _<_, _≤_}
@@ -178,6 +178,14 @@ module _ (p : Params) (lent : Outcome) (fit : Sized p lent) (marks first second 
         columns-many = columns-many;
         row = λ k h. rw (ap (λ (x : Cell). x .row) (cells-found k h)) (cell-inside (bases p) (firstAt p k) (glueAt (p .text) (p .seconds) k) most .0);
         column = λ k h. rw (ap (λ (x : Cell). x .column) (cells-found k h)) (cell-inside (bases p) (firstAt p k) (glueAt (p .text) (p .seconds) k) most .1);
+      }
+
+      pub cells-within : InTables rows columns (length rows)
+      cells-within = record {
+        rows-many = refl;
+        columns-many = columns-many ∙ sym rows-many;
+        row = λ k h. cells-inside .row k (rw rows-many at h);
+        column = λ k h. cells-inside .column k (rw rows-many at h);
       }
 
       pub checked :

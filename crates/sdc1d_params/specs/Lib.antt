@@ -4,4 +4,3 @@ pub mod Cells
 pub mod Scaffold
 pub mod Params
 pub mod Checked
-pub mod Bench

@@ -4,4 +4,3 @@ pub mod Numbers
 pub mod Spelled
 pub mod Table
 pub mod Calls
-pub mod Bench

@@ -3,3 +3,5 @@ pub mod Laying
 pub mod Fitting
 pub mod Answers
 pub mod Reading
+pub mod Sized
+pub mod Theorems

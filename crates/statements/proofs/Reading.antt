@@ -64,6 +64,31 @@ module _ (text : List ℕ) (room : ℕ) where
       at-line after (rows.Rows more) k e =
           at-room after more (ltb room (count + more)) refl (counted-line (upToEnd text line) (line .start) number more k) e
 
+  -- and their number is the answer
+  pub rows-counted : (lines : List Line) (number count n : ℕ) → answerFrom text room number count lines ≡ Rows n → n ≡ count + length (rowsFrom text number lines)
+  unfolding answerFrom answerBy rowsFrom
+  rows-counted [] number count n e = let z : count ≡ n = cc in omega arith
+  rows-counted (line ∷ rest) number count n e =
+      at-line (λ c f. rows-counted rest (number + 1) c n f) (countOf (upToEnd text line) (line .start)) refl e
+    where
+      After : Type 0
+      After = (c : ℕ) → answerFrom text room (number + 1) c rest ≡ Rows n → n ≡ c + length (rowsFrom text (number + 1) rest)
+
+      at-room : After → (more : ℕ) (b : Bool) → length (rowsIn text number line) ≡ more
+          → cond b (TooManyRows number) (answerFrom text room (number + 1) (count + more) rest) ≡ Rows n
+          → n ≡ count + length (rowsIn text number line ++ rowsFrom text (number + 1) rest)
+      at-room after more true l e = let z : _≡_ {A = ℕ} 0 1 = cc in absurd (omega arith)
+      at-room after more false l e =
+          let counted = after (count + more) e in
+          omega (arith, length-append (rowsIn text number line) (rowsFrom text (number + 1) rest))
+
+      at-line : After → (k : Count) → countOf (upToEnd text line) (line .start) ≡ k
+          → answerBy k room number count (λ counted. answerFrom text room (number + 1) counted rest) ≡ Rows n
+          → n ≡ count + length (rowsIn text number line ++ rowsFrom text (number + 1) rest)
+      at-line after (rows.Fault word reason) k e = let z : _≡_ {A = ℕ} 0 1 = cc in absurd (omega arith)
+      at-line after (rows.Rows more) k e =
+          at-room after more (ltb room (count + more)) (counted-line (upToEnd text line) (line .start) number more k) e
+
 -- ---- the call
 
 or-false : (a b : Bool) → (a || b) ≡ false → (a ≡ false) × (b ≡ false)
@@ -93,6 +118,17 @@ module _ (text : List ℕ) (room : Room) where
     pub read-lines : length text ≤ 1048576 → readAnswer text room ≡ answerFrom text (length (room .kinds)) 1 0 (linesOf text)
     unfolding readAnswer
     read-lines h = simp (e, le-ltb 1048576 (length text) h)
+
+  -- where rows are answered, the slices are for as many, and the lines gave the answer
+  pub read-rows : (n : ℕ) → readAnswer text room ≡ Rows n → Equal room × (answerFrom text (length (room .kinds)) 1 0 (linesOf text) ≡ Rows n)
+  unfolding readAnswer
+  read-rows n e = at-room (unequal room) (ltb 1048576 (length text)) refl e
+    where
+      at-room : (u l : Bool) → unequal room ≡ u → cond u UnequalRoom (cond l TooLong (answerFrom text (length (room .kinds)) 1 0 (linesOf text))) ≡ Rows n
+          → Equal room × (answerFrom text (length (room .kinds)) 1 0 (linesOf text) ≡ Rows n)
+      at-room true l u e = let z : _≡_ {A = ℕ} 0 1 = cc in absurd (omega arith)
+      at-room false true u e = let z : _≡_ {A = ℕ} 0 1 = cc in absurd (omega arith)
+      at-room false false u e = (equal-room room u, e)
 
   -- rows are laid
   pub room-laid : (n : ℕ) → readAnswer text room ≡ Rows n → roomAfter text room ≡ laid room 0 (rowsOf text)

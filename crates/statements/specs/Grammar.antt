@@ -156,16 +156,27 @@ ds = 17
 -- kind by kind. `dg` or `seq` decides between the two kinds of `energy` and of `pair`, which are alike up to there.
 unfoldable pub shapes : List (List ℕ)
 shapes =
+    -- kelvin
     (number 0 ∷ end ∷ end ∷ end ∷ end ∷ end ∷ [])
+    -- ambient
     ∷ (number 0 ∷ number 1 ∷ number 2 ∷ end ∷ end ∷ end ∷ [])
+    -- strand
     ∷ (name 0 ∷ glue 1 ∷ glue 2 ∷ glue 3 ∷ number 0 ∷ end ∷ [])
+    -- quencher
     ∷ (glue 0 ∷ number 0 ∷ end ∷ end ∷ end ∷ end ∷ [])
+    -- reporter
     ∷ (glue 0 ∷ number 0 ∷ end ∷ end ∷ end ∷ end ∷ [])
+    -- scaffold, a position
     ∷ (glue 0 ∷ end ∷ end ∷ end ∷ end ∷ end ∷ [])
+    -- energy with dg and ds
     ∷ (name 0 ∷ dgOrSeq ∷ number 0 ∷ ds ∷ number 1 ∷ end ∷ [])
+    -- energy with seq
     ∷ (name 0 ∷ dgOrSeq ∷ bases 1 ∷ end ∷ end ∷ end ∷ [])
+    -- pair with dg and ds
     ∷ (name 0 ∷ name 1 ∷ dgOrSeq ∷ number 0 ∷ ds ∷ number 1 ∷ [])
+    -- pair with seq
     ∷ (name 0 ∷ name 1 ∷ dgOrSeq ∷ bases 2 ∷ end ∷ end ∷ [])
+    -- penalty
     ∷ (number 0 ∷ number 1 ∷ end ∷ end ∷ end ∷ end ∷ [])
     ∷ []
 

@@ -4,3 +4,4 @@ pub mod Layout
 pub mod Statement
 pub mod Rows
 pub mod Cases
+pub mod Theorems

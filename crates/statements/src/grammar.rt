@@ -59,17 +59,29 @@ const DG_OR_SEQ: u8 = 16;
 
 const DS: u8 = 17;
 
+// What stands after the keyword, in the order of the kinds.
 const SHAPES: [[u8; 6]; 11] = [
+    // kelvin
     [NUMBER, END, END, END, END, END],
+    // ambient
     [NUMBER, NUMBER + 1, NUMBER + 2, END, END, END],
+    // strand
     [NAME, GLUE + 1, GLUE + 2, GLUE + 3, NUMBER, END],
+    // quencher
     [GLUE, NUMBER, END, END, END, END],
+    // reporter
     [GLUE, NUMBER, END, END, END, END],
+    // scaffold, a position
     [GLUE, END, END, END, END, END],
+    // energy with dg and ds
     [NAME, DG_OR_SEQ, NUMBER, DS, NUMBER + 1, END],
+    // energy with seq
     [NAME, DG_OR_SEQ, BASES + 1, END, END, END],
+    // pair with dg and ds
     [NAME, NAME + 1, DG_OR_SEQ, NUMBER, DS, NUMBER + 1],
+    // pair with seq
     [NAME, NAME + 1, DG_OR_SEQ, BASES + 2, END, END],
+    // penalty
     [NUMBER, NUMBER + 1, END, END, END, END],
 ];
 

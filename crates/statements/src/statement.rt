@@ -25,7 +25,7 @@ pub enum Reason {
     NotANumber,
     // A number with more than 17 digits.
     TooManyDigits,
-    // A number with an exponent beyond all doubles.
+    // A number whose exponent, or last place, is too large or too small.
     OutOfReach,
     NeitherDgNorSeq,
     NotDs,

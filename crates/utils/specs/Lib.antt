@@ -6,5 +6,4 @@ pub mod Loops
 pub mod Single
 pub mod Pair
 pub mod Strength
-pub mod Bench
 pub mod Published

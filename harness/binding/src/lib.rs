@@ -7,6 +7,8 @@
 
 mod deck;
 mod design;
+mod names;
+mod params;
 mod sequences;
 mod temperature;
 
@@ -18,6 +20,8 @@ pub use design::{
     scaffold_bond_reply, search_energy, search_reply, state_energy, state_energy_reply,
     state_reply, states_count, states_reply, strand_bond, strand_bond_reply, Design,
 };
+pub use names::{name_is_base, name_length, name_reply, name_start, strand_glues_reply, Names};
+pub use params::{params_reply, Built, Params};
 pub use sequences::{
     loop_dg, loop_reply, pair_dg, pair_ds, pair_reply, pair_strength, pair_strength_reply,
     sequence_dg, sequence_ds, sequence_reply, sequence_strength, sequence_strength_reply,

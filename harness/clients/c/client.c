@@ -221,6 +221,60 @@ static void designs(void)
     reply("a null cell", mj_states_reply(DESIGN), 10);
 }
 
+/* One strand with glues a, b* and c**, at the start of the text; after them two bases. */
+static const char text[] = "ab*c**AC";
+static const size_t starts[] = { 0, 1, 3 }, lengths[] = { 1, 2, 3 };
+static const uint8_t marks[] = { 1, 1, 1 };
+
+static void names(void)
+{
+    const uint8_t *t = (const uint8_t *)text;
+    uint8_t glues[3] = { 9, 9, 9 };
+    reply("c**", mj_name_reply(t, 8, 3, 3), 0);
+    count("its base", mj_name_start(t, 8, 3, 3) == 3 && mj_name_length(t, 8, 3, 3) == 1);
+    count("stands for it", mj_name_is_base(t, 8, 3, 3) == 1);
+    count("b* does not", mj_name_is_base(t, 8, 1, 2) == 0);
+    reply("a name that leaves the text", mj_name_reply(t, 8, 7, SIZE_MAX), 1);
+    count("no length", mj_name_length(t, 8, 7, SIZE_MAX) == 0);
+    reply("too few glues", mj_strand_glues_reply(t, 8, 1, starts, 3, lengths, 3, marks, 3, glues, 2), 1);
+    count("glues kept", glues[0] == 9 && glues[2] == 9);
+    reply("glues", mj_strand_glues_reply(t, 8, 1, starts, 3, lengths, 3, marks, 3, glues, 3), 0);
+    count("their numbers", glues[0] == 1 && glues[1] == 4 && glues[2] == 5);
+}
+
+/* Position 0 has the scaffold name at `site`; the entry for b is the sequence AC, and the quencher
+ * copies strand 1. */
+static uint32_t built(size_t site, size_t length, uint8_t *glues, uint8_t *scaffold, double *dg,
+                      double *ds)
+{
+    static const size_t first[] = { 1 }, one[] = { 1 }, sequence[] = { 6 }, two[] = { 2 };
+    static const uint8_t absent[] = { 0 }, form[] = { 1 };
+    static const double unread[] = { NAN };
+    return mj_params_reply((const uint8_t *)text, 8, 1, starts, 3, lengths, 3, marks, 3, &site, 1,
+                           &length, 1, marks, 1, first, 1, one, 1, first, 1, one, 1, absent, 1, form,
+                           1, unread, 1, unread, 1, sequence, 1, two, 1, 0.5, 0.0, 1, 0, glues, 12,
+                           scaffold, 1, dg, 4096, ds, 4096);
+}
+
+static void params(void)
+{
+    static const uint8_t expected[12] = { 0, 0, 0, 1, 4, 5, 1, 4, 0, 0, 0, 0 };
+    static double dg[4096], ds[4096];
+    uint8_t glues[12], scaffold[1];
+    uint64_t cell;
+    memset(glues, 9, sizeof glues);
+    reply("c** is not known", built(3, 3, glues, scaffold, dg, ds), 6);
+    count("glues kept", glues[0] == 9 && glues[11] == 9);
+    reply("b is", built(1, 1, glues, scaffold, dg, ds), 0);
+    count("strand glues", memcmp(glues, expected, sizeof glues) == 0);
+    count("scaffold glue", scaffold[0] == 3);
+    memcpy(&cell, &dg[3 * 64 + 4], sizeof cell);
+    figure("its cell", cell, (-1.44 + 1.96) + 0.5);
+    count("the mirror", dg[4 * 64 + 3] == dg[3 * 64 + 4]);
+    memcpy(&cell, &ds[4 * 64 + 3], sizeof cell);
+    figure("the entropy", cell, (-0.0224 + 0.0057) + 0.0);
+}
+
 int main(void)
 {
     memset(many, 'g', sizeof many);
@@ -231,6 +285,8 @@ int main(void)
     ambients();
     decks();
     designs();
+    names();
+    params();
     printf("client: %u passed, %u failed\n", passed, failed);
     return failed == 0 ? 0 : 1;
 }

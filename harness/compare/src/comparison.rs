@@ -93,6 +93,8 @@ impl Asking<'_> {
         while !self.under_way.is_empty() {
             self.take_batch();
         }
+        let made = self.kind.made();
+        self.tally.notes.extend(made.iter().copied());
         println!("{}", self.tally.summary());
         let tally = &mut self.comparison.tally;
         tally.add(&self.tally);
@@ -100,11 +102,14 @@ impl Asking<'_> {
             tally.complain(&format!("{how}; nothing was asked after that"));
             return;
         }
+        let name = self.kind.name();
         for number in self.kind.replies() {
             if !self.tally.replies.contains_key(number) {
-                let name = self.kind.name();
                 tally.complain(&format!("no {name} question has the reply {number}"));
             }
+        }
+        for (sort, _) in made.iter().filter(|(_, count)| *count == 0) {
+            tally.complain(&format!("no {name} question was made of: {sort}"));
         }
     }
 

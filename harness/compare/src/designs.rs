@@ -2,6 +2,7 @@
 
 use crate::doubles::{not_finite, of_any_size};
 use crate::judge::design::{Lent, CELLS};
+use crate::judge::sequences::STACKS;
 use crate::random::Random;
 use protocol::{bits, joined};
 use std::fmt::Write;
@@ -189,25 +190,11 @@ fn signed(random: &mut Random, size: f64) -> f64 {
     }
 }
 
-/// The published neighbour pairs: dG in hundredths of kcal/mol, dS in tenths of cal/mol/K.
-const NEIGHBOURS: [(i32, i32); 10] = [
-    (-100, -213),
-    (-88, -204),
-    (-58, -213),
-    (-145, -227),
-    (-144, -224),
-    (-128, -210),
-    (-130, -222),
-    (-217, -272),
-    (-224, -244),
-    (-184, -199),
-];
-
 /// A duplex of 4 to 12 bases, initiation included.
 fn duplex(random: &mut Random) -> (f64, f64) {
     let (mut dg, mut ds) = (0.0, 0.0);
     for _ in 0..random.within(3..=11) {
-        let (hundredths, tenths) = random.pick(&NEIGHBOURS);
+        let (_, hundredths, tenths) = random.pick(&STACKS);
         dg += f64::from(hundredths) / 100.0;
         ds += f64::from(tenths) / 10_000.0;
     }

@@ -5,9 +5,11 @@
 //! * `judge`: document 01's refusals, and answers that the Rust lacks, from the document alone.
 //! * `question`: what is asked and expected, and when an answer differs.
 //! * `comparison`, `program`, `tally`: the run.
-//! * `random`, `bases`, `doubles`, `decks`, `designs`: what the generators draw from.
+//! * `random`, `bases`, `doubles`, `decks`, `designs`, `ambients`, `parameters`: what the
+//!   generators draw from.
 //! * `replay`: the fixed list of answers for the Rattle program of that name.
 
+pub mod ambients;
 pub mod bases;
 pub mod comparison;
 pub mod decks;
@@ -15,6 +17,7 @@ pub mod designs;
 pub mod doubles;
 pub mod judge;
 pub mod kinds;
+pub mod parameters;
 pub mod program;
 pub mod question;
 pub mod random;

@@ -100,12 +100,12 @@ impl Question {
     }
 }
 
-/// Replies 2, 3 and 4 stand where the Rust panics: had it answered, the judge would be wrong.
+/// Replies 2, 3, 4 and 6 stand where the Rust panics: had it answered, the judge would be wrong.
 /// The other replies are rules of document 01 that the Rust lacks.
 fn rust_contradicts(number: u32, oracle: Option<&Reply>) -> Option<&'static str> {
     match oracle {
         Some(Reply::Err(_)) => Some("the oracle did not understand"),
-        Some(Reply::Ok(_)) if (2..=4).contains(&number) => Some("the Rust answers"),
+        Some(Reply::Ok(_)) if [2, 3, 4, 6].contains(&number) => Some("the Rust answers"),
         _ => None,
     }
 }

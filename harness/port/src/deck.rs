@@ -2,6 +2,7 @@
 //! hexadecimal, into so many lent entries, and `deck.write LENT ENTRIES` writes entries into so many
 //! lent words. `ok COUNT …` gives all of the lent slice, so that what was to be kept is seen too.
 
+use crate::slices::list;
 use mujplesten as mj;
 use protocol::{expect_words, joined, whole, Complaint, Reply, Words};
 
@@ -13,8 +14,8 @@ pub fn answer(words: Words) -> Result<Reply, Complaint> {
     expect_words(words, &[2])?;
     let lent: usize = whole(words[1])?;
     match words[0] {
-        "deck.read" => read(&listed(words[2], hexadecimal)?, lent),
-        "deck.write" => write(&listed(words[2], whole)?, lent),
+        "deck.read" => read(&list(words[2], hexadecimal)?, lent),
+        "deck.write" => write(&list(words[2], whole)?, lent),
         other => Err(format!("no such line {other}")),
     }
 }
@@ -71,13 +72,6 @@ fn untouched(number: u32, count: usize, kept: bool) -> Result<(), Complaint> {
         (0, true) => Ok(()),
         (_, true) => Err(format!("refused {number} with the count {count}")),
         _ => Err(format!("refused {number} after writing")),
-    }
-}
-
-fn listed<T>(word: &str, one: impl Fn(&str) -> Result<T, Complaint>) -> Result<Vec<T>, Complaint> {
-    match word {
-        "-" => Ok(Vec::new()),
-        list => list.split(',').map(one).collect(),
     }
 }
 

@@ -5,6 +5,7 @@
 //! design; `d.build` checks nothing, so that every question meets what was set.
 
 use crate::reply;
+use crate::slices::list;
 use mujplesten as mj;
 use protocol::{double, expect_words, joined, whole, Complaint, Reply, Words};
 
@@ -323,8 +324,5 @@ fn put<T>(slice: &mut [T], index: usize, value: T) -> Result<(), Complaint> {
 }
 
 fn configuration(word: &str) -> Result<Vec<u8>, Complaint> {
-    match word {
-        "-" => Ok(vec![]),
-        list => list.split(',').map(whole).collect(),
-    }
+    list(word, whole)
 }

@@ -3,7 +3,10 @@
 
 mod deck;
 mod design;
+mod names;
+mod params;
 mod sequences;
+mod slices;
 mod temperature;
 
 use design::Lent;
@@ -14,13 +17,15 @@ fn main() -> std::io::Result<()> {
     serve(|words| answer(&mut lent, words).unwrap_or_else(|complaint| Some(Reply::Err(complaint))))
 }
 
-/// `None` after a setter. What is neither about sequences, temperatures nor decks is about the
-/// design that lines have set so far.
+/// `None` after a setter. What is neither about sequences, temperatures, decks, names nor parameters
+/// is about the design that lines have set so far.
 fn answer(lent: &mut Lent, words: Words) -> Result<Option<Reply>, Complaint> {
     match words[0] {
         "seq" | "pair" | "loop" | "strengthx" => sequences::answer(words).map(Some),
         "ambient" => temperature::answer(words).map(Some),
         "deck.read" | "deck.write" => deck::answer(words).map(Some),
+        "params" => params::answer(words).map(Some),
+        "name" | "raw.name" | "raw.glues" => names::answer(words).map(Some),
         _ => lent.answer(words),
     }
 }

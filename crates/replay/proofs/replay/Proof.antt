@@ -9,6 +9,12 @@ Inv-loop fd progress₀ turns₀ progress turns = Unit {0}
 abbrev μ-loop : tie.MeasureT-loop
 μ-loop fd progress₀ turns₀ progress turns = turns
 
+slice-aggregate-begun : tie.Need-slice-aggregate-begun Inv-loop μ-loop
+slice-aggregate-begun c = search needs
+
+begun-requires : tie.Need-begun-requires Inv-loop μ-loop
+begun-requires c κs = search needs
+
 loop-holds : tie.Need-loop-holds Inv-loop μ-loop
 loop-holds c = search needs
 
@@ -33,6 +39,8 @@ replay-spec =
     (tie.spec
     Inv-loop
     μ-loop
+    slice-aggregate-begun
+    begun-requires
     loop-holds
     replay-next-requires
     sub-turns

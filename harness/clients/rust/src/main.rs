@@ -41,6 +41,8 @@ fn main() -> ExitCode {
     ambients(&mut checks);
     decks(&mut checks);
     designs(&mut checks);
+    names(&mut checks);
+    params(&mut checks);
     println!("client: {} passed, {} failed", checks.passed, checks.failed);
     if checks.failed == 0 {
         ExitCode::SUCCESS
@@ -259,4 +261,87 @@ fn states_and_energies(checks: &mut Checks, design: mj::Design) {
     checks.count("its state", settled == [0, 2], format!("{settled:?}"));
     let energy = mj::search_energy(design, &mut settled);
     checks.figure("its energy", energy, -1.5);
+}
+
+/// One strand with glues a, b* and c**, at the start of the text; after them two bases.
+const TEXT: &[u8] = b"ab*c**AC";
+const STRANDS: mj::Names = mj::Names {
+    starts: &[0, 1, 3],
+    lengths: &[1, 2, 3],
+    marks: &[1, 1, 1],
+};
+
+fn names(checks: &mut Checks) {
+    checks.reply("c**", mj::name_reply(TEXT, 3, 3), 0);
+    let base = (mj::name_start(TEXT, 3, 3), mj::name_length(TEXT, 3, 3));
+    checks.count("its base", base == (3, 1), format!("{base:?}"));
+    checks.reply("stands for it", mj::name_is_base(TEXT, 3, 3), 1);
+    checks.reply("b* does not", mj::name_is_base(TEXT, 1, 2), 0);
+    checks.reply("outside", mj::name_reply(TEXT, 7, usize::MAX), 1);
+    let mut glues = [9; 3];
+    let number = mj::strand_glues_reply(TEXT, 1, STRANDS, &mut glues[..2]);
+    checks.reply("too few glues", number, 1);
+    checks.count("glues kept", glues == [9; 3], format!("{glues:?}"));
+    checks.reply(
+        "glues",
+        mj::strand_glues_reply(TEXT, 1, STRANDS, &mut glues),
+        0,
+    );
+    checks.count("their numbers", glues == [1, 4, 5], format!("{glues:?}"));
+}
+
+/// The entry for b is the sequence AC; the quencher copies strand 1. The scaffold name is c**, then b.
+fn params(checks: &mut Checks) {
+    for (start, length, number) in [(3, 3, 6), (1, 1, 0)] {
+        let (mut strand_glues, mut scaffold_glues) = ([9; 12], [9; 1]);
+        let (mut dg, mut ds) = (vec![-7.0; 4096], vec![-7.0; 4096]);
+        let set = mj::Params {
+            text: TEXT,
+            users: 1,
+            strands: STRANDS,
+            scaffold: mj::Names {
+                starts: &[start],
+                lengths: &[length],
+                marks: &[1],
+            },
+            first_starts: &[1],
+            first_lengths: &[1],
+            seconds: mj::Names {
+                starts: &[usize::MAX],
+                lengths: &[usize::MAX],
+                marks: &[0],
+            },
+            forms: &[1],
+            dgs: &[f64::NAN],
+            dss: &[f64::NAN],
+            starts: &[6],
+            lengths: &[2],
+            penalty_dg: 0.5,
+            penalty_ds: 0.0,
+            quencher: 1,
+            reporter: 0,
+        };
+        let into = mj::Built {
+            strand_glues: &mut strand_glues,
+            scaffold_glues: &mut scaffold_glues,
+            dg: &mut dg,
+            ds: &mut ds,
+        };
+        checks.reply("a build", mj::params_reply(set, into), number);
+        if number != 0 {
+            let kept = strand_glues == [9; 12] && dg.iter().chain(&ds).all(|x| *x == -7.0);
+            checks.count("all kept", kept, "written".to_string());
+            continue;
+        }
+        let expected = [0, 0, 0, 1, 4, 5, 1, 4, 0, 0, 0, 0];
+        let told = format!("{strand_glues:?}");
+        checks.count("strand glues", strand_glues == expected, told);
+        checks.count("scaffold glue", scaffold_glues == [3], String::new());
+        for cell in [3 * 64 + 4, 4 * 64 + 3] {
+            checks.figure("dG", dg[cell].to_bits(), (-1.44 + 1.96) + 0.5);
+            checks.figure("dS", ds[cell].to_bits(), (-0.0224 + 0.0057) + 0.0);
+        }
+        let filled = dg.iter().chain(&ds).filter(|x| x.to_bits() != 0).count();
+        checks.count("nothing else", filled == 4, format!("{filled} cells"));
+    }
 }

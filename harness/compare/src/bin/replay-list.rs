@@ -1,4 +1,5 @@
-//! `replay-list ORACLE`: writes the list of answers for the program `replay` to standard output.
+//! `replay-list ORACLE [false]`: writes the list of answers for the program `replay`, or the list of
+//! falsified ones, to standard output.
 //! The same command writes the same bytes.
 
 use compare::program::Program;
@@ -9,11 +10,15 @@ use std::process::ExitCode;
 
 fn main() -> ExitCode {
     let arguments: Vec<String> = std::env::args().skip(1).collect();
-    let [oracle] = arguments.as_slice() else {
-        eprintln!("usage: replay-list ORACLE");
-        return ExitCode::from(2);
+    let (oracle, list): (_, List) = match arguments.as_slice() {
+        [oracle] => (oracle, replay::list),
+        [oracle, word] if word == "false" => (oracle, replay::false_list),
+        _ => {
+            eprintln!("usage: replay-list ORACLE [false]");
+            return ExitCode::from(2);
+        }
     };
-    match write_list(Path::new(oracle)) {
+    match write_list(Path::new(oracle), list) {
         Ok(()) => ExitCode::SUCCESS,
         Err(complaint) => {
             eprintln!("replay-list: {complaint}");
@@ -22,8 +27,10 @@ fn main() -> ExitCode {
     }
 }
 
-fn write_list(oracle: &Path) -> Result<(), String> {
-    let list = replay::list(&mut Program::start("oracle", oracle)?)?;
+type List = fn(&mut Program) -> Result<String, String>;
+
+fn write_list(oracle: &Path, list: List) -> Result<(), String> {
+    let list = list(&mut Program::start("oracle", oracle)?)?;
     let mut out = std::io::stdout().lock();
     out.write_all(list.as_bytes())
         .and_then(|()| out.flush())

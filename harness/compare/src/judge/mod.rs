@@ -1,11 +1,13 @@
 //! The judge: which number document 01 refuses a call with, or none.
 //!
 //! Written from documents 01 and CALLS.md alone, never from the port or from rgrow: where port
-//! and judge agree, two readings of the document agree. Of sequences it works out no energy; of decks
-//! and designs it has the answers too, for what the Rust lacks or cannot be asked.
+//! and judge agree, two readings of the document agree. Of decks, names,
+//! parameters and designs it has the answers too, for what the Rust lacks or cannot be asked.
 
 pub mod deck;
 pub mod design;
+pub mod parameters;
+pub mod search;
 pub mod sequences;
 pub mod temperature;
 

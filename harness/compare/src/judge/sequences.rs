@@ -3,7 +3,7 @@
 
 use super::{out_of_range, Verdict};
 
-const MOST_BASES: usize = 256;
+pub const LONGEST: usize = 256;
 
 /// The 15 entries of LENGTHS. Document 01 counts them; the lengths themselves are those of the
 /// paper's table of loop initiation (Table 4).
@@ -39,7 +39,7 @@ pub fn pair_strength(a: &[u8], b: &[u8], excess: f64) -> Verdict {
 
 fn one_sequence(s: &[u8]) -> [(u32, bool); 3] {
     [
-        (1, s.len() > MOST_BASES),
+        (1, s.len() > LONGEST),
         (2, has_other_byte(s)),
         (3, s.len() < 2),
     ]
@@ -47,11 +47,50 @@ fn one_sequence(s: &[u8]) -> [(u32, bool); 3] {
 
 fn two_sequences(a: &[u8], b: &[u8]) -> [(u32, bool); 4] {
     [
-        (1, a.len() > MOST_BASES || b.len() > MOST_BASES),
+        (1, a.len() > LONGEST || b.len() > LONGEST),
         (2, has_other_byte(a) || has_other_byte(b)),
         (4, a.len() != b.len()),
         (5, needs_a_missing_loop(a, b)),
     ]
+}
+
+/// The paper's ten stacks with the entropies that the Rust has: letters, dG in hundredths of
+/// kcal/mol, dS in tenths of cal/mol/K. Read along the other strand they are the other six.
+pub const STACKS: [(&[u8; 2], i32, i32); 10] = [
+    (b"aa", -100, -213),
+    (b"at", -88, -204),
+    (b"ta", -58, -213),
+    (b"ca", -145, -227),
+    (b"gt", -144, -224),
+    (b"ct", -128, -210),
+    (b"ga", -130, -222),
+    (b"cg", -217, -272),
+    (b"gc", -224, -244),
+    (b"gg", -184, -199),
+];
+
+/// dG and dS of one sequence that is not refused: "pairs summed left to right from 0.0, then 1.96
+/// and +0.0057 added".
+pub fn energies(s: &[u8]) -> (f64, f64) {
+    let (mut dg, mut ds) = (0.0, 0.0);
+    for window in s.to_ascii_lowercase().windows(2) {
+        let other = [partner(window[1]), partner(window[0])];
+        let is_it = |stack: &[u8; 2]| stack == window || *stack == other;
+        let found = STACKS.iter().find(|(stack, _, _)| is_it(stack));
+        let (_, hundredths, tenths) = found.expect("every two letters are a stack");
+        dg += f64::from(*hundredths) / 100.0;
+        ds += f64::from(*tenths) / 10_000.0;
+    }
+    (dg + 1.96, ds + 0.0057)
+}
+
+fn partner(letter: u8) -> u8 {
+    match letter {
+        b'a' => b't',
+        b't' => b'a',
+        b'c' => b'g',
+        _ => b'c',
+    }
 }
 
 fn has_other_byte(s: &[u8]) -> bool {

@@ -1,21 +1,22 @@
 //! Questions about designs that both programs are given: friends, both bond tables, states and
-//! their count, state energies, chain energies, and the search. A design is sent once, with `d.build`; what is
-//! asked after it is about that design.
+//! their count, state energies, chain energies, and the search. A design is sent once, with
+//! `d.build`; what is asked after it is about that design.
 
 use super::{Ask, AskOracle, Kind};
+use crate::ambients::{self, Ambients, ROUND_RTS};
 use crate::designs::{ambient_line, design, lines_of_both, Ambient, Shape, Sort, SORTS};
 use crate::judge::design::{Lent, CELLS, MOST_STATES};
 use crate::judge::Verdict;
 use crate::question::{Expected, Question};
 use crate::random::Random;
-use protocol::{bits, double, joined};
+use protocol::{bits, joined};
 use std::cell::RefCell;
 use std::rc::Rc;
 
 /// The ambients are the oracle's own, by temperature.
 #[derive(Default)]
 pub struct Designs {
-    ambients: RefCell<Vec<(f64, Ambient)>>,
+    ambients: RefCell<Ambients>,
 }
 
 /// Designs of each size in one round.
@@ -33,14 +34,6 @@ const LISTED_BY_THE_RUST: u128 = 4096;
 /// A listing up to this long is walked through beside the search.
 pub const WALKED: u128 = 2000;
 
-/// Between these document 01 admits the Rust's RT and both its excesses.
-const COLDEST: f64 = 63.0;
-const HOTTEST: f64 = 1334.0;
-
-/// RTs that are powers of two make sums that are exact; some kelvins have exactly these, the least
-/// that is admitted among them.
-const ROUND_RTS: [f64; 5] = [0.125, 0.25, 0.5, 1.0, 2.0];
-
 impl Kind for Designs {
     fn name(&self) -> &'static str {
         "design"
@@ -51,30 +44,8 @@ impl Kind for Designs {
     }
 
     fn prepare(&self, oracle: &mut AskOracle) -> Result<(), String> {
-        let mut kelvins = vec![
-            COLDEST, 255.3, 256.0, 273.15, 298.15, 310.15, 323.15, 353.15,
-        ];
-        kelvins.extend((0..100).map(|step| COLDEST + (HOTTEST - COLDEST) * f64::from(step) / 99.0));
-        for rt in ROUND_RTS {
-            let found = oracle(&format!("findT {rt}"))?;
-            kelvins.extend(
-                found
-                    .split(' ')
-                    .skip(1)
-                    .filter_map(|word| double(word).ok()),
-            );
-        }
-        let mut ambients = self.ambients.borrow_mut();
-        for kelvin in kelvins {
-            let lines = format!("d.new 1 1\nd.temp K {}\nd.build", bits(kelvin));
-            oracle(&lines)?;
-            ambients.push((kelvin, read_ambient(&oracle("here")?)?));
-        }
-        let has = |rt| ambients.iter().any(|(_, ambient)| ambient.rt == rt);
-        match ROUND_RTS.into_iter().all(has) {
-            true => Ok(()),
-            false => Err("no temperature has a round RT".to_string()),
-        }
+        *self.ambients.borrow_mut() = ambients::ask(oracle)?;
+        Ok(())
     }
 
     /// One design of each number of positions, and of strands.
@@ -150,7 +121,8 @@ impl Designs {
     }
 }
 
-fn ask_about(random: &mut Random, kelvin: f64, lent: Lent, glues: usize, ask: &mut Ask) {
+/// All that is asked of a design that is admitted.
+pub fn ask_about(random: &mut Random, kelvin: f64, lent: Lent, glues: usize, ask: &mut Ask) {
     let lines = lines_of_both(&lent, glues);
     let sent: Rc<str> = format!("{lines}{}", ambient_line(&lent)).into();
     ask(Question {
@@ -270,21 +242,4 @@ impl Asked {
         };
         (0..self.lent.positions()).map(one).collect()
     }
-}
-
-/// T, RT under a bond, rtval, strand excess, scaffold excess. "Equality is claimed where its RT
-/// under a bond and its `rtval` have the same bits."
-fn read_ambient(answer: &str) -> Result<Ambient, String> {
-    let words: Vec<&str> = answer.split(' ').collect();
-    let [_, _, rt, rtval, strand, scaffold] = words[..] else {
-        return Err(format!("no ambient: {answer}"));
-    };
-    if rt != rtval {
-        return Err(format!("two RTs: {answer}"));
-    }
-    Ok(Ambient {
-        rt: double(rt)?,
-        strand_excess: double(strand)?,
-        scaffold_excess: double(scaffold)?,
-    })
 }

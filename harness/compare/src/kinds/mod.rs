@@ -4,10 +4,13 @@ pub mod ambient;
 pub mod deck;
 pub mod design;
 pub mod loops;
+pub mod names;
 pub mod pair;
+pub mod parameters;
 pub mod raw;
 pub mod sequence;
 pub mod strength;
+pub mod ties;
 
 use crate::question::Question;
 use crate::random::Random;
@@ -42,6 +45,12 @@ pub trait Kind {
         oracle == port
     }
 
+    /// How many questions or inputs were made of each sort that the kind owes. A run that made none
+    /// of one fails.
+    fn made(&self) -> Vec<(&'static str, u64)> {
+        vec![]
+    }
+
     /// Something about the oracle's figures that is worth counting.
     fn note(&self, _oracle: &str) -> Option<&'static str> {
         None
@@ -56,7 +65,10 @@ pub fn all() -> Vec<Box<dyn Kind>> {
         Box::new(strength::Strengths),
         Box::new(ambient::Ambients),
         Box::new(deck::Decks),
+        Box::new(names::Names),
+        Box::new(parameters::ParameterSets),
         Box::new(design::Designs::default()),
+        Box::new(ties::Ties::default()),
         Box::new(raw::RawDesigns),
     ]
 }

@@ -1,12 +1,14 @@
 //! The fixed list of answers that the Rattle program `replay` reads where no Rust is at hand.
 //! Figures are the oracle's, refusals the judge's. `HEADER` has the layout.
 
+mod designs;
 mod lines;
 
 use crate::judge::{sequences, temperature, Verdict};
 use crate::kinds::ambient::WHOLE_FROM;
 use crate::program::Program;
 use protocol::{bits, sequence_word, Reply};
+use std::collections::BTreeSet;
 
 pub use lines::lines;
 
@@ -17,10 +19,68 @@ pub const HEADER: &str = "\
 #   loop LENGTH KIND                 ok DG
 #   strength E S, strength2 E A B    ok STRENGTH
 #   ambient KELVIN                   ok RT STRAND_EXCESS SCAFFOLD_EXCESS
+# A design is set by lines that are no questions, one number each, and holds for the questions that follow:
+#   design POSITIONS STRANDS RT STRAND_EXCESS SCAFFOLD_EXCESS   begins one whose other numbers are all 0
+#   scaffold I GLUE, glue I GLUE, potential I X, dg I X, ds I X   set entry I of a slice
+#   sbond X Y, cbond POSITION STRAND ok BOND
+#   friends POSITION, state RANK     ok PLACES
+#   nstates                          ok COUNT, in 16 hex digits
+#   gsys PLACES                      ok ENERGY
+#   chain PLACES                     ok SUM ENERGY
+#   mfe, settled                     ok ENERGY, ok PLACES: what the search answers
 # or, in place of ok and its figures, refused NUMBER. Doubles are 16 hex digits, other numbers decimal.
-# A sequence stands as it is, an empty one as -. Below 256 K the Rust's strand excess can be another number than
+# A sequence stands as it is, an empty one as -. PLACES are a byte for each place, 48 and the number of its strand, so
+# that 0 is an empty place; with no places they are -. Below 256 K the Rust's strand excess can be another number than
 # document 01's T - 310.15; there the Rust's scaffold excess, which is that, stands for both.
 ";
+
+pub const FALSE_HEADER: &str = "\
+# Lines of the list answers whose answers were falsified, and a line that sets nothing. Made by: harness/replay-list false
+";
+
+/// A line of the list: a question with its answer, or what sets a number of a design, with none.
+#[derive(Debug, Clone, PartialEq)]
+pub struct Answered {
+    pub question: String,
+    pub answer: String,
+}
+
+impl Answered {
+    fn setter(line: String) -> Self {
+        Answered {
+            question: line,
+            answer: String::new(),
+        }
+    }
+
+    fn is_question(&self) -> bool {
+        !self.answer.is_empty()
+    }
+
+    fn kind(&self) -> &str {
+        self.question.split(' ').next().unwrap_or_default()
+    }
+
+    fn line(&self) -> String {
+        let line = match self.is_question() {
+            true => format!("{} {}\n", self.question, self.answer),
+            false => format!("{}\n", self.question),
+        };
+        assert!(line.len() <= LONGEST_LINE + 1, "too long: {line}");
+        line
+    }
+
+    /// The same question with another answer: the last letter or digit is changed.
+    fn falsified(&self) -> Self {
+        let mut answer = self.answer.clone();
+        let last = answer.pop();
+        answer.push(if last == Some('1') { '2' } else { '1' });
+        Answered {
+            question: self.question.clone(),
+            answer,
+        }
+    }
+}
 
 /// A line is at most this long, its newline not counted.
 pub const LONGEST_LINE: usize = 600;
@@ -103,10 +163,39 @@ fn letters(s: &[u8]) -> String {
 
 /// The whole list, the header included.
 pub fn list(oracle: &mut Program) -> Result<String, String> {
+    let lines = answered(oracle)?
+        .iter()
+        .map(Answered::line)
+        .collect::<String>();
+    Ok(format!("{HEADER}{lines}"))
+}
+
+/// Of each kind of line the first that is answered and the first that is refused, each with a false
+/// answer, and the lines that set their designs: the program has to report every question.
+pub fn false_list(oracle: &mut Program) -> Result<String, String> {
+    let mut list = FALSE_HEADER.to_string();
+    let mut met = BTreeSet::new();
+    let mut setters = String::new();
+    for line in answered(oracle)? {
+        if line.kind() == "design" {
+            setters.clear();
+        }
+        if !line.is_question() {
+            setters.push_str(&line.line());
+        } else if met.insert((line.kind().to_string(), line.answer.starts_with("ok"))) {
+            list.push_str(&std::mem::take(&mut setters));
+            list.push_str(&line.falsified().line());
+        }
+    }
+    list.push_str("glue 192 1\n");
+    Ok(list)
+}
+
+fn answered(oracle: &mut Program) -> Result<Vec<Answered>, String> {
     let lines = lines();
     let questions: String = lines.iter().map(|l| l.oracle_line() + "\n").collect();
     oracle.send(questions);
-    let mut list = HEADER.to_string();
+    let mut list = vec![];
     for line in &lines {
         let answer = oracle.answer()?;
         let written = match (line.verdict().refusal(), Reply::parse(&answer)) {
@@ -114,12 +203,35 @@ pub fn list(oracle: &mut Program) -> Result<String, String> {
             (None, Some(Reply::Ok(figures))) => line.figures(&figures).map(|f| format!("ok {f}")),
             _ => None,
         };
-        let Some(written) = written else {
-            return Err(format!("{}: the oracle says {answer}", line.question()));
-        };
-        let line = format!("{} {written}\n", line.question());
-        assert!(line.len() <= LONGEST_LINE + 1, "too long: {line}");
-        list.push_str(&line);
+        let question = line.question();
+        let answer = written.ok_or_else(|| format!("{question}: the oracle says {answer}"))?;
+        list.push(Answered { question, answer });
     }
+    list.append(&mut designs::designs(oracle)?);
     Ok(list)
+}
+
+#[cfg(test)]
+mod tests {
+    use super::*;
+
+    #[test]
+    fn a_falsified_answer_is_another() {
+        for answer in [
+            "ok 3ff0000000000001",
+            "ok 0",
+            "ok -",
+            "ok 1",
+            "refused 1",
+            "refused 12",
+        ] {
+            let line = Answered {
+                question: "mfe".to_string(),
+                answer: answer.to_string(),
+            };
+            let falsified = line.falsified();
+            assert_ne!(falsified.answer, answer);
+            assert_eq!(falsified.answer.len(), answer.len());
+        }
+    }
 }

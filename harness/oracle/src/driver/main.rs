@@ -37,6 +37,7 @@ impl Oracle {
                 self.current = Some(self.given.build());
                 Ok(Some("built".to_string()))
             }
+            "name" => parameters::base(words).map(Some),
             "mode" => temperature::set_mode(words).map(|()| None),
             word if word.starts_with("p.") => self.parameters.set(words).map(|()| None),
             word if word.starts_with("d.") => self.given.set(words).map(|()| None),

@@ -2,8 +2,9 @@
 
 use crate::design::describe;
 use crate::words::{name, text};
-use protocol::{double, expect_words, whole, Complaint, Words};
+use protocol::{double, expect_words, sequence_word, whole, Complaint, Words};
 use rgrow::models::sdc1d::{GsOrSeq, RefOrPair, SDCParams, SDCStrand, SingleOrMultiScaffold, SDC};
+use rgrow::models::sdc_common::self_and_inverse;
 use rgrow::units::{KcalPerMol, KcalPerMolKelvin};
 use std::collections::HashMap;
 
@@ -96,6 +97,21 @@ impl Parameters {
             junction_penalty_dg: self.penalty.0.map(KcalPerMol::new),
             junction_penalty_ds: self.penalty.1.map(KcalPerMolKelvin::new),
         }
+    }
+}
+
+/// `name N`: a name's base, and whether the name stands for it or for its inverse.
+pub fn base(words: Words) -> Result<String, Complaint> {
+    expect_words(words, &[1])?;
+    let name = text(words[1])?;
+    let (is_from, from, inverse) = self_and_inverse(&name);
+    match inverse == format!("{from}*") {
+        true => Ok(format!(
+            "{} {}",
+            sequence_word(from.as_bytes()),
+            u8::from(is_from)
+        )),
+        false => Err(format!("the inverse of {from} is {inverse}")),
     }
 }
 

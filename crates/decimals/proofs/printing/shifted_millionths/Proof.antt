@@ -4,7 +4,7 @@ use Prim.Native.Nat.{_+_, _*_, _^_}
 use native.Mathlib.Omega.{arith}
 use lib.ListN.{length}
 use borrow.Author.Needs.{needs}
-use Rattle.decimals.specs.Limbs.{valueOf}
+use Rattle.decimals.specs.Limbs.{valueOf, Proper}
 use Rattle.decimals.proofs.Powers.{once-below}
 use Rattle.decimals.proofs.Sizes.{million-room, below-unit, unit-room, unit-same}
 use Rattle.decimals.proofs.printing.shifted_millionths.Statement.{statement}
@@ -57,7 +57,12 @@ nearest-quotient-requires c κs =
     let n : length (den .last .0) ≡ 44 = search needs in
     let digits : valueOf (num .last .0) ≡ s .args .significand * 1000000 = num .ensures ∙ ap (_* 1000000) (c .before .before .before .before .before .before .before .before .before .limbs-of .ensures) in
     let unit : valueOf (den .last .0) ≡ 1 * 2 ^ (s .args .shift + 63) = den .ensures ∙ ap (_* 2 ^ (s .args .shift + 63)) (c .before .before .before .before .before .before .before .before .limbs-of2 .ensures) in
-    (m ∙ sym n, rw (digits, unit) (below-unit (s .args .significand) (s .args .shift) (s .pre .0) (s .pre .1)), rw (n, unit) (unit-room (s .args .shift) (s .pre .2)), omega arith)
+    let proper : Proper (num .last .0) (den .last .0) = record {
+      same = m ∙ sym n;
+      less = rw (digits, unit) (below-unit (s .args .significand) (s .args .shift) (s .pre .0) (s .pre .1));
+      room = rw (n, unit) (unit-room (s .args .shift) (s .pre .2));
+    } in
+    (proper, omega arith)
 
 returns : tie.Need-returns
 returns c =

@@ -45,7 +45,10 @@ add-put-digits c = search needs
 
 put-digits-requires-2 : tie.Need-put-digits-requires-2
 put-digits-requires-2 c κs =
-    let out : length (c .before .before .before .put-digits .last .1 .1 .1 .1 .0) ≡ length (now (c .before .before .before .before .before .before .before .before .before .before .before .before .before .args .out)) = c .before .before .before .put-digits .kept .1 .1 .1 .1 .0 ∙ c .before .before .before .before .before .before .before .put-signs .kept .1 .0 in
+    let whole = c .before .before .before in
+    let signs = whole .before .before .before .before in
+    let out : length (whole .put-digits .last .1 .1 .1 .1 .0) ≡ length (now (signs .before .before .before .before .before .before .args .out)) =
+    whole .put-digits .kept .1 .1 .1 .1 .0 ∙ signs .put-signs .kept .1 .0 in
     (omega arith, omega arith, simp length-set (omega arith))
 
 add-t9 : tie.Need-add-t9
@@ -53,21 +56,27 @@ add-t9 c = search needs
 
 same-length : tie.Need-same-length
 same-length c =
+    let whole = c .before .before .before .before .before .before in
+    let signs = whole .before .before .before .before in
+    let start = signs .before .before .before in
     c .before .before .put-digits2 .kept .1 .1 .1 .1 .0
-    ∙ length-set (c .before .before .before .before .before .before .put-digits .last .1 .1 .1 .1 .0) (c .before .before .before .before .before .before .before .before .before .before .before .before .before .before .minus-signs .result + c .before .before .before .before .before .before .before .before .before .before .before .before .before .count-places .result) 46
-    ∙ c .before .before .before .before .before .before .put-digits .kept .1 .1 .1 .1 .0
-    ∙ c .before .before .before .before .before .before .before .before .before .before .put-signs .kept .1 .0
+    ∙ length-set (whole .put-digits .last .1 .1 .1 .1 .0) (start .before .minus-signs .result + start .count-places .result) 46
+    ∙ whole .put-digits .kept .1 .1 .1 .1 .0
+    ∙ signs .put-signs .kept .1 .0
 
 returns-2 : tie.Need-returns-2
 returns-2 c =
-    let a = c .before .before .before .before .before .before .before .before .before .before .before .before .before .before .before .before .args in
-    let signs = c .before .before .before .before .before .before .before .before .before .before .before .before .before .before .minus-signs in
-    let whole = c .before .before .before .before .before .before .before .before .before .before .before .before .before .count-places in
-    let first = c .before .before .before .before .before .before .before .before .before .before .put-signs .ensures in
-    let second = c .before .before .before .before .before .before .put-digits .ensures in
-    let fits = room (fixed (a .negative) (a .n)) (now (a .out)) (signs .result + whole .result + 7) (fixed-length (a .negative) (a .n) (signs .result) (whole .result) (signs .ensures .0) (whole .ensures .0)) (omega arith) in
+    let front = c .before .before .before .before .before .before .before .before .before .before in
+    let start = front .before .before .before in
+    let a = start .before .before .before .args in
+    let signs = start .before .minus-signs in
+    let whole = start .count-places in
+    let size = fixed-length (a .negative) (a .n) (signs .result) (whole .result) (signs .ensures .0) (whole .ensures .0) in
+    let fits = room (fixed (a .negative) (a .n)) (now (a .out)) (signs .result + whole .result + 7) size (omega arith) in
     let all : c .before .before .put-digits2 .last .1 .1 .1 .1 .0 ≡ sets (now (a .out)) 0 (fixed (a .negative) (a .n)) =
-    c .before .before .put-digits2 .ensures ∙ rw (second, first) (fixed-stored (a .negative) (a .n) (signs .result) (whole .result) (signs .ensures .0) (whole .ensures .0) (now (a .out))) in
+    c .before .before .put-digits2 .ensures
+    ∙ rw (c .before .before .before .before .before .before .put-digits .ensures, front .put-signs .ensures)
+    (fixed-stored (a .negative) (a .n) (signs .result) (whole .result) (signs .ensures .0) (whole .ensures .0) (now (a .out))) in
     (fits .0, all ∙ fits .1)
 
 pub write-millionths-spec : {M : Type 1} → statement M

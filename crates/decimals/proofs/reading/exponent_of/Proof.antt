@@ -34,12 +34,16 @@ exponent-after-requires-2 c κs = search needs
 
 returns-3 : tie.Need-returns-3
 returns-3 c =
+    let small = c .before .before .before .before in
     c .exponent-after2 .ensures
-    ∙ exponent-large (now (c .before .before .before .before .before .before .before .before .args .rest)) (c .before .before .before .before .before .before .if1 .left) _ (c .before .past2 .ensures) (sym (c .before .before .before .before .before .begins-with .ensures) ∙ c .before .before .before .before .if2 .left) (sym (c .before .before .before .begins-with2 .ensures) ∙ c .before .before .if3 .taken)
+    ∙ exponent-large (now (small .before .before .before .before .args .rest)) (small .before .before .if1 .left) _ (c .before .past2 .ensures)
+    (sym (small .before .begins-with .ensures) ∙ small .if2 .left) (sym (c .before .before .before .begins-with2 .ensures) ∙ c .before .before .if3 .taken)
 
 returns-4 : tie.Need-returns-4
 returns-4 c =
-    exponent-other (now (c .before .before .before .before .before .before .args .rest)) (c .before .before .before .before .if1 .left) (sym (c .before .before .before .begins-with .ensures) ∙ c .before .before .if2 .left) (sym (c .before .begins-with2 .ensures) ∙ c .if3 .left)
+    let small = c .before .before in
+    exponent-other (now (small .before .before .before .before .args .rest)) (small .before .before .if1 .left) (sym (small .before .begins-with .ensures) ∙ small .if2 .left)
+    (sym (c .before .begins-with2 .ensures) ∙ c .if3 .left)
 
 pub exponent-of-spec : {M : Type 1} → statement M
 exponent-of-spec =

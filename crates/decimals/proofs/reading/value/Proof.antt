@@ -26,31 +26,34 @@ read-digits-requires-2 c κs = search needs
 
 returns-2 : tie.Need-returns-2
 returns-2 c =
-    let a = c .before .before .before .before .before .before .before .args in
+    let r = c .before in
+    let a = r .before .before .before .before .before .before .args in
     let whole = now (a .whole) in
     let fraction = now (a .fraction) in
-    let some = sym (c .before .before .before .before .no-digits .ensures) ∙ c .before .before .before .if1 .left in
-    let read = read-both whole fraction (c .before .before .read-digits .result) (c .before .read-digits2 .result) (c .before .before .read-digits .ensures) (c .before .read-digits2 .ensures) in
-    valued-many (a .negative) whole fraction (a .power) (cond (a .downwards) 0 (a .power)) (cond (a .downwards) (length fraction + a .power) (length fraction)) some (c .before .read-digits2 .result) read (c .if2 .taken)
+    let some = sym (r .before .before .before .no-digits .ensures) ∙ r .before .before .if1 .left in
+    let read = read-both whole fraction (r .before .read-digits .result) (r .read-digits2 .result) (r .before .read-digits .ensures) (r .read-digits2 .ensures) in
+    valued-many (a .negative) whole fraction (a .power) (cond (a .downwards) 0 (a .power)) (cond (a .downwards) (length fraction + a .power) (length fraction)) some (r .read-digits2 .result) read (c .if2 .taken)
 
 returns-3 : tie.Need-returns-3
 returns-3 c =
-    let a = c .before .before .before .before .before .before .before .before .args in
+    let r = c .before .before in
+    let a = r .before .before .before .before .before .before .args in
     let whole = now (a .whole) in
     let fraction = now (a .fraction) in
-    let some = sym (c .before .before .before .before .before .no-digits .ensures) ∙ c .before .before .before .before .if1 .left in
-    let read = read-both whole fraction (c .before .before .before .read-digits .result) (c .before .before .read-digits2 .result) (c .before .before .before .read-digits .ensures) (c .before .before .read-digits2 .ensures) in
-    valued-high (a .negative) whole fraction (a .power) (cond (a .downwards) 0 (a .power)) (cond (a .downwards) (length fraction + a .power) (length fraction)) some (c .before .before .read-digits2 .result) read (c .before .if2 .left) (c .if3 .taken)
+    let some = sym (r .before .before .before .no-digits .ensures) ∙ r .before .before .if1 .left in
+    let read = read-both whole fraction (r .before .read-digits .result) (r .read-digits2 .result) (r .before .read-digits .ensures) (r .read-digits2 .ensures) in
+    valued-high (a .negative) whole fraction (a .power) (cond (a .downwards) 0 (a .power)) (cond (a .downwards) (length fraction + a .power) (length fraction)) some (r .read-digits2 .result) read (c .before .if2 .left) (c .if3 .taken)
 
 returns-4 : tie.Need-returns-4
 returns-4 c =
-    let a = c .before .before .before .before .before .before .before .before .before .args in
+    let r = c .before .before .before in
+    let a = r .before .before .before .before .before .before .args in
     let whole = now (a .whole) in
     let fraction = now (a .fraction) in
-    let some = sym (c .before .before .before .before .before .before .no-digits .ensures) ∙ c .before .before .before .before .before .if1 .left in
-    let read = read-both whole fraction (c .before .before .before .before .read-digits .result) (c .before .before .before .read-digits2 .result) (c .before .before .before .before .read-digits .ensures) (c .before .before .before .read-digits2 .ensures) in
-    placed-long (a .negative) (a .downwards) (c .before .before .before .read-digits2 .result) (length fraction) (a .power) (c .before .if3 .left) (c .if4 .taken)
-    ∙ valued-placed (a .negative) whole fraction (a .power) (cond (a .downwards) 0 (a .power)) (cond (a .downwards) (length fraction + a .power) (length fraction)) some (c .before .before .before .read-digits2 .result) read (c .before .before .if2 .left) (c .before .if3 .left)
+    let some = sym (r .before .before .before .no-digits .ensures) ∙ r .before .before .if1 .left in
+    let read = read-both whole fraction (r .before .read-digits .result) (r .read-digits2 .result) (r .before .read-digits .ensures) (r .read-digits2 .ensures) in
+    placed-long (a .negative) (a .downwards) (r .read-digits2 .result) (length fraction) (a .power) (c .before .if3 .left) (c .if4 .taken)
+    ∙ valued-placed (a .negative) whole fraction (a .power) (cond (a .downwards) 0 (a .power)) (cond (a .downwards) (length fraction + a .power) (length fraction)) some (r .read-digits2 .result) read (c .before .before .if2 .left) (c .before .if3 .left)
 
 add-place : tie.Need-add-place
 add-place c = search needs
@@ -60,26 +63,28 @@ place-requires c κs = search needs
 
 returns-5 : tie.Need-returns-5
 returns-5 c =
-    let a = c .before .before .before .before .before .before .before .before .before .before .before .args in
+    let r = c .before .before .before .before .before in
+    let a = r .before .before .before .before .before .before .args in
     let whole = now (a .whole) in
     let fraction = now (a .fraction) in
-    let some = sym (c .before .before .before .before .before .before .before .before .no-digits .ensures) ∙ c .before .before .before .before .before .before .before .if1 .left in
-    let read = read-both whole fraction (c .before .before .before .before .before .before .read-digits .result) (c .before .before .before .before .before .read-digits2 .result) (c .before .before .before .before .before .before .read-digits .ensures) (c .before .before .before .before .before .read-digits2 .ensures) in
-    let down = c .before .if5 .taken in
-    c .place .ensures ∙ rw down (valued-placed (a .negative) whole fraction (a .power) 0 (length fraction + a .power) some (c .before .before .before .before .before .read-digits2 .result) read (c .before .before .before .before .if2 .left) (c .before .before .before .if3 .left))
+    let some = sym (r .before .before .before .no-digits .ensures) ∙ r .before .before .if1 .left in
+    let read = read-both whole fraction (r .before .read-digits .result) (r .read-digits2 .result) (r .before .read-digits .ensures) (r .read-digits2 .ensures) in
+    c .place .ensures
+    ∙ rw (c .before .if5 .taken) (valued-placed (a .negative) whole fraction (a .power) 0 (length fraction + a .power) some (r .read-digits2 .result) read (c .before .before .before .before .if2 .left) (c .before .before .before .if3 .left))
 
 place-requires-2 : tie.Need-place-requires-2
 place-requires-2 c κs = search needs
 
 returns-6 : tie.Need-returns-6
 returns-6 c =
-    let a = c .before .before .before .before .before .before .before .before .before .before .before .args in
+    let r = c .before .before .before .before .before in
+    let a = r .before .before .before .before .before .before .args in
     let whole = now (a .whole) in
     let fraction = now (a .fraction) in
-    let some = sym (c .before .before .before .before .before .before .before .before .no-digits .ensures) ∙ c .before .before .before .before .before .before .before .if1 .left in
-    let read = read-both whole fraction (c .before .before .before .before .before .before .read-digits .result) (c .before .before .before .before .before .read-digits2 .result) (c .before .before .before .before .before .before .read-digits .ensures) (c .before .before .before .before .before .read-digits2 .ensures) in
-    let up = c .before .if5 .left in
-    c .place2 .ensures ∙ rw up (valued-placed (a .negative) whole fraction (a .power) (a .power) (length fraction) some (c .before .before .before .before .before .read-digits2 .result) read (c .before .before .before .before .if2 .left) (c .before .before .before .if3 .left))
+    let some = sym (r .before .before .before .no-digits .ensures) ∙ r .before .before .if1 .left in
+    let read = read-both whole fraction (r .before .read-digits .result) (r .read-digits2 .result) (r .before .read-digits .ensures) (r .read-digits2 .ensures) in
+    c .place2 .ensures
+    ∙ rw (c .before .if5 .left) (valued-placed (a .negative) whole fraction (a .power) (a .power) (length fraction) some (r .read-digits2 .result) read (c .before .before .before .before .if2 .left) (c .before .before .before .if3 .left))
 
 pub value-spec : {M : Type 1} → statement M
 value-spec =

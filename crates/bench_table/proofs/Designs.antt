@@ -1,0 +1,90 @@
+-- The bench table's lines on states and on the search, and the design of two zeros, computed.
+use mathlib.Core.Path.{_≡_, refl}
+use mathlib.Core.Bool.{true}
+use mathlib.Core.List.{List, [], _∷_}
+use Prim.Native.Nat.{ℕ}
+use lib.IntN.{pos, negsuc}
+use lib.Ieee.{Float, fin, add, sub, neg, mul, div, ne, le, lt, eq}
+use Rattle.lists.specs.Build.{tabulate, keep, product}
+use Rattle.lists.specs.Find.{any}
+use Rattle.lists.specs.Fold.{foldl}
+use Rattle.doubles.specs.Decimal.{plus, minus, nearest, zero}
+use Rattle.doubles.specs.Sum.{sumFrom}
+use Rattle.doubles.specs.Least.{pick}
+use Rattle.reply.specs.Number.{numberOf}
+use Rattle.reply.specs.declared.Refusal.the-variants.{RankTooHigh}
+use Rattle.model.specs.States.{eachBefore, listing, choices, choiceAt, states, count}
+use Rattle.model.specs.Energy.{chainTerms, chainEnergy, chainProduct, walk}
+use Rattle.model.specs.Search.{reached, leftChoice, traced, searchOver, search}
+use Rattle.design.specs.Design.{strandBond, scaffoldBond, befriends, friendsTo, modelOf}
+use Rattle.design.specs.Checks.{wrongSizes, cellsOut, ambientOut, somewhere, potentialsOut, nullBinds}
+use Rattle.design.specs.Answers.{given, refused, countAnswer, rankAnswer, rankEntries}
+use Rattle.mfe.specs.Answers.{searchAnswer, searchEntries}
+use Rattle.bench_table.specs.Designs.{bare, onePosition, twoPositions}
+use Rattle.bench_table.specs.Zeros.{tiny, TwoZeros}
+
+-- What a line unfolds: the checks of a design, and the model that it gives.
+unfoldable checked : ℕ
+unfolding bare onePosition twoPositions tiny modelOf friendsTo befriends scaffoldBond strandBond tabulate keep any nearest wrongSizes cellsOut ambientOut somewhere potentialsOut nullBinds le lt eq ne
+checked = 0
+
+-- and with it the search
+unfoldable searched : ℕ
+unfolding checked add sub neg mul div foldl pick reached leftChoice traced search searchOver
+searched = 0
+
+-- and with it counts and ranks
+unfoldable ranked : ℕ
+unfolding checked product count choices choiceAt
+ranked = 0
+
+pub no-position : (searchAnswer bare [] ≡ given zero) × (searchEntries bare [] ≡ [])
+unfolding searched
+no-position = (refl, refl)
+
+pub one-state : (countAnswer bare ≡ given 1) × (states (modelOf bare) ≡ [] ∷ [])
+unfolding ranked listing
+one-state = (refl, refl)
+
+pub bound : (x : ℕ) → (searchAnswer (onePosition (nearest (minus 2 0))) (x ∷ []) ≡ given (nearest (minus 15 1))) × (searchEntries (onePosition (nearest (minus 2 0))) (x ∷ []) ≡ 1 ∷ [])
+unfolding searched
+bound x = (refl, refl)
+
+pub tied : (x : ℕ) → (searchAnswer (onePosition (nearest (minus 5 1))) (x ∷ []) ≡ given zero) × (searchEntries (onePosition (nearest (minus 5 1))) (x ∷ []) ≡ 1 ∷ [])
+unfolding searched
+tied x = (refl, refl)
+
+pub later : (x y : ℕ) → (searchAnswer twoPositions (x ∷ y ∷ []) ≡ given (nearest (minus 15 1))) × (searchEntries twoPositions (x ∷ y ∷ []) ≡ 0 ∷ 2 ∷ [])
+unfolding searched
+later x y = (refl, refl)
+
+pub rank-0 : (x y : ℕ) → (rankAnswer twoPositions 0 (x ∷ y ∷ []) ≡ given tt) × (rankEntries twoPositions 0 (x ∷ y ∷ []) ≡ 1 ∷ 2 ∷ [])
+unfolding ranked
+rank-0 x y = (refl, refl)
+
+pub rank-2 : (x y : ℕ) → (rankAnswer twoPositions 2 (x ∷ y ∷ []) ≡ given tt) × (rankEntries twoPositions 2 (x ∷ y ∷ []) ≡ 0 ∷ 2 ∷ [])
+unfolding ranked
+rank-2 x y = (refl, refl)
+
+pub rank-3 : (x y : ℕ) → (rankAnswer twoPositions 3 (x ∷ y ∷ []) ≡ given tt) × (rankEntries twoPositions 3 (x ∷ y ∷ []) ≡ 0 ∷ 0 ∷ [])
+unfolding ranked
+rank-3 x y = (refl, refl)
+
+pub rank-4 : (x y : ℕ) → (rankAnswer twoPositions 4 (x ∷ y ∷ []) ≡ refused tt (numberOf RankTooHigh)) × (rankEntries twoPositions 4 (x ∷ y ∷ []) ≡ x ∷ y ∷ [])
+unfolding ranked
+rank-4 x y = (refl, refl)
+
+tiny-energy : (x y : ℕ) → searchAnswer tiny (x ∷ y ∷ []) ≡ given zero
+unfolding searched
+tiny-energy x y = refl
+
+tiny-configuration : (x y : ℕ) → searchEntries tiny (x ∷ y ∷ []) ≡ 0 ∷ 2 ∷ []
+unfolding searched
+tiny-configuration x y = refl
+
+tiny-walk : walk (modelOf tiny) ≡ fin true 0 (pos 0)
+unfolding searched eachBefore listing choices choiceAt chainTerms chainEnergy chainProduct sumFrom walk
+tiny-walk = refl
+
+pub two-zeros : TwoZeros
+two-zeros = record { energy = tiny-energy; configuration = tiny-configuration; walked = tiny-walk }

@@ -1,0 +1,4 @@
+pub mod Sequences
+pub mod Designs
+pub mod Decks
+pub mod Table

@@ -1,0 +1,78 @@
+-- Document 01's bench table, the lines that it marks with a dagger, in its order. Each field is one line: the input as the table has it, and what the definitions
+-- of the calls give. `plus 196 2` is the decimal 1.96, `minus 144 2` is −1.44; ⊕ is one rounded sum of doubles.
+use mathlib.Core.Path.{_≡_}
+use mathlib.Core.List.{List, [], _∷_, _++_}
+use Prim.Native.Nat.{ℕ}
+use lib.ListN.{length, drop}
+use lib.Ieee.{Float, binary64, add}
+use Rattle.doubles.specs.Decimal.{plus, minus, nearest, zero}
+use Rattle.reply.specs.Number.{numberOf, answered}
+use Rattle.reply.specs.declared.Refusal.the-variants.{TooShort, NoSuchLoop, UnknownName, RankTooHigh, BadDeck}
+use Rattle.reply.specs.declared.Place.the-variants.{At}
+use Rattle.utils.specs.Answers.{DgDsFigures, refusedDgDs, givenDgDs}
+use Rattle.utils.specs.Single.{stringDnaDgDs}
+use Rattle.utils.specs.Pair.{sequencePairDgDs}
+use Rattle.sdc1d_params.specs.Tables.{emptyTable}
+use Rattle.sdc1d_params.specs.Params.{fromParams}
+use Rattle.built.specs.Bench.{oneStrand, lent}
+use Rattle.model.specs.States.{states}
+use Rattle.design.specs.Design.{modelOf}
+use Rattle.design.specs.Answers.{given, refused, countAnswer, rankAnswer, rankEntries}
+use Rattle.mfe.specs.Answers.{searchAnswer, searchEntries}
+use Rattle.deck.specs.Form.{singles}
+use Rattle.deck.specs.Reading.{readFigures, readEntries}
+use Rattle.deck.specs.Writing.{writeFigures, writeWords}
+use Rattle.bench_table.specs.Letters.{A, C, G, T}
+use Rattle.bench_table.specs.Designs.{bare, onePosition, twoPositions}
+
+infixl 60 _⊕_
+abbrev pub _⊕_ : Float → Float → Float
+x ⊕ y = add binary64 x y
+
+-- "[1,0,0,2]" and its words
+abbrev pub configuration : List ℕ
+configuration = 1 ∷ 0 ∷ 0 ∷ 2 ∷ []
+
+abbrev pub words : List ℕ
+words = 0x1000_0004 ∷ 0x2000_0001 ∷ 0x3000_0002 ∷ 0x2000_0002 ∷ []
+
+-- "10000002 30000001 30000001"
+abbrev pub faulty : List ℕ
+faulty = 0x1000_0002 ∷ 0x3000_0001 ∷ 0x3000_0001 ∷ []
+
+pub record BenchTable : Type 0 where
+  -- "A": 3
+  pub a : stringDnaDgDs (A ∷ []) ≡ refusedDgDs (numberOf TooShort)
+  -- "AC": dG −1.44 + 1.96; dS −0.0224 + 0.0057
+  pub ac : stringDnaDgDs (A ∷ C ∷ []) ≡ givenDgDs (nearest (minus 144 2) ⊕ nearest (plus 196 2)) (nearest (minus 224 4) ⊕ nearest (plus 57 4))
+  -- pair AAC, TAG: dG 0.61 + 0.17, dS 0.0
+  pub aac-tag : sequencePairDgDs (A ∷ A ∷ C ∷ []) (T ∷ A ∷ G ∷ []) ≡ givenDgDs (nearest (plus 61 2) ⊕ nearest (plus 17 2)) zero
+  -- pair AAAAA, TAATT: 5 (length 2)
+  pub loop-of-2 : sequencePairDgDs (A ∷ A ∷ A ∷ A ∷ A ∷ []) (T ∷ A ∷ A ∷ T ∷ T ∷ []) ≡ refusedDgDs (numberOf NoSuchLoop)
+  -- pair AAAAAA, TAAATT: dG 0.61 + 0.69 − 1.0 + 3.2, left to right; dS −0.0213
+  pub loop-of-3 :
+      sequencePairDgDs (A ∷ A ∷ A ∷ A ∷ A ∷ A ∷ []) (T ∷ A ∷ A ∷ A ∷ T ∷ T ∷ [])
+      ≡ givenDgDs (nearest (plus 61 2) ⊕ nearest (plus 69 2) ⊕ nearest (minus 10 1) ⊕ nearest (plus 32 1)) (nearest (minus 213 4))
+  -- scaffold name `a**`, strands use `a`: 6. With `a*` it is built: the strand's glue is 1, the scaffold's 2.
+  pub two-stars : fromParams (oneStrand 3) lent .number ≡ numberOf UnknownName
+  pub one-star :
+      fromParams (oneStrand 2) lent
+      ≡ record { number = answered; strandGlues = 0 ∷ 0 ∷ 0 ∷ 1 ∷ 0 ∷ 0 ∷ 0 ∷ 0 ∷ 0 ∷ 0 ∷ 0 ∷ 0 ∷ []; scaffoldGlues = 2 ∷ []; dg = emptyTable; ds = emptyTable }
+  -- no position: search: empty, 0.0; one state
+  pub no-position : (searchAnswer bare [] ≡ given zero) × (searchEntries bare [] ≡ [])
+  pub one-state : (countAnswer bare ≡ given 1) × (states (modelOf bare) ≡ [] ∷ [])
+  -- RT 0.5, one friend 1, dG −2, dS 0, potential −1: [1], −1.5. What the lent entry held before, x, does not matter, here and below.
+  pub bound : (x : ℕ) → (searchAnswer (onePosition (nearest (minus 2 0))) (x ∷ []) ≡ given (nearest (minus 15 1))) × (searchEntries (onePosition (nearest (minus 2 0))) (x ∷ []) ≡ 1 ∷ [])
+  -- same, dG −0.5: [1], 0.0
+  pub tied : (x : ℕ) → (searchAnswer (onePosition (nearest (minus 5 1))) (x ∷ []) ≡ given zero) × (searchEntries (onePosition (nearest (minus 5 1))) (x ∷ []) ≡ 1 ∷ [])
+  -- that position, then one with friend 2 (dG −2, potential −1), strand bonds 0: [0, 2], −1.5
+  pub later : (x y : ℕ) → (searchAnswer twoPositions (x ∷ y ∷ []) ≡ given (nearest (minus 15 1))) × (searchEntries twoPositions (x ∷ y ∷ []) ≡ 0 ∷ 2 ∷ [])
+  -- friends 1, then 2, rank 0, 2, 3, 4: [1,2], [0,2], [0,0], 13
+  pub rank-0 : (x y : ℕ) → (rankAnswer twoPositions 0 (x ∷ y ∷ []) ≡ given tt) × (rankEntries twoPositions 0 (x ∷ y ∷ []) ≡ 1 ∷ 2 ∷ [])
+  pub rank-2 : (x y : ℕ) → (rankAnswer twoPositions 2 (x ∷ y ∷ []) ≡ given tt) × (rankEntries twoPositions 2 (x ∷ y ∷ []) ≡ 0 ∷ 2 ∷ [])
+  pub rank-3 : (x y : ℕ) → (rankAnswer twoPositions 3 (x ∷ y ∷ []) ≡ given tt) × (rankEntries twoPositions 3 (x ∷ y ∷ []) ≡ 0 ∷ 0 ∷ [])
+  pub rank-4 : (x y : ℕ) → (rankAnswer twoPositions 4 (x ∷ y ∷ []) ≡ refused tt (numberOf RankTooHigh)) × (rankEntries twoPositions 4 (x ∷ y ∷ []) ≡ x ∷ y ∷ [])
+  -- [1,0,0,2]: 10000004 20000001 30000002 20000002
+  pub written : (held : List ℕ) → length held ≡ 129 → (writeFigures singles configuration held ≡ record { number = answered; count = 4 }) × (writeWords singles configuration held ≡ words ++ drop 4 held)
+  -- 10000002 30000001 30000001: 14 at word 2 (first word is 0)
+  pub fault : (held : List ℕ) → length held ≡ 128 → (readFigures singles faulty held ≡ record { number = numberOf BadDeck; count = 0; place = At 2 }) × (readEntries singles faulty held ≡ held)

@@ -1,0 +1,108 @@
+-- What `from_params` writes passes a design's size, cell and null checks, and its tables are symmetric. Assumes nothing.
+use mathlib.Core.Path.{_≡_, refl, sym, subst, _∙_}
+use mathlib.Core.Bool.{Bool, true, false, _||_}
+use mathlib.Core.List.{List}
+use Prim.Native.Nat.{ℕ, _+_, _*_, _≤_}
+use native.Mathlib.Omega.{arith}
+use lib.ListN.{length}
+use lib.Ieee.{Float, eq, ne}
+use borrow.Author.Tests.{le-ltb, eq-eqb}
+use Rattle.doubles.specs.Decimal.{zero}
+use Rattle.lists.specs.Find.{any}
+use Rattle.lists.proofs.Any.{all-below}
+use Rattle.lists.proofs.Each.{each-none}
+use Rattle.reply.specs.First.{firstOf, orElse}
+use Rattle.reply.specs.declared.Refusal.the-variants.{WrongSize, OutOfRange, NullBinds}
+use Rattle.reply.specs.declared.Reply.{Reply}
+use Rattle.units.specs.declared.Ambient.{Ambient}
+use Rattle.sdc1d_params.specs.Params.{Params, Outcome, writesOf, strandGluesOf}
+use Rattle.design.specs.Design as Design
+use Rattle.design.specs.Design.{Design}
+use Rattle.design.specs.Checks.{highGlue, beyond, wrongSizes, sizesOut, cellsOut, ambientOut, potentialsOut, nullGlued, nullCells, nullBinds}
+use Rattle.built.specs.Fits.{Fits, designOf, WrittenFits, Symmetric, WrittenSymmetric}
+use Rattle.built.proofs.Passed.{Passed, outcomeOf, answered-as, few-users, strand-marks, scaffold-short, writes-small}
+use Rattle.built.proofs.Written.{strand-glues-many, scaffold-many, strand-glues-low, scaffold-low, dg-mirrored, ds-mirrored, NullZero, dg-null, ds-null, dg-ranged, ds-ranged}
+
+left-of :
+    (own sizes cells ambient potentials null : Bool) (rest : Reply)
+    → sizes ≡ false
+    → cells ≡ false
+    → null ≡ false
+    → orElse (own || sizes) WrongSize (orElse cells OutOfRange (orElse ambient OutOfRange (orElse potentials OutOfRange (orElse null NullBinds rest))))
+    ≡ orElse own WrongSize (orElse ambient OutOfRange (orElse potentials OutOfRange rest))
+left-of true sizes cells ambient potentials null rest s c n = refl
+left-of false sizes cells ambient potentials null rest s c n = rw (s, c, n)
+
+-- where the three checks pass, the rest follows
+fits : (d : Design) → sizesOut d ≡ false → cellsOut (d .dg) (d .ds) ≡ false → nullBinds (d .glues) (d .dg) (d .ds) ≡ false → Fits d
+fits d s c n =
+    record {
+      sizes = s;
+      cells = c;
+      null = n;
+      left = λ ownSize own. left-of ownSize (sizesOut d) (cellsOut (d .dg) (d .ds)) (ambientOut (d .ambient)) (potentialsOut d) (nullBinds (d .glues) (d .dg) (d .ds)) (firstOf own) s c n;
+      admitted = λ a q. record { sizes = s; cells = c; ambient = a; potentials = q; null = n };
+    }
+
+-- ---- the three checks, from what they look at
+
+module _ (scaffold glues : List ℕ) (dg ds potentials : List Float) where
+  sizes-in :
+      length scaffold ≤ 128
+      → 1 ≤ length potentials
+      → length potentials ≤ 64
+      → length glues ≡ 3 * length potentials
+      → length dg ≡ 4096
+      → length ds ≡ 4096
+      → any highGlue scaffold ≡ false
+      → any highGlue glues ≡ false
+      → wrongSizes scaffold glues dg ds potentials ≡ false
+  unfolding wrongSizes
+  sizes-in short null few three dg-cells ds-cells low glues-low =
+      simp (le-ltb _ _ short, le-ltb _ _ null, le-ltb _ _ few, eq-eqb _ _ three, eq-eqb _ _ dg-cells, eq-eqb _ _ ds-cells, low, glues-low)
+
+cells-in : (dg ds : List Float) → any (beyond 1024) dg ≡ false → any (beyond 8) ds ≡ false → cellsOut dg ds ≡ false
+unfolding cellsOut
+cells-in dg ds e f = rw (e, f)
+
+zero-unbound : ne zero zero ≡ false
+unfolding ne eq
+zero-unbound = refl
+
+null-in : (glues : List ℕ) (dg ds : List Float) → nullGlued glues ≡ false → NullZero dg → NullZero ds → nullBinds glues dg ds ≡ false
+unfolding nullBinds
+null-in glues dg ds e n m = rw (e, all-below (nullCells dg ds) 64 (λ g h. simp (n .row g h, m .row g h, n .column g h, m .column g h, zero-unbound)))
+
+module _ (p : Params) (lent : Outcome) (passed : Passed p lent) where
+  null-glued : nullGlued (strandGluesOf p) ≡ false
+  unfolding strandGluesOf
+  null-glued = refl
+
+  outcome-fits : (potentials : List Float) (ambient : Ambient) → length potentials ≡ p .users + 3 → Fits (designOf (outcomeOf p) potentials ambient)
+  outcome-fits potentials ambient many =
+      let small = writes-small p (passed .few) in
+      let users = few-users p lent (passed .size) in
+      fits (designOf (outcomeOf p) potentials ambient)
+      (sizes-in (outcomeOf p .scaffoldGlues) (outcomeOf p .strandGlues) (outcomeOf p .dg) (outcomeOf p .ds) potentials
+      (rw (scaffold-many p) (scaffold-short p lent (passed .size)))
+      (omega arith)
+      (omega arith)
+      (strand-glues-many p (strand-marks p lent (passed .size)) ∙ omega arith)
+      (dg-mirrored (writesOf p) small .many)
+      (ds-mirrored (writesOf p) small .many)
+      (each-none highGlue (outcomeOf p .scaffoldGlues) (scaffold-low p (passed .few) (passed .known)))
+      (each-none highGlue (outcomeOf p .strandGlues) (strand-glues-low p (passed .few))))
+      (cells-in (outcomeOf p .dg) (outcomeOf p .ds) (dg-ranged (writesOf p) (passed .ranged)) (ds-ranged (writesOf p) (passed .ranged)))
+      (null-in (outcomeOf p .strandGlues) (outcomeOf p .dg) (outcomeOf p .ds) null-glued (dg-null (writesOf p) small) (ds-null (writesOf p) small))
+
+pub written-fits : (p : Params) (lent : Outcome) → WrittenFits p lent
+written-fits p lent e potentials ambient many =
+    let a = answered-as p lent e in
+    subst (λ (o : Outcome). Fits (designOf o potentials ambient)) (sym (a .1)) (outcome-fits p lent (a .0) potentials ambient many)
+
+pub written-symmetric : (p : Params) (lent : Outcome) → WrittenSymmetric p lent
+written-symmetric p lent =
+    record {
+      dg = λ e. let a = answered-as p lent e in subst (λ (o : Outcome). Symmetric (o .dg)) (sym (a .1)) (dg-mirrored (writesOf p) (writes-small p (a .0 .few)) .same);
+      ds = λ e. let a = answered-as p lent e in subst (λ (o : Outcome). Symmetric (o .ds)) (sym (a .1)) (ds-mirrored (writesOf p) (writes-small p (a .0 .few)) .same);
+    }

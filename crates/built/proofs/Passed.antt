@@ -1,0 +1,124 @@
+-- What the checks of `from_params` leave of a parameter set that is answered. Assumes nothing.
+use mathlib.Core.Path.{_≡_, refl}
+use mathlib.Core.Bool.{Bool, false, _||_}
+use mathlib.Core.List.{List, [], _∷_, map}
+use Prim.Native.Nat.{ℕ, _*_, _≤_}
+use lib.Dec.{ltb}
+use lib.ListN.{length}
+use borrow.Author.Tests.{ltb-false}
+use Rattle.lists.specs.Find.{any}
+use Rattle.lists.specs.Each.{Each}
+use Rattle.lists.proofs.Any.{neither}
+use Rattle.lists.proofs.Each.{each-tabulate}
+use Rattle.reply.specs.Number.{answered}
+use Rattle.reply.specs.First.{Check, firstOf}
+use Rattle.reply.specs.declared.Reply.the-variants.{Admitted}
+use Rattle.reply.proofs.First.{passes}
+use Rattle.reply.proofs.Answer.{is-admitted}
+use Rattle.sdc_common.specs.Lent.{gluesOf, glueAt, unfitNames}
+use Rattle.sdc_common.specs.Spelled.{isUnknown, spelledNumber}
+use Rattle.sdc_common.specs.Calls.{tooManyStrands}
+use Rattle.sdc_common.proofs.Fit.{as-many}
+use Rattle.sdc1d_params.specs.Entries.{entryAt}
+use Rattle.sdc1d_params.specs.Tables.{Write, writeOf, cellsOf, duplicated, outOfRange, dgTable, dsTable}
+use Rattle.sdc1d_params.specs.Params.{Params, Outcome, entryCount, firsts, firstAt, bases, cellAtEntry, writesOf, unfitCopied, unfitEntries, unfitScaffold, unfitLent, wrongSize, paramChecks, strandGluesOf, fromParams}
+use Rattle.built.proofs.Numbers.{Small, cell-small}
+
+-- what is written
+abbrev pub outcomeOf : Params → Outcome
+outcomeOf p =
+    record {
+      number = answered;
+      strandGlues = strandGluesOf p;
+      scaffoldGlues = map (spelledNumber (bases p)) (gluesOf (p .text) (p .scaffold));
+      dg = dgTable (writesOf p);
+      ds = dsTable (writesOf p);
+    }
+
+-- what is left where there is a refusal
+abbrev pub kept : Outcome → ℕ → Outcome
+kept lent number = record { number = number; strandGlues = lent .strandGlues; scaffoldGlues = lent .scaffoldGlues; dg = lent .dg; ds = lent .ds }
+
+numbered : (lent : Outcome) (n : ℕ) → kept lent n .number ≡ n
+numbered lent n = refl
+
+-- nine conditions none of which holds
+none-of-nine :
+    (a b c d e f g h i : Bool)
+    → (a || b || c || d || e || f || g || h || i) ≡ false
+    → (a ≡ false) × (b ≡ false) × (c ≡ false) × (d ≡ false) × (e ≡ false) × (f ≡ false) × (g ≡ false) × (h ≡ false) × (i ≡ false)
+none-of-nine a b c d e f g h i none =
+    let t8 = neither (a || b || c || d || e || f || g || h) i none in
+    let t7 = neither (a || b || c || d || e || f || g) h (t8 .0) in
+    let t6 = neither (a || b || c || d || e || f) g (t7 .0) in
+    let t5 = neither (a || b || c || d || e) f (t6 .0) in
+    let t4 = neither (a || b || c || d) e (t5 .0) in
+    let t3 = neither (a || b || c) d (t4 .0) in
+    let t2 = neither (a || b) c (t3 .0) in
+    let t1 = neither a b (t2 .0) in
+    (t1 .0, t1 .1, t2 .1, t3 .1, t4 .1, t5 .1, t6 .1, t7 .1, t8 .1)
+
+-- a list of checks that admits has none that holds
+all-pass : (checks : List Check) → firstOf checks ≡ Admitted → Each (λ c. c .holds ≡ false) checks
+all-pass [] e = tt
+all-pass (c ∷ cs) e = let here = passes c cs e in (here .0, all-pass cs (here .1))
+
+-- what is known of a parameter set that is answered
+pub record Passed (p : Params) (lent : Outcome) : Type 0 where
+  pub size : wrongSize p lent ≡ false
+  pub known : any (isUnknown (bases p)) (gluesOf (p .text) (p .scaffold)) ≡ false
+  pub few : length (bases p) ≤ 31
+  pub once : duplicated (cellsOf (writesOf p)) ≡ false
+  pub ranged : any outOfRange (writesOf p) ≡ false
+
+module _ (p : Params) (lent : Outcome) where
+  -- all of it, where no check holds
+  pub checks-pass : firstOf (paramChecks p lent) ≡ Admitted → Passed p lent
+  checks-pass e =
+      let none = all-pass (paramChecks p lent) e in
+      record { size = none .0; known = none .1 .1 .1 .0; few = ltb-false _ _ (none .1 .1 .1 .1 .0); once = none .1 .1 .1 .1 .1 .0; ranged = none .1 .1 .1 .1 .1 .1 .0 }
+
+  pub answered-as : fromParams p lent .number ≡ answered → Passed p lent × (fromParams p lent ≡ outcomeOf p)
+  unfolding fromParams
+  answered-as e =
+      let a = is-admitted (λ (o : Outcome). o .number) (kept lent) (numbered lent) (outcomeOf p) (firstOf (paramChecks p lent)) (fromParams p lent) e refl in
+      (checks-pass (a .0), a .1)
+
+-- ---- the sizes, one by one
+
+module _ (p : Params) (lent : Outcome) (e : wrongSize p lent ≡ false) where
+  pub sizes :
+      (tooManyStrands (p .users) ≡ false)
+      × (unfitNames (3 * p .users) (p .text) (p .strands) ≡ false)
+      × (unfitScaffold p lent ≡ false)
+      × (unfitEntries p ≡ false)
+      × (unfitNames (entryCount p) (p .text) (firsts p) ≡ false)
+      × (unfitNames (entryCount p) (p .text) (p .seconds) ≡ false)
+      × (unfitCopied (p .users) (p .quencher) ≡ false)
+      × (unfitCopied (p .users) (p .reporter) ≡ false)
+      × (unfitLent p lent ≡ false)
+  unfolding wrongSize
+  sizes =
+      none-of-nine (tooManyStrands (p .users)) (unfitNames (3 * p .users) (p .text) (p .strands)) (unfitScaffold p lent) (unfitEntries p)
+      (unfitNames (entryCount p) (p .text) (firsts p)) (unfitNames (entryCount p) (p .text) (p .seconds)) (unfitCopied (p .users) (p .quencher))
+      (unfitCopied (p .users) (p .reporter)) (unfitLent p lent) e
+
+  pub few-users : p .users ≤ 61
+  few-users = ltb-false 61 (p .users) (sizes .0)
+
+  pub strand-marks : length (p .strands .marks) ≡ 3 * p .users
+  strand-marks = as-many (3 * p .users) (p .text) (p .strands) (sizes .1)
+
+  pub scaffold-short : length (p .scaffold .marks) ≤ 128
+  scaffold-short =
+      let n : ℕ = length (lent .scaffoldGlues) in
+      let halves = neither (ltb 128 n) (unfitNames n (p .text) (p .scaffold)) (sizes .2) in
+      rw (as-many n (p .text) (p .scaffold) (halves .1)) (ltb-false 128 n (halves .0))
+
+-- ---- the cells of the entries lie in the tables
+
+pub writes-small : (p : Params) → length (bases p) ≤ 31 → Each (λ w. Small (w .at)) (writesOf p)
+unfolding writesOf writeOf
+writes-small p few =
+    each-tabulate (λ (w : Write). Small (w .at)) (entryCount p) (λ i. writeOf (p .text) (p .penaltyDg) (p .penaltyDs) (cellAtEntry p i) (entryAt (p .energies) i))
+    (λ i h. cell-small (bases p) few (firstAt p i) (glueAt (p .text) (p .seconds) i))

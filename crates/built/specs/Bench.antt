@@ -1,0 +1,60 @@
+-- Document 01's bench table: the line on names that is marked as proved, through the whole of `from_params`. Letters are their bytes: a is 97,
+-- the star 42.
+use mathlib.Core.Path.{_≡_, refl}
+use mathlib.Core.List.{[], _∷_}
+use Prim.Native.Nat.{ℕ}
+use lib.ListN.{replicate}
+use Rattle.doubles.specs.Decimal.{zero}
+use Rattle.lists.specs.Build.{tabulate}
+use Rattle.lists.specs.Find.{any, firstIndex}
+use Rattle.lists.specs.Fold.{foldl}
+use Rattle.reply.specs.Number.{numberOf, answered}
+use Rattle.reply.specs.declared.Refusal.the-variants.{UnknownName}
+use Rattle.sdc_common.specs.Names.{baseLength, baseOf, starsOf, sameName}
+use Rattle.sdc_common.specs.Lent.{namesOf, partOf, glueOf, gluesOf, unfitGlue, unfitNames}
+use Rattle.sdc_common.specs.Numbers.{learn, basesOf, baseNumber, glueNumber, numbersAmong}
+use Rattle.sdc_common.specs.Spelled.{knownNames, isUnknown, spelledNumber}
+use Rattle.sdc1d_params.specs.Entries.{energiesOf}
+use Rattle.sdc1d_params.specs.Tables.{duplicated, emptyTable, dgTable, dsTable}
+use Rattle.sdc1d_params.specs.Params.{Params, Outcome, writesOf, wrongSize, strandGluesOf, fromParams}
+use Rattle.sdc1d_params.specs.declared.Copied.the-variants.{Nothing}
+
+-- The text is `a**`. One strand, whose west glue is the `a`; one scaffold position, whose name is the first so many bytes; no energy entry,
+-- no penalty, no quencher and no reporter.
+abbrev pub oneStrand : ℕ → Params
+oneStrand bytes =
+    record {
+      text = 97 ∷ 42 ∷ 42 ∷ [];
+      users = 1;
+      strands = namesOf (0 ∷ 0 ∷ 0 ∷ []) (1 ∷ 0 ∷ 0 ∷ []) (1 ∷ 0 ∷ 0 ∷ []);
+      scaffold = namesOf (0 ∷ []) (bytes ∷ []) (1 ∷ []);
+      firstStarts = [];
+      firstLengths = [];
+      seconds = namesOf [] [] [];
+      energies = energiesOf [] [] [] [] [];
+      penaltyDg = zero;
+      penaltyDs = zero;
+      quencher = Nothing;
+      reporter = Nothing;
+    }
+
+-- what is lent: glues for strand 0, the strand, quencher and reporter, one scaffold glue, and two tables
+abbrev pub lent : Outcome
+lent = record { number = 0; strandGlues = replicate 12 9; scaffoldGlues = 9 ∷ []; dg = replicate 4096 zero; ds = replicate 4096 zero }
+
+-- scaffold name `a**`, strands use `a`: 6
+pub line-a-two-stars : fromParams (oneStrand 3) lent .number ≡ numberOf UnknownName
+unfolding fromParams wrongSize unfitNames unfitGlue any tabulate gluesOf glueOf partOf isUnknown knownNames basesOf foldl learn baseOf baseLength sameName
+line-a-two-stars = refl
+
+-- and the scaffold glue is as it was lent
+pub line-a-two-stars-kept : fromParams (oneStrand 3) lent .scaffoldGlues ≡ 9 ∷ []
+unfolding fromParams wrongSize unfitNames unfitGlue any tabulate gluesOf glueOf partOf isUnknown knownNames basesOf foldl learn baseOf baseLength sameName
+line-a-two-stars-kept = refl
+
+-- the same with `a*` is answered: its glue is 2, that of the strand 1, and every cell is 0.0
+pub line-a-one-star :
+    fromParams (oneStrand 2) lent
+    ≡ record { number = answered; strandGlues = 0 ∷ 0 ∷ 0 ∷ 1 ∷ 0 ∷ 0 ∷ 0 ∷ 0 ∷ 0 ∷ 0 ∷ 0 ∷ 0 ∷ []; scaffoldGlues = 2 ∷ []; dg = emptyTable; ds = emptyTable }
+unfolding fromParams wrongSize unfitNames unfitGlue any tabulate gluesOf glueOf partOf isUnknown knownNames basesOf foldl learn baseOf baseLength sameName writesOf duplicated strandGluesOf numbersAmong glueNumber baseNumber starsOf spelledNumber firstIndex dgTable dsTable
+line-a-one-star = refl

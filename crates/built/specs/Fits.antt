@@ -1,0 +1,51 @@
+-- What `from_params` writes, as a design takes it. proofs/ shows all of this of every parameter set, and of everything that may be lent.
+use mathlib.Core.Path.{_≡_}
+use mathlib.Core.Bool.{Bool, false}
+use mathlib.Core.List.{List, _∷_}
+use Prim.Native.Nat.{ℕ, _+_, _<_}
+use lib.ListN.{length}
+use lib.Ieee.{Float}
+use Rattle.reply.specs.Number.{answered}
+use Rattle.reply.specs.First.{Check, _if_, firstOf}
+use Rattle.reply.specs.declared.Refusal.the-variants.{WrongSize, OutOfRange}
+use Rattle.units.specs.declared.Ambient.{Ambient}
+use Rattle.sdc1d_params.specs.Params.{Params, Outcome, fromParams}
+use Rattle.design.specs.Design.{Design, design, cell}
+use Rattle.design.specs.Checks.{sizesOut, cellsOut, ambientOut, potentialsOut, nullBinds, designChecks, Admitted}
+
+-- the design that is made of what was written
+abbrev pub designOf : Outcome → List Float → Ambient → Design
+designOf built potentials ambient = design (built .scaffoldGlues) (built .strandGlues) (built .dg) (built .ds) potentials ambient
+
+-- a design that only the checks of its ambient and its potentials can still refuse
+pub record Fits (d : Design) : Type 0 where
+  -- The counts are within their limits, each slice is as long as it should be, and no glue is above 63.
+  pub sizes : sizesOut d ≡ false
+  -- Every cell of both tables is finite and in its range.
+  pub cells : cellsOut (d .dg) (d .ds) ≡ false
+  -- Strand 0 has no glue, and rows and columns 0 hold no nonzero cell.
+  pub null : nullBinds (d .glues) (d .dg) (d .ds) ≡ false
+  -- So what is left of the checks of any call that takes the design is the ambient, the potentials and what is the call's own,
+  pub left :
+      (ownSize : Bool) (own : List Check)
+      → firstOf (designChecks ownSize d own) ≡ firstOf (WrongSize if ownSize ∷ OutOfRange if ambientOut (d .ambient) ∷ OutOfRange if potentialsOut d ∷ own)
+  -- and with these two in range the design is admitted.
+  pub admitted : ambientOut (d .ambient) ≡ false → potentialsOut d ≡ false → Admitted d
+
+-- Where `from_params` answers, what it wrote fits, in any ambient and with any potentials, one for each strand: strand 0, the user
+-- strands, quencher and reporter.
+abbrev pub WrittenFits : Params → Outcome → Type 0
+WrittenFits p lent =
+    fromParams p lent .number ≡ answered
+    → (potentials : List Float) (ambient : Ambient)
+    → length potentials ≡ p .users + 3
+    → Fits (designOf (fromParams p lent) potentials ambient)
+
+-- a table whose cells are those of its mirror, as data: two zeros of different sign are not the same
+abbrev pub Symmetric : List Float → Type 0
+Symmetric table = (i j : ℕ) → i < 64 → j < 64 → cell table i j ≡ cell table j i
+
+-- Where `from_params` answers, both tables are symmetric.
+pub record WrittenSymmetric (p : Params) (lent : Outcome) : Type 0 where
+  pub dg : fromParams p lent .number ≡ answered → Symmetric (fromParams p lent .dg)
+  pub ds : fromParams p lent .number ≡ answered → Symmetric (fromParams p lent .ds)

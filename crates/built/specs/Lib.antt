@@ -1,0 +1,4 @@
+pub mod Fits
+pub mod Order
+pub mod Bench
+pub mod Twice

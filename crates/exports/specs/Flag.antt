@@ -1,0 +1,7 @@
+-- A yes or no as a number, for callers outside.
+use mathlib.Core.Bool.{Bool, true, false}
+use Prim.Native.Nat.{ℕ}
+
+abbrev pub flag : Bool → ℕ
+flag true = 1
+flag false = 0

@@ -1,0 +1,37 @@
+-- Lists and their places: made of each place of another, tested at each, stored into at one. Assumes nothing.
+use mathlib.Core.Path.{_≡_, refl, ap₂, sym, _∙_}
+use mathlib.Core.Bool.{Bool, false, _||_}
+use mathlib.Core.List.{List, [], _∷_, map}
+use Prim.Native.Nat.{ℕ, zero, suc, _<_}
+use native.Mathlib.Omega.{arith}
+use lib.ListN.{length, getD, set}
+use lib.Seq.{ext-getD}
+use Rattle.lists.specs.Find.{any}
+use Rattle.lists.specs.Build.{tabulate}
+use Rattle.lists.proofs.Any.{neither}
+use Rattle.lists.proofs.Build.{length-tabulate, getD-tabulate}
+
+module _ {A : Type 0} where
+  pub tabulate-places : {B : Type 0} (f : A → B) (d : A) (xs : List A) (g : ℕ → B) → ((k : ℕ) → k < length xs → g k ≡ f (getD xs k d)) → tabulate (length xs) g ≡ map f xs
+  unfolding tabulate
+  tabulate-places f d [] g h = refl
+  tabulate-places f d (x ∷ xs) g h = ap₂ _∷_ (h 0 (omega arith)) (tabulate-places f d xs (λ k. g (suc k)) (λ k l. h (suc k) (omega arith)))
+
+  -- a list is made of what stands at its places
+  pub tabulate-getD : (d : A) (n : ℕ) (xs : List A) → length xs ≡ n → tabulate n (λ i. getD xs i d) ≡ xs
+  tabulate-getD d n xs e =
+      ext-getD d (tabulate n (λ i. getD xs i d)) xs (length-tabulate n (λ i. getD xs i d) ∙ sym e)
+      (λ i h. getD-tabulate n (λ i. getD xs i d) d i (rw (length-tabulate n (λ i. getD xs i d)) at h))
+
+  -- a test of each place, and one of each element
+  pub any-places : {B : Type 0} (d : A) (p : B → Bool) (q : A → Bool) (xs : List A) (g : ℕ → B) → ((k : ℕ) → k < length xs → p (g k) ≡ q (getD xs k d)) → any p (tabulate (length xs) g) ≡ any q xs
+  unfolding any tabulate
+  any-places d p q [] g h = refl
+  any-places d p q (x ∷ xs) g h = ap₂ (λ (s t : Bool). s || t) (h 0 (omega arith)) (any-places d p q xs (λ k. g (suc k)) (λ k l. h (suc k) (omega arith)))
+
+  -- where a test fails on each, and on what is stored, it still does
+  pub any-set : (p : A → Bool) (xs : List A) (i : ℕ) (x : A) → any p xs ≡ false → p x ≡ false → any p (set xs i x) ≡ false
+  unfolding any
+  any-set p [] i x e h = refl
+  any-set p (y ∷ ys) zero x e h = simp (h, neither (p y) (any p ys) e .1)
+  any-set p (y ∷ ys) (suc i) x e h = let halves = neither (p y) (any p ys) e in simp (halves .0, any-set p ys i x (halves .1) h)

@@ -1,0 +1,389 @@
+// A function for each kind of line about the design that lines have set: the words after the kind's own, that design, and slices lent for
+// what the call writes. It reads the question, makes the call, and answers whether the rest of the line says what the call answered.
+ghost use mathlib.Core.Path.{_≡_};
+ghost use mathlib.Core.Bool.{true};
+ghost use Rattle.exports.specs.Lent.{lentAt};
+ghost use Rattle.replay.specs.Designs.{StrandBondLine, ScaffoldBondLine, FriendsLine, CountLine, StateLine, StateEnergyLine, ChainEnergyLine, SearchLine, SettledLine};
+use crate::numbers::Byte;
+use crate::numbers::Number;
+use crate::numbers::decimal;
+use crate::numbers::small;
+use crate::parts::past;
+use crate::parts::up_to;
+use crate::places::is_places;
+use crate::places::says_first;
+use crate::places::says_places;
+use crate::says::says;
+
+pub(crate) fn strand_bond(
+    words: &[u8],
+    scaffold: &[u8],
+    glues: &[u8],
+    dg: &[f64],
+    ds: &[f64],
+    potentials: &[f64],
+    rt: f64,
+    strand_excess: f64,
+    scaffold_excess: f64,
+) -> bool
+    ensures { λ r. ⌜ (r ≡ true → StrandBondLine (lentAt (scaffold .entry) (glues .entry) (dg .entry) (ds .entry) (potentials .entry) rt «strand_excess» «scaffold_excess») (now (words .entry))) ⌝ }
+{
+    let rest = past(words, b' ');
+    let Byte::Is(x) = small(up_to(words, b' ')) else {
+        return false;
+    };
+    let Byte::Is(y) = small(up_to(rest, b' ')) else {
+        return false;
+    };
+    let reply = exports::designs::mj_strand_bond_reply(
+        scaffold,
+        glues,
+        dg,
+        ds,
+        potentials,
+        rt,
+        strand_excess,
+        scaffold_excess,
+        x,
+        y,
+    );
+    let figures = [exports::designs::mj_strand_bond(
+        scaffold,
+        glues,
+        dg,
+        ds,
+        potentials,
+        rt,
+        strand_excess,
+        scaffold_excess,
+        x,
+        y,
+    )];
+    says(past(rest, b' '), reply, &figures)
+}
+
+pub(crate) fn scaffold_bond(
+    words: &[u8],
+    scaffold: &[u8],
+    glues: &[u8],
+    dg: &[f64],
+    ds: &[f64],
+    potentials: &[f64],
+    rt: f64,
+    strand_excess: f64,
+    scaffold_excess: f64,
+) -> bool
+    ensures { λ r. ⌜ (r ≡ true → ScaffoldBondLine (lentAt (scaffold .entry) (glues .entry) (dg .entry) (ds .entry) (potentials .entry) rt «strand_excess» «scaffold_excess») (now (words .entry))) ⌝ }
+{
+    let rest = past(words, b' ');
+    let Number::Is(position) = decimal(up_to(words, b' ')) else {
+        return false;
+    };
+    let Byte::Is(strand) = small(up_to(rest, b' ')) else {
+        return false;
+    };
+    let reply = exports::designs::mj_scaffold_bond_reply(
+        scaffold,
+        glues,
+        dg,
+        ds,
+        potentials,
+        rt,
+        strand_excess,
+        scaffold_excess,
+        position as usize,
+        strand,
+    );
+    let figures = [exports::designs::mj_scaffold_bond(
+        scaffold,
+        glues,
+        dg,
+        ds,
+        potentials,
+        rt,
+        strand_excess,
+        scaffold_excess,
+        position as usize,
+        strand,
+    )];
+    says(past(rest, b' '), reply, &figures)
+}
+
+pub(crate) fn friends(
+    words: &[u8],
+    scaffold: &[u8],
+    glues: &[u8],
+    dg: &[f64],
+    ds: &[f64],
+    potentials: &[f64],
+    rt: f64,
+    strand_excess: f64,
+    scaffold_excess: f64,
+    spare: &mut [u8],
+    entries: &mut [u8],
+) -> bool
+    ensures { λ r. ⌜ (r ≡ true → FriendsLine (lentAt (scaffold .entry) (glues .entry) (dg .entry) (ds .entry) (potentials .entry) rt «strand_excess» «scaffold_excess») (now (words .entry)) (now (spare .entry)) (now (entries .entry))) ⌝ }
+{
+    let Number::Is(position) = decimal(up_to(words, b' ')) else {
+        return false;
+    };
+    let reply = exports::designs::mj_friends_reply(
+        scaffold,
+        glues,
+        dg,
+        ds,
+        potentials,
+        rt,
+        strand_excess,
+        scaffold_excess,
+        position as usize,
+        spare,
+    );
+    let count = exports::designs::mj_friends_count(
+        scaffold,
+        glues,
+        dg,
+        ds,
+        potentials,
+        rt,
+        strand_excess,
+        scaffold_excess,
+        position as usize,
+        entries,
+    );
+    says_first(past(words, b' '), reply, entries, count)
+}
+
+pub(crate) fn count(
+    words: &[u8],
+    scaffold: &[u8],
+    glues: &[u8],
+    dg: &[f64],
+    ds: &[f64],
+    potentials: &[f64],
+    rt: f64,
+    strand_excess: f64,
+    scaffold_excess: f64,
+) -> bool
+    ensures { λ r. ⌜ (r ≡ true → CountLine (lentAt (scaffold .entry) (glues .entry) (dg .entry) (ds .entry) (potentials .entry) rt «strand_excess» «scaffold_excess») (now (words .entry))) ⌝ }
+{
+    let reply = exports::designs::mj_states_reply(
+        scaffold,
+        glues,
+        dg,
+        ds,
+        potentials,
+        rt,
+        strand_excess,
+        scaffold_excess,
+    );
+    let figures = [exports::designs::mj_states_count(
+        scaffold,
+        glues,
+        dg,
+        ds,
+        potentials,
+        rt,
+        strand_excess,
+        scaffold_excess,
+    )];
+    says(words, reply, &figures)
+}
+
+pub(crate) fn state(
+    words: &[u8],
+    scaffold: &[u8],
+    glues: &[u8],
+    dg: &[f64],
+    ds: &[f64],
+    potentials: &[f64],
+    rt: f64,
+    strand_excess: f64,
+    scaffold_excess: f64,
+    places: &mut [u8],
+) -> bool
+    ensures { λ r. ⌜ (r ≡ true → StateLine (lentAt (scaffold .entry) (glues .entry) (dg .entry) (ds .entry) (potentials .entry) rt «strand_excess» «scaffold_excess») (now (words .entry)) (now (places .entry))) ⌝ }
+{
+    let Number::Is(rank) = decimal(up_to(words, b' ')) else {
+        return false;
+    };
+    let reply = exports::designs::mj_state_reply(
+        scaffold,
+        glues,
+        dg,
+        ds,
+        potentials,
+        rt,
+        strand_excess,
+        scaffold_excess,
+        rank,
+        places,
+    );
+    says_places(past(words, b' '), reply, places)
+}
+
+pub(crate) fn state_energy(
+    words: &[u8],
+    scaffold: &[u8],
+    glues: &[u8],
+    dg: &[f64],
+    ds: &[f64],
+    potentials: &[f64],
+    rt: f64,
+    strand_excess: f64,
+    scaffold_excess: f64,
+    configuration: &[u8],
+) -> bool
+    ensures { λ r. ⌜ (r ≡ true → StateEnergyLine (lentAt (scaffold .entry) (glues .entry) (dg .entry) (ds .entry) (potentials .entry) rt «strand_excess» «scaffold_excess») (now (words .entry)) (now (configuration .entry))) ⌝ }
+{
+    if !is_places(up_to(words, b' '), configuration) {
+        return false;
+    }
+    let reply = exports::designs::mj_state_energy_reply(
+        scaffold,
+        glues,
+        dg,
+        ds,
+        potentials,
+        rt,
+        strand_excess,
+        scaffold_excess,
+        configuration,
+    );
+    let figures = [exports::designs::mj_state_energy(
+        scaffold,
+        glues,
+        dg,
+        ds,
+        potentials,
+        rt,
+        strand_excess,
+        scaffold_excess,
+        configuration,
+    )];
+    says(past(words, b' '), reply, &figures)
+}
+
+pub(crate) fn chain_energy(
+    words: &[u8],
+    scaffold: &[u8],
+    glues: &[u8],
+    dg: &[f64],
+    ds: &[f64],
+    potentials: &[f64],
+    rt: f64,
+    strand_excess: f64,
+    scaffold_excess: f64,
+    configuration: &[u8],
+) -> bool
+    ensures { λ r. ⌜ (r ≡ true → ChainEnergyLine (lentAt (scaffold .entry) (glues .entry) (dg .entry) (ds .entry) (potentials .entry) rt «strand_excess» «scaffold_excess») (now (words .entry)) (now (configuration .entry))) ⌝ }
+{
+    if !is_places(up_to(words, b' '), configuration) {
+        return false;
+    }
+    let reply = exports::designs::mj_chain_energy_reply(
+        scaffold,
+        glues,
+        dg,
+        ds,
+        potentials,
+        rt,
+        strand_excess,
+        scaffold_excess,
+        configuration,
+    );
+    let sum = exports::designs::mj_chain_sum(
+        scaffold,
+        glues,
+        dg,
+        ds,
+        potentials,
+        rt,
+        strand_excess,
+        scaffold_excess,
+        configuration,
+    );
+    let figures = [
+        sum,
+        exports::designs::mj_chain_energy(
+            scaffold,
+            glues,
+            dg,
+            ds,
+            potentials,
+            rt,
+            strand_excess,
+            scaffold_excess,
+            configuration,
+        ),
+    ];
+    says(past(words, b' '), reply, &figures)
+}
+
+pub(crate) fn search(
+    words: &[u8],
+    scaffold: &[u8],
+    glues: &[u8],
+    dg: &[f64],
+    ds: &[f64],
+    potentials: &[f64],
+    rt: f64,
+    strand_excess: f64,
+    scaffold_excess: f64,
+    spare: &mut [u8],
+    places: &mut [u8],
+) -> bool
+    ensures { λ r. ⌜ (r ≡ true → SearchLine (lentAt (scaffold .entry) (glues .entry) (dg .entry) (ds .entry) (potentials .entry) rt «strand_excess» «scaffold_excess») (now (words .entry)) (now (spare .entry)) (now (places .entry))) ⌝ }
+{
+    let reply = exports::search::mj_search_reply(
+        scaffold,
+        glues,
+        dg,
+        ds,
+        potentials,
+        rt,
+        strand_excess,
+        scaffold_excess,
+        spare,
+    );
+    let figures = [exports::search::mj_search_energy(
+        scaffold,
+        glues,
+        dg,
+        ds,
+        potentials,
+        rt,
+        strand_excess,
+        scaffold_excess,
+        places,
+    )];
+    says(words, reply, &figures)
+}
+
+pub(crate) fn settled(
+    words: &[u8],
+    scaffold: &[u8],
+    glues: &[u8],
+    dg: &[f64],
+    ds: &[f64],
+    potentials: &[f64],
+    rt: f64,
+    strand_excess: f64,
+    scaffold_excess: f64,
+    places: &mut [u8],
+) -> bool
+    ensures { λ r. ⌜ (r ≡ true → SettledLine (lentAt (scaffold .entry) (glues .entry) (dg .entry) (ds .entry) (potentials .entry) rt «strand_excess» «scaffold_excess») (now (words .entry)) (now (places .entry))) ⌝ }
+{
+    let reply = exports::search::mj_search_reply(
+        scaffold,
+        glues,
+        dg,
+        ds,
+        potentials,
+        rt,
+        strand_excess,
+        scaffold_excess,
+        places,
+    );
+    says_places(words, reply, places)
+}

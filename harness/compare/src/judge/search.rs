@@ -1,0 +1,171 @@
+//! Document 01's paragraph on `mfe_configuration`, read once more; and beside it three readings that
+//! are wrong, each in how it tells equals apart. Where a wrong reading ends elsewhere, a design ties
+//! so that the rule matters.
+
+use super::design::Lent;
+
+#[derive(Debug, Clone, Copy, PartialEq, Eq)]
+pub enum Reading {
+    Document,
+    /// Of equal left entries the first is taken.
+    FirstOfEquals,
+    /// At the end sums are compared, and the least is multiplied by RT.
+    SumsAtTheEnd,
+    /// At the end −0.0 counts as smaller than 0.0.
+    SignsAtTheEnd,
+}
+
+/// "Each position keeps one entry per friend, then one for empty."
+struct Entry {
+    occupant: usize,
+    energy: f64,
+    /// The place of its left choice in the row before; at position 0 there is none.
+    left: usize,
+}
+
+impl Lent {
+    /// Energy and configuration of a design that is not refused.
+    pub fn search(&self, reading: Reading) -> (f64, Vec<u8>) {
+        let mut rows: Vec<Vec<Entry>> = vec![];
+        for position in 0..self.positions() {
+            let row = self.row(position, rows.last(), reading);
+            rows.push(row);
+        }
+        let Some(last) = rows.last() else {
+            return (0.0, vec![]);
+        };
+        let mut place = 0;
+        for next in 1..last.len() {
+            if self.is_less(last[next].energy, last[place].energy, reading) {
+                place = next;
+            }
+        }
+        (last[place].energy * self.rt, traced(&rows, place))
+    }
+
+    fn row(&self, position: usize, before: Option<&Vec<Entry>>, reading: Reading) -> Vec<Entry> {
+        let mut options = self.friends(position);
+        options.push(0);
+        let entry = |strand: u8| {
+            let occupant = usize::from(strand);
+            let (left, energy) = match before {
+                None => (0, 0.0),
+                Some(before) => self.left_choice(before, occupant, reading),
+            };
+            let energy = match occupant {
+                0 => energy,
+                _ => energy + self.scaffold_bond(position, occupant) - self.potentials[occupant],
+            };
+            Entry {
+                occupant,
+                energy,
+                left,
+            }
+        };
+        options.into_iter().map(entry).collect()
+    }
+
+    /// "A friend compares left energies plus the strand bond, empty compares the left energies
+    /// alone; among equals the later entry is taken in both."
+    fn left_choice(&self, before: &[Entry], occupant: usize, reading: Reading) -> (usize, f64) {
+        let energy = |left: &Entry| match occupant {
+            0 => left.energy,
+            _ => left.energy + self.strand_bond(left.occupant, occupant),
+        };
+        let mut least = (0, energy(&before[0]));
+        for (place, left) in before.iter().enumerate().skip(1) {
+            let next = energy(left);
+            let equal_is_taken = reading != Reading::FirstOfEquals;
+            if next < least.1 || (equal_is_taken && next == least.1) {
+                least = (place, next);
+            }
+        }
+        least
+    }
+
+    /// "The energies are multiplied by RT and the first smallest product wins."
+    fn is_less(&self, next: f64, least: f64, reading: Reading) -> bool {
+        let products = (next * self.rt, least * self.rt);
+        match reading {
+            Reading::SumsAtTheEnd => next < least,
+            Reading::SignsAtTheEnd => products.0.total_cmp(&products.1).is_lt(),
+            Reading::Document | Reading::FirstOfEquals => products.0 < products.1,
+        }
+    }
+}
+
+fn traced(rows: &[Vec<Entry>], last: usize) -> Vec<u8> {
+    let mut configuration = vec![0; rows.len()];
+    let mut place = last;
+    for (position, row) in rows.iter().enumerate().rev() {
+        configuration[position] = row[place].occupant as u8;
+        place = row[place].left;
+    }
+    configuration
+}
+
+#[cfg(test)]
+mod tests {
+    use super::*;
+    use crate::judge::design::CELLS;
+
+    /// As in the bench table: strand k has the bottom glue k and the potential −1; RT 0.5.
+    fn bench(scaffold: &[u8], dg: &[f64]) -> Lent {
+        let mut lent = Lent {
+            scaffold: scaffold.to_vec(),
+            glues: vec![0; 3],
+            dg: vec![0.0; CELLS],
+            ds: vec![0.0; CELLS],
+            potentials: vec![f64::NAN],
+            rt: 0.5,
+            ..Lent::default()
+        };
+        for (index, energy) in dg.iter().enumerate() {
+            let strand = index + 1;
+            lent.glues.extend([0, strand as u8, 0]);
+            lent.dg[65 * strand] = *energy;
+            lent.potentials.push(-1.0);
+        }
+        lent
+    }
+
+    #[test]
+    fn the_bench_lines_hold() {
+        let found = |scaffold: &[u8], dg: &[f64]| bench(scaffold, dg).search(Reading::Document);
+        assert_eq!(found(&[], &[]), (0.0, vec![]));
+        assert_eq!(found(&[1], &[-2.0]), (-1.5, vec![1]));
+        assert_eq!(found(&[1], &[-0.5]), (0.0, vec![1]));
+        assert_eq!(found(&[1, 2], &[-0.5, -2.0]), (-1.5, vec![0, 2]));
+        let first = bench(&[1, 2], &[-0.5, -2.0]).search(Reading::FirstOfEquals);
+        assert_eq!(first, (-1.5, vec![1, 2]));
+    }
+
+    #[test]
+    fn sums_that_round_to_one_product_are_equal() {
+        let mut lent = bench(&[1], &[5e-324, 0.0]);
+        lent.glues[7] = 1;
+        lent.rt = 0.7;
+        let tied = |x: f64| x * 0.7 == x.next_up() * 0.7;
+        let less = (0..64)
+            .map(|step| 1.5 + f64::from(step) / 64.0)
+            .find(|x| tied(*x));
+        let less = less.expect("half of all doubles do");
+        lent.potentials = vec![0.0, less, less.next_up()];
+        assert_eq!(lent.search(Reading::Document).1, [1]);
+        assert_eq!(lent.search(Reading::SumsAtTheEnd).1, [2]);
+    }
+
+    #[test]
+    fn zeros_of_two_signs_are_equal() {
+        let mut lent = bench(&[1], &[5e-324]);
+        lent.rt = 0.125;
+        lent.potentials = vec![0.0, 4.5e-323];
+        let (energy, configuration) = lent.search(Reading::Document);
+        assert_eq!(
+            (energy.to_bits(), configuration),
+            ((-0.0f64).to_bits(), vec![1])
+        );
+        lent.scaffold = vec![1, 1];
+        assert_eq!(lent.search(Reading::Document).0, 0.0);
+    }
+}

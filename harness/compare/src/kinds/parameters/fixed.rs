@@ -1,0 +1,214 @@
+//! Sets that are just in or just out, one change at a time.
+
+use super::damage::{bytes, doubles, numbers, resized, BYTES, DOUBLES, NUMBERS};
+use super::{ask_both, ask_port};
+use crate::kinds::Ask;
+use crate::parameters::{parameters, Energy, Key, Name, Parameters, Shape};
+use crate::random::Random;
+
+fn named(name: &str) -> Option<Name> {
+    Some(name.as_bytes().to_vec())
+}
+
+/// So many strands, each with a bottom glue of its own base.
+fn with_bases(count: usize) -> Parameters {
+    let strand = |number| [None, named(&format!("g{number}")), None];
+    Parameters {
+        strands: (0..count).map(strand).collect(),
+        ..Parameters::default()
+    }
+}
+
+/// A set that has some of everything.
+fn base() -> Parameters {
+    let pair = |x: &str, y: &str| Key::Pair(x.into(), y.into());
+    Parameters {
+        strands: vec![
+            [named("a"), named("b*"), named("c**")],
+            [named("c*"), None, named("")],
+            [named("é"), named("b"), named("a***")],
+        ],
+        scaffold: vec![named("b"), None, named("*"), named("b*")],
+        entries: vec![
+            (Key::One("b".into()), Energy::Sequence(b"acgtac".to_vec())),
+            (pair("a", "c"), Energy::Given(-1.5, -0.0)),
+            (pair("a", "unused"), Energy::Given(f64::NAN, 1e308)),
+            (Key::One("***".into()), Energy::Given(-0.0, 0.25)),
+        ],
+        penalty: (0.5, -0.0),
+        quencher: 1,
+        reporter: 3,
+    }
+}
+
+/// Counts at their limits and one beyond.
+pub fn every_count(random: &mut Random, ask: &mut Ask) {
+    for users in 0..=62 {
+        let shape = Shape {
+            users,
+            bases: 12,
+            positions: 3,
+            entries: 8,
+        };
+        let set = parameters(random, &shape, true);
+        ask_both(random, &set, ask);
+    }
+    for positions in [0, 1, 127, 128, 129, 200] {
+        let mut set = base();
+        set.scaffold = vec![named("b*"); positions];
+        ask_both(random, &set, ask);
+    }
+    for entries in [0, 1, 1023, 1024, 1025, 2000] {
+        let mut set = base();
+        let one = |number| Key::Pair("a".into(), format!("u{number}").into());
+        let energy = || Energy::Given(f64::INFINITY, 9.0);
+        set.entries = (0..entries).map(|number| (one(number), energy())).collect();
+        ask_both(random, &set, ask);
+    }
+    for length in [0, 1, 2, 63, 64, 65, 100] {
+        let name = || Some(vec![b'n'; length]);
+        let mut set = base();
+        set.strands[1][1] = name();
+        ask_both(random, &set, ask);
+        set.scaffold.push(name());
+        ask_both(random, &set, ask);
+        let mut set = base();
+        set.entries[1].0 = Key::One(name().unwrap());
+        ask_both(random, &set, ask);
+        set.entries[1].0 = Key::Pair("a".into(), name().unwrap());
+        ask_both(random, &set, ask);
+    }
+    for length in [0, 1, 2, 255, 256, 257, 1000] {
+        for entry in 0..4 {
+            let mut set = base();
+            set.entries[entry].1 = Energy::Sequence(vec![b'G'; length]);
+            ask_both(random, &set, ask);
+        }
+    }
+}
+
+/// `a**` is no known name, 31 base names build and 32 do not; and 6 comes before 7.
+pub fn bench_lines(random: &mut Random, ask: &mut Ask) {
+    for stars in 0..=5 {
+        let mut set = base();
+        set.scaffold = vec![named(&format!("a{}", "*".repeat(stars)))];
+        ask_both(random, &set, ask);
+    }
+    for count in [30, 31, 32, 33, 61] {
+        let mut set = with_bases(count);
+        ask_both(random, &set, ask);
+        set.scaffold = vec![named("g0*")];
+        ask_both(random, &set, ask);
+        set.scaffold.push(named("g0**"));
+        ask_both(random, &set, ask);
+    }
+    let mut set = with_bases(61);
+    for (number, sides) in set.strands.iter_mut().enumerate() {
+        sides[0] = named(&format!("w{number}"));
+        sides[2] = named(&format!("e{number}"));
+    }
+    for name in ["w60", "e60*", "e60**", "g7", "g61"] {
+        set.scaffold = vec![named(name)];
+        ask_both(random, &set, ask);
+    }
+    for strand in [0, 1, 2, 3] {
+        let mut set = base();
+        set.quencher = strand;
+        ask_both(random, &set, ask);
+        set.reporter = strand;
+        ask_both(random, &set, ask);
+    }
+}
+
+/// Every lent slice one shorter and one longer.
+pub fn every_length(random: &mut Random, ask: &mut Ask) {
+    let lent = base().laid_out(random);
+    for longer in [false, true] {
+        for which in 0..NUMBERS {
+            let mut lent = lent.clone();
+            resized(numbers(&mut lent, which), longer, 0);
+            ask_port(&lent, ask);
+        }
+        for which in 0..BYTES {
+            let mut lent = lent.clone();
+            resized(bytes(&mut lent, which), longer, 0);
+            ask_port(&lent, ask);
+        }
+        for which in 0..DOUBLES {
+            let mut lent = lent.clone();
+            resized(doubles(&mut lent, which), longer, 0.0);
+            ask_port(&lent, ask);
+        }
+    }
+    for which in 0..4 {
+        for change in [0, 1, 2] {
+            let mut lent = lent.clone();
+            lent.written[which] = (lent.written[which] + change).saturating_sub(1);
+            ask_port(&lent, ask);
+            lent.written[which] = 0;
+            ask_port(&lent, ask);
+        }
+    }
+}
+
+/// Every mark and form with values that are none, and every number of a copied strand.
+pub fn every_mark(random: &mut Random, ask: &mut Ask) {
+    let lent = base().laid_out(random);
+    for which in 0..BYTES {
+        for index in 0..bytes(&mut lent.clone(), which).len() {
+            for value in [0, 1, 2, 128, 255] {
+                let mut lent = lent.clone();
+                bytes(&mut lent, which)[index] = value;
+                ask_port(&lent, ask);
+            }
+        }
+    }
+    for strand in [0, 1, 3, 4, 5, 6, 61, 255, 256, usize::MAX] {
+        for changed in 0..3 {
+            let mut lent = lent.clone();
+            *[&mut lent.quencher, &mut lent.reporter, &mut lent.users][changed] = strand;
+            ask_port(&lent, ask);
+        }
+    }
+}
+
+/// Every start and length with values in, at and beyond the end of the text.
+pub fn every_start(random: &mut Random, ask: &mut Ask) {
+    let lent = base().laid_out(random);
+    let end = lent.text.len();
+    for which in 0..NUMBERS {
+        for index in 0..numbers(&mut lent.clone(), which).len() {
+            for value in [
+                0,
+                1,
+                64,
+                65,
+                256,
+                257,
+                end - 1,
+                end,
+                end + 1,
+                1 << 32,
+                usize::MAX,
+            ] {
+                let mut lent = lent.clone();
+                numbers(&mut lent, which)[index] = value;
+                ask_port(&lent, ask);
+            }
+        }
+    }
+    for (start, length) in [
+        (end, 0),
+        (end + 1, 0),
+        (end, 1),
+        (usize::MAX, 2),
+        (2, usize::MAX),
+    ] {
+        for which in (0..NUMBERS).step_by(2) {
+            let mut lent = lent.clone();
+            numbers(&mut lent, which)[0] = start;
+            numbers(&mut lent, which + 1)[0] = length;
+            ask_port(&lent, ask);
+        }
+    }
+}

@@ -1,0 +1,59 @@
+//! Lists of a line as slices, and slices that are lent to be written.
+
+use protocol::{whole, Complaint};
+
+/// The lists of a word: `,` within, `;` between, `-` for an empty one.
+pub fn lists<const N: usize>(word: &str) -> Result<[&str; N], Complaint> {
+    let lists: Vec<&str> = word.split(';').collect();
+    <[&str; N]>::try_from(lists).map_err(|_| format!("{N} lists are wanted: {word}"))
+}
+
+pub fn list<T>(
+    word: &str,
+    one: impl Fn(&str) -> Result<T, Complaint>,
+) -> Result<Vec<T>, Complaint> {
+    match word {
+        "-" => Ok(vec![]),
+        list => list.split(',').map(one).collect(),
+    }
+}
+
+/// Names: starts, lengths, marks.
+pub fn numbers_and_bytes(word: &str) -> Result<(Vec<usize>, Vec<usize>, Vec<u8>), Complaint> {
+    let [starts, lengths, marks] = lists(word)?;
+    Ok((
+        list(starts, whole)?,
+        list(lengths, whole)?,
+        list(marks, whole)?,
+    ))
+}
+
+/// A slice that is lent to be written, with what it held before, which no call writes.
+pub struct Filled<T> {
+    pub slice: Vec<T>,
+    before: T,
+}
+
+impl Filled<u8> {
+    pub fn bytes(length: usize) -> Self {
+        Filled {
+            slice: vec![0xa5; length],
+            before: 0xa5,
+        }
+    }
+}
+
+impl Filled<f64> {
+    pub fn doubles(length: usize) -> Self {
+        Filled {
+            slice: vec![-1.25e-77; length],
+            before: -1.25e-77,
+        }
+    }
+}
+
+impl<T: PartialEq> Filled<T> {
+    pub fn is_kept(&self) -> bool {
+        self.slice.iter().all(|entry| *entry == self.before)
+    }
+}

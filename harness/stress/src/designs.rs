@@ -1,0 +1,171 @@
+//! Calls that take a design.
+
+use crate::guarded::Guarded;
+use crate::{near, Tally};
+use compare::designs::{design, Ambient, Shape, SORTS};
+use compare::doubles::not_finite;
+use compare::judge::design::Lent;
+use compare::random::Random;
+use mujplesten as mj;
+
+/// Designs to draw from. Each slice has one entry more than the design.
+const DESIGNS: usize = 200;
+
+pub struct Designs(Vec<Lent>);
+
+/// The lengths of scaffold, glues, both tables and potentials.
+type Lengths = [usize; 5];
+
+fn lent(lent: &Lent, lengths: Lengths) -> mj::Design<'_> {
+    mj::Design {
+        scaffold: &lent.scaffold[..lengths[0]],
+        glues: &lent.glues[..lengths[1]],
+        dg: &lent.dg[..lengths[2]],
+        ds: &lent.ds[..lengths[3]],
+        potentials: &lent.potentials[..lengths[4]],
+        rt: lent.rt,
+        strand_excess: lent.strand_excess,
+        scaffold_excess: lent.scaffold_excess,
+    }
+}
+
+impl Designs {
+    pub fn new(random: &mut Random) -> Self {
+        let mut designs = vec![];
+        for number in 0..DESIGNS {
+            let shape = match number % 20 {
+                0 => Shape::full(random),
+                1 | 2 => Shape::middling(random),
+                _ => Shape::small(random),
+            };
+            let ambient = Ambient {
+                rt: random.double(0.125, 8.0),
+                strand_excess: random.double(-1024.0, 1024.0),
+                scaffold_excess: random.double(-1024.0, 1024.0),
+            };
+            let sort = random.pick(&SORTS);
+            let mut one = design(random, sort, &shape, ambient);
+            spoil(random, &mut one);
+            one.scaffold.push(0);
+            one.glues.push(0);
+            one.dg.push(0.0);
+            one.ds.push(0.0);
+            one.potentials.push(0.0);
+            designs.push(one);
+        }
+        Designs(designs)
+    }
+
+    pub fn call(&self, random: &mut Random, tally: &mut Tally) {
+        let whole = &self.0[random.below(DESIGNS)];
+        let wanted = [
+            whole.scaffold.len() - 1,
+            whole.glues.len() - 1,
+            whole.dg.len() - 1,
+            whole.ds.len() - 1,
+            whole.potentials.len() - 1,
+        ];
+        let mut lengths = wanted;
+        if random.once_in(4) {
+            let which = random.below(5);
+            lengths[which] = near(random, wanted[which]);
+        }
+        let asked = Asked {
+            design: lent(whole, lengths),
+            positions: wanted[0],
+            strands: wanted[4],
+        };
+        asked.call(random, tally);
+    }
+}
+
+/// One design in four has a fault.
+fn spoil(random: &mut Random, one: &mut Lent) {
+    match random.below(16) {
+        0 => one.dg[random.below(4096)] = random.pick(&not_finite()),
+        1 => one.rt = 9.0,
+        2 => one.glues[0] = 1,
+        3 => one.ds[64 * random.below(64)] = 1.0,
+        _ => {}
+    }
+}
+
+struct Asked<'a> {
+    design: mj::Design<'a>,
+    positions: usize,
+    strands: usize,
+}
+
+impl Asked<'_> {
+    fn call(&self, random: &mut Random, tally: &mut Tally) {
+        let design = self.design;
+        let (x, y) = (self.strand(random), self.strand(random));
+        let position = near(random, self.positions.saturating_sub(1));
+        let none = |number: u32, figure: u64| number == 0 || figure == 0;
+        match random.below(8) {
+            0 => {
+                let number = mj::strand_bond_reply(design, x, y);
+                let fit = none(number, mj::strand_bond(design, x, y));
+                tally.call("strand_bond", number, fit);
+            }
+            1 => {
+                let number = mj::scaffold_bond_reply(design, position, x);
+                let fit = none(number, mj::scaffold_bond(design, position, x));
+                tally.call("scaffold_bond", number, fit);
+            }
+            2 => {
+                let number = mj::states_reply(design);
+                tally.call("states", number, none(number, mj::states_count(design)));
+            }
+            3 => self.friends(random, position, tally),
+            4 => {
+                let any = random.bits();
+                let rank = random.pick(&[0, 1, any, u64::MAX]);
+                let mut entries = Guarded::new(near(random, self.positions), 0xa5);
+                let number = mj::state_reply(design, rank, entries.lent());
+                tally.call("state", number, entries.is_fit(number));
+            }
+            5 | 6 => self.energies(random, tally),
+            _ => {
+                let mut entries = Guarded::new(near(random, self.positions), 0xa5);
+                let number = mj::search_reply(design, entries.lent());
+                let fit = entries.is_fit(number);
+                let energy = mj::search_energy(design, entries.lent());
+                let fit = fit && entries.is_fit(number) && none(number, energy);
+                tally.call("search", number, fit);
+            }
+        }
+    }
+
+    fn strand(&self, random: &mut Random) -> u8 {
+        let any = random.below(self.strands + 1) as u8;
+        random.pick(&[0, 1, self.strands as u8, any, 255])
+    }
+
+    fn friends(&self, random: &mut Random, position: usize, tally: &mut Tally) {
+        let mut entries = Guarded::new(near(random, 64), 0xa5);
+        let number = mj::friends_reply(self.design, position, entries.lent());
+        let fit = entries.is_fit(number);
+        let count = mj::friends_count(self.design, position, entries.lent());
+        let fit = fit && entries.is_fit(number) && (number == 0 || count == 0) && count <= 64;
+        tally.call("friends", number, fit);
+    }
+
+    fn energies(&self, random: &mut Random, tally: &mut Tally) {
+        let length = near(random, self.positions);
+        let empty = random.once_in(2);
+        let place = |random: &mut Random| match empty {
+            true => 0,
+            false => random.below(self.strands + 1) as u8,
+        };
+        let configuration: Vec<u8> = (0..length).map(|_| place(random)).collect();
+        let number = mj::state_energy_reply(self.design, &configuration);
+        let energy = mj::state_energy(self.design, &configuration);
+        tally.call("state_energy", number, number == 0 || energy == 0);
+        let number = mj::chain_energy_reply(self.design, &configuration);
+        let energy = mj::chain_energy(self.design, &configuration);
+        let sum = mj::chain_sum(self.design, &configuration);
+        let fit = number == 0 || (energy, sum) == (0, 0);
+        tally.call("chain_energy", number, fit);
+    }
+}

@@ -1,0 +1,152 @@
+//! Names, strand glues and `from_params`.
+
+use crate::guarded::Guarded;
+use crate::{near, Tally};
+use compare::judge::parameters::{Lent, Names, CELLS};
+use compare::parameters::{damage, parameters, Shape};
+use compare::random::Random;
+use mujplesten as mj;
+
+/// Sets to draw from.
+const SETS: usize = 400;
+
+pub struct Sets(Vec<Lent>);
+
+impl Sets {
+    pub fn new(random: &mut Random) -> Self {
+        let mut sets = vec![];
+        for number in 0..SETS {
+            let shape = match number % 20 {
+                0 => Shape::full(random),
+                1 | 2 => Shape::middling(random),
+                _ => Shape::small(random),
+            };
+            let mut set = parameters(random, &shape, false);
+            for _ in 0..random.below(2) {
+                damage(random, &mut set);
+            }
+            sets.push(set.laid_out(random));
+        }
+        Sets(sets)
+    }
+
+    pub fn call(&self, random: &mut Random, tally: &mut Tally) {
+        let set = &self.0[random.below(SETS)];
+        match random.below(4) {
+            0 => name(random, set, tally),
+            1 => glues(random, set, tally),
+            _ => params(random, set, tally),
+        }
+    }
+}
+
+/// Any number, often one about the text's end.
+fn any_number(random: &mut Random, end: usize) -> usize {
+    let near = random.below(70);
+    random.pick(&[
+        near,
+        near,
+        end,
+        end + 1,
+        end.saturating_sub(near),
+        usize::MAX,
+    ])
+}
+
+fn name(random: &mut Random, set: &Lent, tally: &mut Tally) {
+    let text = &set.text[..];
+    let (start, length) = (
+        any_number(random, text.len()),
+        any_number(random, text.len()),
+    );
+    let number = mj::name_reply(text, start, length);
+    let figures = (
+        mj::name_start(text, start, length),
+        mj::name_length(text, start, length),
+        mj::name_is_base(text, start, length),
+    );
+    tally.call("name", number, number == 0 || figures == (0, 0, 0));
+}
+
+/// The first so many entries; one more is a 0.
+fn part<T: Clone + Default>(random: &mut Random, whole: &[T]) -> Vec<T> {
+    let mut part = whole.to_vec();
+    part.resize(near_mostly(random, whole.len()), T::default());
+    part
+}
+
+/// As `near`, but most often the wanted one: a set has seventeen slices.
+fn near_mostly(random: &mut Random, wanted: usize) -> usize {
+    match random.once_in(24) {
+        true => near(random, wanted),
+        false => wanted,
+    }
+}
+
+struct Parts(Vec<usize>, Vec<usize>, Vec<u8>);
+
+impl Parts {
+    fn of(random: &mut Random, names: &Names) -> Self {
+        let (starts, lengths) = (part(random, &names.starts), part(random, &names.lengths));
+        Parts(starts, lengths, part(random, &names.marks))
+    }
+
+    fn names(&self) -> mj::Names<'_> {
+        mj::Names {
+            starts: &self.0,
+            lengths: &self.1,
+            marks: &self.2,
+        }
+    }
+}
+
+fn glues(random: &mut Random, set: &Lent, tally: &mut Tally) {
+    let strands = Parts::of(random, &set.strands);
+    let users = near_mostly(random, set.users);
+    let mut glues = Guarded::new(near_mostly(random, 3 * set.users), 0xa5);
+    let text = part(random, &set.text);
+    let number = mj::strand_glues_reply(&text, users, strands.names(), glues.lent());
+    tally.call("strand_glues", number, glues.is_fit(number));
+}
+
+fn params(random: &mut Random, set: &Lent, tally: &mut Tally) {
+    let text = part(random, &set.text);
+    let [strands, scaffold, seconds] =
+        [&set.strands, &set.scaffold, &set.seconds].map(|names| Parts::of(random, names));
+    let firsts = Parts::of(random, &set.firsts);
+    let forms = part(random, &set.forms);
+    let (dgs, dss) = (part(random, &set.dgs), part(random, &set.dss));
+    let (starts, lengths) = (part(random, &set.starts), part(random, &set.lengths));
+    let lent = mj::Params {
+        text: &text,
+        users: near_mostly(random, set.users),
+        strands: strands.names(),
+        scaffold: scaffold.names(),
+        first_starts: &firsts.0,
+        first_lengths: &firsts.1,
+        seconds: seconds.names(),
+        forms: &forms,
+        dgs: &dgs,
+        dss: &dss,
+        starts: &starts,
+        lengths: &lengths,
+        penalty_dg: set.penalty_dg,
+        penalty_ds: set.penalty_ds,
+        quencher: near_mostly(random, set.quencher),
+        reporter: near_mostly(random, set.reporter),
+    };
+    let mut strand_glues = Guarded::new(near_mostly(random, set.written[0]), 0xa5);
+    let mut scaffold_glues = Guarded::new(near_mostly(random, set.written[1]), 0xa5);
+    let mut dg = Guarded::new(near_mostly(random, CELLS), -1.25e-77);
+    let mut ds = Guarded::new(near_mostly(random, CELLS), -1.25e-77);
+    let into = mj::Built {
+        strand_glues: strand_glues.lent(),
+        scaffold_glues: scaffold_glues.lent(),
+        dg: dg.lent(),
+        ds: ds.lent(),
+    };
+    let number = mj::params_reply(lent, into);
+    let glues_fit = strand_glues.is_fit(number) && scaffold_glues.is_fit(number);
+    let fit = glues_fit && dg.is_fit(number) && ds.is_fit(number);
+    tally.call("params", number, fit);
+}
