@@ -6,21 +6,21 @@ use mathlib.Core.Option.{none, some}
 use Prim.Native.Nat.{ℕ, zero, suc, _+_, _*_, _-_, _%_, _<_, _≤_}
 use native.Mathlib.Omega.{arith}
 use lib.Dec.{eqb}
-use lib.ListN.{length, getD, replicate, length-map, getD-replicate}
+use lib.ListN.{length, getD}
 use borrow.Author.Tests.{ne-eqb, eqb-true, eqb-false, ltb-false}
 use Rattle.lists.specs.Find.{any, firstIndex}
 use Rattle.lists.specs.Build.{tabulate, upTo}
 use Rattle.lists.proofs.Build.{length-tabulate, getD-tabulate}
 use Rattle.lists.proofs.Counted.{map-tabulate, tabulate-same, any-fails}
 use Rattle.sdc_common.specs.Names.{Name, baseOf, starsOf, sameName}
-use Rattle.sdc_common.specs.Lent.{Names, namesOf, Glue, partOf, glueOf, glueAt, gluesOf, unfitNames}
+use Rattle.sdc_common.specs.Lent.{Names, Glue, partOf, glueOf, glueAt, gluesOf}
 use Rattle.sdc_common.specs.Numbers.{isKnown, numberAt, baseNumber, nameNumber, glueNumber, basesOf, numbersAmong}
 use Rattle.sdc_common.specs.Spelled.{isUnknown, spelledNumber}
 use Rattle.sdc_common.specs.Calls.{tooManyBases}
 use Rattle.sdc_common.proofs.Spelled.{bases-bare}
 use Rattle.sdc_common.proofs.Looked.{unknown-spelled, spelled-number, number-at-most, glue-at-most}
-use Rattle.sdc1d_params.specs.Entries.{Cell, cell, cellOf}
-use Rattle.sdc1d_params.specs.Cells.{baseAt, refOrPair, cellOfNames, cellFrom, rowFrom, columnFrom, cellAt, InTables}
+use Rattle.sdc1d_params.specs.Entries.{cell, cellOf}
+use Rattle.sdc1d_params.specs.Cells.{baseAt, refOrPair, cellOfNames}
 use Rattle.sdc1d_params.specs.Scaffold.{unknownBy, unknownAt}
 use Rattle.sdc1d_params.specs.declared.cells.RefOrPair.the-variants.{Ref, Pair}
 

@@ -1,12 +1,12 @@
 -- Glues laid one strand after the other. Assumes nothing.
-use mathlib.Core.Path.{_≡_, refl, ap, ap₂, sym, _∙_}
+use mathlib.Core.Path.{_≡_, refl, ap, sym, _∙_}
 use mathlib.Core.Bool.{false}
 use mathlib.Core.List.{List, [], _∷_, _++_, append-assoc, append-nil}
-use Prim.Native.Nat.{ℕ, zero, suc, _+_, _*_, _-_, _<_, _≤_}
+use Prim.Native.Nat.{ℕ, _+_, _*_, _-_, _<_, _≤_}
 use native.Mathlib.Omega.{arith}
 use lib.ListN.{length, getD, set, take, drop, length-append, length-drop, length-map, List·getD-append, drop-of-length-le}
 use lib.Seq.{length-take-le, take-at, drop-at, getD-drop}
-use borrow.Author.Tests.{le-ltb, eq-eqb}
+use borrow.Author.Tests.{eq-eqb}
 use Rattle.lists.proofs.Build.{length-tabulate}
 use Rattle.sdc_common.specs.Lent.{Names, glueAt, gluesOf}
 use Rattle.sdc_common.specs.Numbers.{basesOf, glueNumber, numbersAmong}

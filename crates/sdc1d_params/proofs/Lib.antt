@@ -1,5 +1,6 @@
 pub mod Sequences
 pub mod Pairs
+pub mod Marked
 pub mod Small
 pub mod Writes
 pub mod Lengths
@@ -8,3 +9,4 @@ pub mod Laid
 pub mod Found
 pub mod Passed
 pub mod Written
+pub mod Replies

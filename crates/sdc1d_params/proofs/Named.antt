@@ -1,24 +1,22 @@
 -- What the calls on names give once the sizes are checked. Assumes nothing.
-use mathlib.Core.Path.{_≡_, refl, ap, sym, _∙_}
+use mathlib.Core.Path.{_≡_, refl, ap, _∙_}
 use mathlib.Core.Bool.{Bool, true, false}
 use mathlib.Core.List.{List}
-use mathlib.Core.Option.{none, some}
 use Prim.Native.Nat.{ℕ, _-_, _≤_}
 use native.Mathlib.Omega.{arith}
 use lib.Dec.{ltb}
 use lib.ListN.{length}
 use borrow.Author.Tests.{eq-eqb, ne-eqb}
 use Rattle.reply.specs.Number.{numberOf}
-use Rattle.reply.specs.First.{firstOf}
 use Rattle.reply.specs.declared.Refusal.{Refusal}
 use Rattle.reply.specs.declared.Reply.the-variants.{Admitted, Refused}
-use Rattle.reply.proofs.Answer.{is-admitted, is-refused}
+use Rattle.reply.proofs.Answer.{is-refused}
 use Rattle.sdc_common.specs.Names.{baseLength, starsOf, isFrom}
-use Rattle.sdc_common.specs.Lent.{Names, gluesOf, glueOf, partOf, unfitName, unfitNames, Fit}
+use Rattle.sdc_common.specs.Lent.{Names, gluesOf, glueOf, partOf, unfitName, unfitNames}
 use Rattle.sdc_common.specs.Numbers.{basesOf, numbersAmong}
-use Rattle.sdc_common.specs.Calls.{NameFigures, refusedName, givenName, nameChecks, selfAndInverse, NumbersFigures, refusedNumbers, givenNumbers, unfitStrands, nameNumbers, numbersAfter}
+use Rattle.sdc_common.specs.Calls.{NameFigures, refusedName, givenName, selfAndInverse, NumbersFigures, refusedNumbers, givenNumbers, unfitStrands, nameNumbers, numbersAfter}
 use Rattle.sdc_common.proofs.Bases.{base-le}
-use Rattle.sdc_common.proofs.Held.{fits, part-length, glue-absent, glue-present, present-fit}
+use Rattle.sdc_common.proofs.Held.{fits, part-length, glue-absent, glue-present}
 use Rattle.sdc1d_params.specs.Scaffold.{unknownBy}
 
 -- ---- numbers of names

@@ -1,6 +1,6 @@
 -- Cells that are one pair, and lists of cells in which a pair stands twice, as a loop meets them. Assumes nothing.
 use mathlib.Core.Path.{_≡_, refl, ap, ap₂, sym, _∙_}
-use mathlib.Core.Bool.{Bool, true, false, not, _&&_, _||_, and-comm, or-assoc, or-comm, or-true}
+use mathlib.Core.Bool.{Bool, true, false, _&&_, _||_, and-comm, or-true}
 use mathlib.Core.List.{List, [], _∷_, _++_}
 use Prim.Native.Nat.{ℕ, zero, suc, _+_, _<_}
 use native.Mathlib.Nat.{not-suc-le-zero}

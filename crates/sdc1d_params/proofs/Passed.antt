@@ -1,13 +1,12 @@
 -- The reply at each check, and what the checks leave to the writing. Assumes nothing.
 use mathlib.Core.Path.{_≡_, refl, ap, ap₂, sym, _∙_}
 use mathlib.Core.Bool.{Bool, true, false, not, _||_}
-use mathlib.Core.List.{List, map}
-use Prim.Native.Nat.{ℕ, _+_, _*_, _<_, _≤_}
+use mathlib.Core.List.{List}
+use Prim.Native.Nat.{ℕ, _<_, _≤_}
 use native.Mathlib.Omega.{arith}
 use lib.Dec.{eqb, ltb}
-use lib.Ieee.{Float}
 use lib.ListN.{length, getD, replicate, length-replicate, getD-replicate}
-use borrow.Author.Tests.{eqb-true, not-false, ltb-false, lt-ltb, le-ltb, ne-eqb}
+use borrow.Author.Tests.{eqb-true, not-false, ltb-false, lt-ltb, le-ltb}
 use Rattle.lists.specs.Find.{any}
 use Rattle.lists.specs.Build.{tabulate, upTo}
 use Rattle.lists.proofs.Any.{neither}
@@ -17,19 +16,18 @@ use Rattle.reply.specs.First.{firstOf}
 use Rattle.reply.specs.declared.Refusal.{Refusal}
 use Rattle.reply.specs.declared.Refusal.the-variants.{WrongSize, NotABase, TooShort, UnknownName, TooManyGlues, DuplicatePair, OutOfRange}
 use Rattle.reply.specs.declared.Reply.the-variants.{Admitted, Refused}
-use Rattle.sdc_common.specs.Names.{Name}
-use Rattle.sdc_common.specs.Lent.{Names, namesOf, glueOf, glueAt, gluesOf, partOf, unfitNames}
-use Rattle.sdc_common.specs.Numbers.{basesOf, nameNumber, glueNumber, numbersAmong}
+use Rattle.sdc_common.specs.Lent.{Names, namesOf, glueAt, gluesOf, unfitNames}
+use Rattle.sdc_common.specs.Numbers.{nameNumber, glueNumber, numbersAmong}
 use Rattle.sdc_common.specs.Spelled.{isUnknown}
 use Rattle.sdc_common.specs.Calls.{tooManyBases}
 use Rattle.sdc_common.proofs.Fit.{as-many}
 use Rattle.sdc_common.proofs.Held.{glue-present}
-use Rattle.sdc1d_params.specs.Entries.{Cell, cell, Energies, entryAt, entriesOf, unfitAt, badForm, unfitEntry, hasBadBase, isShort, Entries, FitEntries}
+use Rattle.sdc1d_params.specs.Entries.{Cell, cell, Energies, entryAt, entriesOf, unfitAt, badForm, unfitEntry, hasBadBase, isShort, FitEntries}
 use Rattle.sdc1d_params.specs.Tables.{Write, writeOf, cellsOf, duplicated, outOfRange}
 use Rattle.sdc1d_params.specs.Cells.{cellFrom, rowFrom, columnFrom, cellAt, writeAt, InTables}
-use Rattle.sdc1d_params.specs.Params.{Params, Outcome, entryCount, firsts, strandNames, bases, firstAt, cellAtEntry, writesOf, unfitEnergies, wrongSize, paramChecks}
+use Rattle.sdc1d_params.specs.Params.{Params, Outcome, entryCount, strandNames, bases, firstAt, cellAtEntry, writesOf, unfitEnergies, wrongSize, paramChecks}
 use Rattle.sdc1d_params.specs.Checked.{Checked}
-use Rattle.sdc1d_params.proofs.Lengths.{Sized, sized}
+use Rattle.sdc1d_params.proofs.Lengths.{Sized}
 use Rattle.sdc1d_params.proofs.Found.{number-at, number-small, numbers-length, numbers-spelled, cell-found, cell-inside}
 
 -- ---- the reply
@@ -180,6 +178,14 @@ module _ (p : Params) (lent : Outcome) (fit : Sized p lent) (marks first second 
         columns-many = columns-many;
         row = λ k h. rw (ap (λ (x : Cell). x .row) (cells-found k h)) (cell-inside (bases p) (firstAt p k) (glueAt (p .text) (p .seconds) k) most .0);
         column = λ k h. rw (ap (λ (x : Cell). x .column) (cells-found k h)) (cell-inside (bases p) (firstAt p k) (glueAt (p .text) (p .seconds) k) most .1);
+      }
+
+      pub cells-within : InTables rows columns (length rows)
+      cells-within = record {
+        rows-many = refl;
+        columns-many = columns-many ∙ sym rows-many;
+        row = λ k h. cells-inside .row k (rw rows-many at h);
+        column = λ k h. cells-inside .column k (rw rows-many at h);
       }
 
       pub checked :

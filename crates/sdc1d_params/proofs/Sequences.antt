@@ -1,19 +1,18 @@
 -- Sequences of entries: where they end, and what the sequence call says of them. Assumes nothing.
 use mathlib.Core.Path.{_≡_, refl, ap, sym, _∙_}
 use mathlib.Core.Bool.{Bool, true, false, _||_}
-use mathlib.Core.List.{List, [], _∷_}
+use mathlib.Core.List.{List}
 use Prim.Native.Nat.{ℕ, _+_, _-_, _≤_}
 use native.Mathlib.Omega.{arith}
 use lib.Dec.{eqb, ltb}
-use lib.ListN.{length, take, drop}
-use borrow.Author.Tests.{ltb-false, le-ltb, lt-ltb, eq-eqb, ne-eqb}
+use lib.ListN.{length}
+use borrow.Author.Tests.{ltb-false, le-ltb, eq-eqb}
 use Rattle.lists.specs.Find.{any}
-use Rattle.reply.specs.Number.{numberOf, answered}
+use Rattle.reply.specs.Number.{numberOf}
 use Rattle.reply.specs.First.{firstOf, orElse}
 use Rattle.reply.proofs.Answer.{is-admitted, is-refused}
 use Rattle.reply.specs.declared.Refusal.{Refusal}
-use Rattle.reply.specs.declared.Refusal.the-variants.{WrongSize, NotABase, TooShort}
-use Rattle.reply.specs.declared.Reply.{Reply}
+use Rattle.reply.specs.declared.Refusal.the-variants.{NotABase, TooShort}
 use Rattle.reply.specs.declared.Reply.the-variants.{Admitted, Refused}
 use Rattle.utils.specs.Answers.{DgDsFigures, givenDgDs, refusedDgDs}
 use Rattle.utils.specs.Bases.{notABase}
@@ -21,7 +20,7 @@ use Rattle.utils.specs.Single.{tooLong, tooShort, sequenceChecks, stringDnaDgDs
 use Rattle.sdc_common.specs.Lent.{partOf, leaves}
 use Rattle.sdc_common.proofs.Held.{neither, part-length}
 use Rattle.sdc1d_params.specs.Entries.{unfitEntry}
-use Rattle.sdc1d_params.specs.declared.entries.GsOrSeq.the-variants.{Given, Sequence}
+use Rattle.sdc1d_params.specs.declared.entries.GsOrSeq.the-variants.{Sequence}
 use lib.Ieee.{Float}
 
 module _ (text : List ℕ) (start size : ℕ) (fit : unfitEntry text (Sequence start size) ≡ false) where

@@ -1,10 +1,9 @@
 -- Numbers of names that are small, and the cells made of them. Assumes nothing.
-use mathlib.Core.Path.{_≡_, refl}
 use mathlib.Core.Bool.{Bool, true, false, cond}
 use Prim.Native.Nat.{ℕ, _+_, _-_, _<_, _%_}
 use native.Mathlib.Omega.{arith}
 use lib.Dec.{eqb}
-use Rattle.sdc1d_params.specs.Entries.{Cell, cell}
+use Rattle.sdc1d_params.specs.Entries.{cell}
 use Rattle.sdc1d_params.specs.Cells.{refOrPair, cellOfNames}
 use Rattle.sdc1d_params.specs.declared.cells.RefOrPair.the-variants.{Ref, Pair}
 

@@ -1,13 +1,13 @@
 -- Tables as a loop fills them, and what an entry writes as the code has it. Assumes nothing.
-use mathlib.Core.Path.{_≡_, refl, ap, ap₂, sym, _∙_}
+use mathlib.Core.Path.{_≡_, refl, ap}
 use mathlib.Core.Bool.{Bool, true, false, cond}
 use mathlib.Core.List.{List, [], _∷_}
 use Prim.Native.Nat.{ℕ, zero, suc}
 use lib.Ieee.{Float, binary64, add}
 use lib.ListN.{length, getD, set, replicate, length-set}
 use Rattle.lists.specs.Build.{tabulate}
-use Rattle.sdc1d_params.specs.Entries.{Cell, cell, isWritten, entryDg, entryDs}
-use Rattle.sdc1d_params.specs.Tables.{Write, writeOf, setBoth, placeOf}
+use Rattle.sdc1d_params.specs.Entries.{Cell, isWritten, entryDg, entryDs}
+use Rattle.sdc1d_params.specs.Tables.{writeOf, setBoth, placeOf}
 use Rattle.sdc1d_params.specs.declared.entries.GsOrSeq.{GsOrSeq}
 
 pub tabulate-same-value : {A : Type 0} (n : ℕ) (v : A) → tabulate n (λ k. v) ≡ replicate n v

@@ -5,10 +5,9 @@ use mathlib.Core.List.{List, _∷_, map}
 use Prim.Native.Nat.{ℕ, zero, suc, _+_, _*_, _-_, _<_, _≤_}
 use native.Mathlib.Nat.{not-suc-le-zero, le-of-suc-le-suc}
 use native.Mathlib.Omega.{arith}
-use lib.Dec.{eqb, ltb}
+use lib.Dec.{eqb}
 use lib.Ieee.{Float}
 use lib.ListN.{length, take, replicate, length-replicate, length-map}
-use lib.Seq.{length-take-le}
 use borrow.Author.Tests.{eqb-true, not-false, lt-ltb}
 use Rattle.doubles.specs.Decimal as doubles
 use Rattle.lists.specs.Find.{any}

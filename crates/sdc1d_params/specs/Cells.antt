@@ -1,13 +1,13 @@
 -- Cells as the build finds them: from the numbers of an entry's names.
-use mathlib.Core.Bool.{Bool, cond}
+use mathlib.Core.Bool.{Bool, true, false, cond, _&&_}
 use mathlib.Core.List.{List}
 use Prim.Native.Nat.{ℕ, _+_, _-_, _%_, _<_}
 use mathlib.Core.Path.{_≡_}
 use lib.Dec.{eqb}
 use lib.Ieee.{Float}
-use lib.ListN.{length, getD}
-use Rattle.sdc1d_params.specs.Entries.{Cell, cell, Energies, entryAt}
-use Rattle.sdc1d_params.specs.Tables.{Write, writeOf}
+use lib.ListN.{length, getD, set}
+use Rattle.sdc1d_params.specs.Entries.{Cell, cell, Energies, entryAt, isWritten}
+use Rattle.sdc1d_params.specs.Tables.{Write, writeOf, placeOf}
 use Rattle.sdc1d_params.specs.declared.cells.RefOrPair.{RefOrPair}
 use Rattle.sdc1d_params.specs.declared.cells.RefOrPair.the-variants.{Ref, Pair}
 use Rattle.sdc1d_params.specs.declared.cells.Place.{Place}
@@ -50,3 +50,14 @@ cellAt rows columns i = cell (getD rows i 0) (getD columns i 0)
 
 abbrev pub placeCell : Place → Cell
 placeCell p = cell (p .0) (p .1)
+
+-- ---- cells that were met, marked in a table of 64 by 64
+
+-- a cell that is written and its mirror marked
+unfoldable pub markBoth : List Bool → Cell → List Bool
+markBoth seen c =
+    cond (isWritten c) (set (set seen (placeOf (c .row) (c .column)) true) (placeOf (c .column) (c .row)) true) seen
+
+-- a cell that is written, and marked
+unfoldable pub isMarked : List Bool → Cell → Bool
+isMarked seen c = isWritten c && getD seen (placeOf (c .row) (c .column)) false

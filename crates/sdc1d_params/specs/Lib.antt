@@ -4,3 +4,4 @@ pub mod Cells
 pub mod Scaffold
 pub mod Params
 pub mod Checked
+pub mod Bench

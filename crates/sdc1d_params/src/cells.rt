@@ -1,14 +1,11 @@
 // Where entries are written: one name or a pair, from the numbers of the names to a cell of the tables.
 ghost use mathlib.Core.Path.{_≡_};
-ghost use mathlib.Core.Bool.{_&&_};
-ghost use Prim.Native.Nat.{ℕ, _<_, _≤_};
-ghost use lib.Dec.{eqb};
+ghost use Prim.Native.Nat.{_<_};
 ghost use lib.ListN.{length};
-ghost use Rattle.lists.specs.Find.{any};
 ghost use Rattle.lists.specs.Build.{tabulate};
-ghost use Rattle.sdc1d_params.specs.Entries.{cell, samePair, isWritten};
+ghost use Rattle.sdc1d_params.specs.Entries.{cell, isWritten};
 ghost use Rattle.sdc1d_params.specs.Tables.{duplicated};
-ghost use Rattle.sdc1d_params.specs.Cells.{refOrPair, cellOfNames, placeCell, rowFrom, columnFrom, cellAt, InTables};
+ghost use Rattle.sdc1d_params.specs.Cells.{refOrPair, cellOfNames, placeCell, rowFrom, columnFrom, cellAt, InTables, markBoth, isMarked};
 
 // How an entry's names are lent: one name, and anything else is a pair.
 const REF: u8 = 0;
@@ -75,59 +72,42 @@ pub(crate) fn is_written(row: usize, column: usize) -> bool
     column != 0
 }
 
-fn same_cell(row: usize, column: usize, other_row: usize, other_column: usize) -> bool
-    ensures { λ r. ⌜ r ≡ (eqb row «other_row» && eqb column «other_column») ⌝ }
-{
-    if row != other_row {
-        return false;
-    }
-    column == other_column
-}
-
-// Whether two cells that are written are the same one, or mirrored.
-fn same_pair(row: usize, column: usize, other_row: usize, other_column: usize) -> bool
-    ensures { λ r. ⌜ r ≡ samePair (cell row column) (cell «other_row» «other_column») ⌝ }
+// Whether a cell was met before, it or its mirror. A cell that is not written never was.
+fn is_marked(seen: &[bool], row: usize, column: usize) -> bool
+    requires { ⌜ (length (now seen) ≡ 4096) × (row < 64) × (column < 64) ⌝ }
+    ensures { λ r. ⌜ r ≡ isMarked (now (seen .entry)) (cell row column) ⌝ }
 {
     if !is_written(row, column) {
         return false;
     }
-    if !is_written(other_row, other_column) {
-        return false;
-    }
-    if same_cell(row, column, other_row, other_column) {
-        return true;
-    }
-    same_cell(row, column, other_column, other_row)
+    seen[row * 64 + column]
 }
 
-// Whether an entry before i has the pair of entry i.
-fn is_repeated(rows: &[usize], columns: &[usize], i: usize) -> bool
-    requires { ⌜ length (now rows) ≡ length (now columns) ⌝ }
-    requires { ⌜ i < length (now rows) ⌝ }
-    ensures { λ r. ⌜ r ≡ any (samePair (cellAt (now (rows .entry)) (now (columns .entry)) i)) (tabulate i (cellAt (now (rows .entry)) (now (columns .entry)))) ⌝ }
+// A cell that is written and its mirror marked.
+fn mark_both(seen: &mut [bool], row: usize, column: usize)
+    requires { ⌜ (length (now seen) ≡ 4096) × (row < 64) × (column < 64) ⌝ }
+    ensures { λ _. ⌜ now (seen .exit) ≡ markBoth (now (seen .entry)) (cell row column) ⌝ }
 {
-    let row = rows[i];
-    let column = columns[i];
-    let mut j = 0;
-    while j < i {
-        if same_pair(row, column, rows[j], columns[j]) {
-            return true;
-        }
-        j += 1;
+    if is_written(row, column) {
+        let at = row * 64 + column;
+        let mirror = column * 64 + row;
+        seen[at] = true;
+        seen[mirror] = true;
     }
-    false
 }
 
 // Whether two entries have the same pair.
 pub(crate) fn any_repeated(rows: &[usize], columns: &[usize]) -> bool
-    requires { ⌜ length (now rows) ≡ length (now columns) ⌝ }
+    requires { ⌜ InTables (now rows) (now columns) (length (now rows)) ⌝ }
     ensures { λ r. ⌜ r ≡ duplicated (tabulate (length (now (rows .entry))) (cellAt (now (rows .entry)) (now (columns .entry)))) ⌝ }
 {
+    let mut seen = [false; 4096];
     let mut i = 0;
     while i < rows.len() {
-        if is_repeated(rows, columns, i) {
+        if is_marked(&seen, rows[i], columns[i]) {
             return true;
         }
+        mark_both(&mut seen, rows[i], columns[i]);
         i += 1;
     }
     false

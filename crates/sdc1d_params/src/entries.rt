@@ -1,7 +1,7 @@
 // Energy entries: two doubles or a sequence, made from lent numbers and taken apart.
 ghost use mathlib.Core.Path.{_≡_};
 ghost use mathlib.Core.Bool.{false};
-ghost use Prim.Native.Nat.{_<_, _≤_};
+ghost use Prim.Native.Nat.{_<_};
 ghost use lib.ListN.{length};
 ghost use Rattle.lists.specs.Find.{any};
 ghost use Rattle.sdc1d_params.specs.Entries.{badForm, unfitEntry, hasBadBase, isShort, entryDg, entryDs, energiesOf, entryAt, entriesOf, unfitAt};

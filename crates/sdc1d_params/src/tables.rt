@@ -1,6 +1,6 @@
 // The sums that entries write, their ranges, and the glue tables.
 ghost use mathlib.Core.Path.{_≡_};
-ghost use Prim.Native.Nat.{ℕ, _<_, _≤_};
+ghost use Prim.Native.Nat.{_<_};
 ghost use mathlib.Core.Bool.{false};
 ghost use lib.Ieee as Ieee;
 ghost use lib.Ieee.{binary64};

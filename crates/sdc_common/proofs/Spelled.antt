@@ -1,24 +1,20 @@
 -- Names looked up as spelled, told by the number of the reduced name and its stars. Assumes nothing.
-use mathlib.Core.Path.{_≡_, refl, ap, ap₂, sym, subst, _∙_}
-use mathlib.Core.Bool.{Bool, true, false, cond, not, _&&_, _||_, and-false}
+use mathlib.Core.Path.{_≡_, refl, ap, ap₂, sym, _∙_}
+use mathlib.Core.Bool.{Bool, true, false, cond, _&&_}
 use mathlib.Core.List.{List, [], _∷_, _++_, append-nil}
 use mathlib.Core.Option.{none, some}
-use Prim.Native.Nat.{ℕ, zero, suc, _+_, _-_, _*_, _%_, _<_, _≤_}
+use Prim.Native.Nat.{ℕ, zero, suc, _+_, _-_}
 use native.Mathlib.Omega.{arith}
-use native.Mathlib.Numerals.{add-one}
-use lib.Dec.{eqb, ltb}
-use lib.ListN.{length, take, drop, replicate, length-append, length-take, length-replicate}
+use lib.Dec.{eqb}
+use lib.ListN.{length, take, replicate, length-append}
 use lib.Seq.{take-length, take-at, length-take-le}
-use borrow.Author.Tests.{eq-eqb, ne-eqb, eqb-true, eqb-false, lt-ltb, le-ltb, ltb-true, ltb-false}
-use Rattle.lists.specs.Find.{any, firstIndex}
+use borrow.Author.Tests.{eq-eqb, eqb-true}
 use Rattle.lists.specs.Fold.{foldl}
 use Rattle.lists.specs.Each.{Each}
 use Rattle.lists.proofs.Each.{each-append}
-use Rattle.lists.proofs.Find.{first-le, first-any}
 use Rattle.sdc_common.specs.Names.{Name, isStar, baseLength, baseOf, starsOf, sameName}
 use Rattle.sdc_common.specs.Lent.{Glue}
-use Rattle.sdc_common.specs.Numbers.{isKnown, learn, basesOf, numberAt, baseNumber, nameNumber, glueNumber}
-use Rattle.sdc_common.specs.Spelled.{knownNames, isUnknown, spelledNumber}
+use Rattle.sdc_common.specs.Numbers.{isKnown, learn, basesOf}
 use Rattle.sdc_common.proofs.Bases.{base-le, base-star}
 
 -- ---- names by their bytes

@@ -1,7 +1,6 @@
 -- `sdc1d_params::from_params` meets its contract: what is beyond the limits is refused, and the rest is built. Assumes nothing.
 use borrow.Author.Needs.{needs}
 use denote.Ref.{now}
-use native.Mathlib.Omega.{arith}
 use lib.ListN.{length}
 use Rattle.sdc1d_params.specs.Params.{Params, Outcome, paramsOf, lentOf}
 use Rattle.sdc1d_params.proofs.Written.{entries-refused, positions-refused, repeated-part, part-length}

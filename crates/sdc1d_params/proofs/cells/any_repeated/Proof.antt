@@ -1,34 +1,74 @@
--- `sdc1d_params::any_repeated` meets its contract: no two cells that were passed over are of one pair. Assumes nothing.
+-- `sdc1d_params::any_repeated` meets its contract: the cells that were passed over are marked, and no two are of one pair. Assumes nothing.
 use borrow.Author.Needs.{needs}
-use mathlib.Core.Path.{_≡_, refl, sym, ap, ap₂, _∙_}
-use mathlib.Core.Bool.{true, false}
-use Prim.Native.Nat.{ℕ, _+_, _-_, _≤_, _<_}
+use mathlib.Core.Path.{_≡_, refl, ap, sym, _∙_}
+use mathlib.Core.Bool.{Bool, true, false}
+use mathlib.Core.List.{List}
+use Prim.Native.Nat.{ℕ, _-_, _≤_}
 use native.Mathlib.Omega.{arith}
-use lib.ListN.{length, getD}
+use lib.ListN.{length, replicate}
 use denote.Ref.{now}
 use Rattle.lists.specs.Find.{any}
+use Rattle.lists.specs.Fold.{foldl}
 use Rattle.lists.specs.Build.{tabulate}
+use Rattle.lists.proofs.Counted.{fold-more}
+use Rattle.sdc1d_params.specs.Entries.{samePair}
 use Rattle.sdc1d_params.specs.Tables.{duplicated}
-use Rattle.sdc1d_params.specs.Cells.{cellAt}
+use Rattle.sdc1d_params.specs.Cells.{cellAt, markBoth, isMarked}
 use Rattle.sdc1d_params.proofs.Pairs.{duplicated-more, duplicated-found}
+use Rattle.sdc1d_params.proofs.Marked.{seenAfter, seen-length, marked-is}
 use Rattle.sdc1d_params.proofs.cells.any_repeated.Statement.{statement}
 use Rattle.sdc1d_params.proofs.cells.any_repeated.Tie as tie
 
 abbrev Inv-loop : tie.InvT-loop
-Inv-loop rows columns i₀ i = (i ≤ length rows) × (duplicated (tabulate i (cellAt rows columns)) ≡ false)
+Inv-loop rows columns seen₀ i₀ seen i = (i ≤ length rows) × (seen ≡ seenAfter (cellAt rows columns) i) × (duplicated (tabulate i (cellAt rows columns)) ≡ false)
 
 abbrev μ-loop : tie.MeasureT-loop
-μ-loop rows columns i₀ i = length rows - i
+μ-loop rows columns seen₀ i₀ seen i = length rows - i
 
 loop-holds : tie.Need-loop-holds Inv-loop μ-loop
-unfolding duplicated tabulate
-loop-holds c = (omega arith, refl)
+unfolding duplicated tabulate foldl
+loop-holds c = (omega arith, refl, refl)
 
-is-repeated-requires : tie.Need-is-repeated-requires Inv-loop μ-loop
-is-repeated-requires c κs = search needs
+slice-aggregate-is-marked : tie.Need-slice-aggregate-is-marked Inv-loop μ-loop
+slice-aggregate-is-marked c = let many : length (c .before .before .loop .seen) ≡ 4096 = ap length (c .before .before .loop .inv .1) ∙ seen-length (cellAt (now (c .before .before .before .before .before .args .rows)) (now (c .before .before .before .before .before .args .columns))) (c .before .before .loop .i) in search needs
+
+mul-is-marked : tie.Need-mul-is-marked Inv-loop μ-loop
+mul-is-marked c = search needs
+
+shared-slice-read-is-marked : tie.Need-shared-slice-read-is-marked Inv-loop μ-loop
+shared-slice-read-is-marked c = search needs
+
+mul-is-marked-2 : tie.Need-mul-is-marked-2 Inv-loop μ-loop
+mul-is-marked-2 c = search needs
+
+shared-slice-read-is-marked-2 : tie.Need-shared-slice-read-is-marked-2 Inv-loop μ-loop
+shared-slice-read-is-marked-2 c = let m = c .before .before .before .before .before .before .before .pre .columns-many in omega arith
+
+is-marked-requires : tie.Need-is-marked-requires Inv-loop μ-loop
+is-marked-requires c κs = (ap length (c .before .before .before .before .loop .inv .1) ∙ seen-length (cellAt (now (c .before .before .before .before .before .before .before .args .rows)) (now (c .before .before .before .before .before .before .before .args .columns))) (c .before .before .before .before .loop .i), c .before .before .before .before .before .before .before .pre .row (c .before .before .before .before .loop .i) (omega arith), c .before .before .before .before .before .before .before .pre .column (c .before .before .before .before .loop .i) (omega arith))
 
 returns : tie.Need-returns Inv-loop μ-loop
-returns c = sym (duplicated-found (cellAt (now (c .before .before .before .before .before .before .args .rows)) (now (c .before .before .before .before .before .before .args .columns))) (length (now (c .before .before .before .before .before .before .args .rows))) (c .before .before .before .loop .i) (omega arith) (sym (c .before .is-repeated .ensures) ∙ c .if1 .taken))
+returns c =
+    let met : any (samePair ((cellAt (now (c .before .before .before .before .before .before .before .before .before .args .rows)) (now (c .before .before .before .before .before .before .before .before .before .args .columns))) (c .before .before .before .before .before .before .loop .i))) (tabulate (c .before .before .before .before .before .before .loop .i) (cellAt (now (c .before .before .before .before .before .before .before .before .before .args .rows)) (now (c .before .before .before .before .before .before .before .before .before .args .columns)))) ≡ true = sym (marked-is (cellAt (now (c .before .before .before .before .before .before .before .before .before .args .rows)) (now (c .before .before .before .before .before .before .before .before .before .args .columns))) (c .before .before .before .before .before .before .loop .i) (λ k l. (c .before .before .before .before .before .before .before .before .before .pre .row k (omega arith), c .before .before .before .before .before .before .before .before .before .pre .column k (omega arith))) (c .before .before .before .before .before .before .before .before .before .pre .row (c .before .before .before .before .before .before .loop .i) (omega arith), c .before .before .before .before .before .before .before .before .before .pre .column (c .before .before .before .before .before .before .loop .i) (omega arith))) ∙ ap (λ (s : List Bool). isMarked s ((cellAt (now (c .before .before .before .before .before .before .before .before .before .args .rows)) (now (c .before .before .before .before .before .before .before .before .before .args .columns))) (c .before .before .before .before .before .before .loop .i))) (sym (c .before .before .before .before .before .before .loop .inv .1)) ∙ sym (c .before .is-marked .ensures) ∙ c .if1 .taken in
+    sym (duplicated-found (cellAt (now (c .before .before .before .before .before .before .before .before .before .args .rows)) (now (c .before .before .before .before .before .before .before .before .before .args .columns))) (length (now (c .before .before .before .before .before .before .before .before .before .args .rows))) (c .before .before .before .before .before .before .loop .i) (omega arith) met)
+
+slice-aggregate-mark-both : tie.Need-slice-aggregate-mark-both Inv-loop μ-loop
+slice-aggregate-mark-both c = let many : length (c .before .before .before .before .before .before .before .loop .seen) ≡ 4096 = ap length (c .before .before .before .before .before .before .before .loop .inv .1) ∙ seen-length (cellAt (now (c .before .before .before .before .before .before .before .before .before .before .args .rows)) (now (c .before .before .before .before .before .before .before .before .before .before .args .columns))) (c .before .before .before .before .before .before .before .loop .i) in search needs
+
+mul-mark-both : tie.Need-mul-mark-both Inv-loop μ-loop
+mul-mark-both c = search needs
+
+shared-slice-read-mark-both : tie.Need-shared-slice-read-mark-both Inv-loop μ-loop
+shared-slice-read-mark-both c = search needs
+
+mul-mark-both-2 : tie.Need-mul-mark-both-2 Inv-loop μ-loop
+mul-mark-both-2 c = search needs
+
+shared-slice-read-mark-both-2 : tie.Need-shared-slice-read-mark-both-2 Inv-loop μ-loop
+shared-slice-read-mark-both-2 c = let m = c .before .before .before .before .before .before .before .before .before .before .before .before .pre .columns-many in omega arith
+
+mark-both-requires : tie.Need-mark-both-requires Inv-loop μ-loop
+mark-both-requires c κs = (ap length (c .before .before .before .before .before .before .before .before .before .loop .inv .1) ∙ seen-length (cellAt (now (c .before .before .before .before .before .before .before .before .before .before .before .before .args .rows)) (now (c .before .before .before .before .before .before .before .before .before .before .before .before .args .columns))) (c .before .before .before .before .before .before .before .before .before .loop .i), c .before .before .before .before .before .before .before .before .before .before .before .before .pre .row (c .before .before .before .before .before .before .before .before .before .loop .i) (omega arith), c .before .before .before .before .before .before .before .before .before .before .before .before .pre .column (c .before .before .before .before .before .before .before .before .before .loop .i) (omega arith))
 
 add-i : tie.Need-add-i Inv-loop μ-loop
 add-i c = search needs
@@ -37,12 +77,14 @@ loop-less : tie.Need-loop-less Inv-loop μ-loop
 loop-less c = search needs
 
 loop-again : tie.Need-loop-again Inv-loop μ-loop
-loop-again c = (omega arith, duplicated-more (cellAt (now (c .before .before .before .before .before .before .args .rows)) (now (c .before .before .before .before .before .before .args .columns))) (c .before .before .before .loop .i) (c .before .before .before .loop .inv .1) (sym (c .before .is-repeated .ensures) ∙ c .if1 .left))
+loop-again c =
+    let unmet : any (samePair ((cellAt (now (c .before .before .before .before .before .before .before .before .before .before .before .before .before .before .args .rows)) (now (c .before .before .before .before .before .before .before .before .before .before .before .before .before .before .args .columns))) (c .before .before .before .before .before .before .before .before .before .before .before .loop .i))) (tabulate (c .before .before .before .before .before .before .before .before .before .before .before .loop .i) (cellAt (now (c .before .before .before .before .before .before .before .before .before .before .before .before .before .before .args .rows)) (now (c .before .before .before .before .before .before .before .before .before .before .before .before .before .before .args .columns)))) ≡ false = sym (marked-is (cellAt (now (c .before .before .before .before .before .before .before .before .before .before .before .before .before .before .args .rows)) (now (c .before .before .before .before .before .before .before .before .before .before .before .before .before .before .args .columns))) (c .before .before .before .before .before .before .before .before .before .before .before .loop .i) (λ k l. (c .before .before .before .before .before .before .before .before .before .before .before .before .before .before .pre .row k (omega arith), c .before .before .before .before .before .before .before .before .before .before .before .before .before .before .pre .column k (omega arith))) (c .before .before .before .before .before .before .before .before .before .before .before .before .before .before .pre .row (c .before .before .before .before .before .before .before .before .before .before .before .loop .i) (omega arith), c .before .before .before .before .before .before .before .before .before .before .before .before .before .before .pre .column (c .before .before .before .before .before .before .before .before .before .before .before .loop .i) (omega arith))) ∙ ap (λ (s : List Bool). isMarked s ((cellAt (now (c .before .before .before .before .before .before .before .before .before .before .before .before .before .before .args .rows)) (now (c .before .before .before .before .before .before .before .before .before .before .before .before .before .before .args .columns))) (c .before .before .before .before .before .before .before .before .before .before .before .loop .i))) (sym (c .before .before .before .before .before .before .before .before .before .before .before .loop .inv .1)) ∙ sym (c .before .before .before .before .before .before .is-marked .ensures) ∙ c .before .before .before .before .before .if1 .left in
+    (omega arith, c .before .mark-both .ensures ∙ ap (λ (s : List Bool). markBoth s ((cellAt (now (c .before .before .before .before .before .before .before .before .before .before .before .before .before .before .args .rows)) (now (c .before .before .before .before .before .before .before .before .before .before .before .before .before .before .args .columns))) (c .before .before .before .before .before .before .before .before .before .before .before .loop .i))) (c .before .before .before .before .before .before .before .before .before .before .before .loop .inv .1) ∙ sym (fold-more markBoth (replicate 4096 false) (cellAt (now (c .before .before .before .before .before .before .before .before .before .before .before .before .before .before .args .rows)) (now (c .before .before .before .before .before .before .before .before .before .before .before .before .before .before .args .columns))) (c .before .before .before .before .before .before .before .before .before .before .before .loop .i)), duplicated-more (cellAt (now (c .before .before .before .before .before .before .before .before .before .before .before .before .before .before .args .rows)) (now (c .before .before .before .before .before .before .before .before .before .before .before .before .before .before .args .columns))) (c .before .before .before .before .before .before .before .before .before .before .before .loop .i) (c .before .before .before .before .before .before .before .before .before .before .before .loop .inv .2) unmet)
 
 returns-2 : tie.Need-returns-2 Inv-loop μ-loop
 returns-2 c =
     let end : c .before .loop .i ≡ length (now (c .before .before .before .before .args .rows)) = omega arith in
-    sym (ap (λ (k : ℕ). duplicated (tabulate k (cellAt (now (c .before .before .before .before .args .rows)) (now (c .before .before .before .before .args .columns))))) (sym end) ∙ c .before .loop .inv .1)
+    sym (ap (λ (k : ℕ). duplicated (tabulate k (cellAt (now (c .before .before .before .before .args .rows)) (now (c .before .before .before .before .args .columns))))) (sym end) ∙ c .before .loop .inv .2)
 
 pub any-repeated-spec : {M : Type 1} → statement M
 any-repeated-spec =
@@ -51,8 +93,19 @@ any-repeated-spec =
     Inv-loop
     μ-loop
     loop-holds
-    is-repeated-requires
+    slice-aggregate-is-marked
+    mul-is-marked
+    shared-slice-read-is-marked
+    mul-is-marked-2
+    shared-slice-read-is-marked-2
+    is-marked-requires
     returns
+    slice-aggregate-mark-both
+    mul-mark-both
+    shared-slice-read-mark-both
+    mul-mark-both-2
+    shared-slice-read-mark-both-2
+    mark-both-requires
     add-i
     loop-less
     loop-again

@@ -1,10 +1,10 @@
 -- `sdc1d_params::cell_of` meets its contract: of the two numbers of a base, the odd one is the base. Assumes nothing.
 use borrow.Author.Needs.{needs}
-use mathlib.Core.Path.{_≡_, sym, ap, _∙_}
-use Prim.Native.Nat.{ℕ, _+_, _-_, _<_}
+use mathlib.Core.Path.{_≡_, sym, ap}
+use Prim.Native.Nat.{_+_, _-_, _<_}
 use native.Mathlib.Omega.{arith}
 use borrow.Author.Tests.{eq-eqb, ne-eqb}
-use Rattle.sdc1d_params.specs.Entries.{Cell, cell}
+use Rattle.sdc1d_params.specs.Entries.{cell}
 use Rattle.sdc1d_params.specs.Cells.{cellOfNames}
 use Rattle.sdc1d_params.proofs.cells.cell_of.Statement.{statement}
 use Rattle.sdc1d_params.proofs.cells.cell_of.Tie as tie

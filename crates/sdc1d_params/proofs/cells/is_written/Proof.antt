@@ -1,5 +1,4 @@
 -- `sdc1d_params::is_written` meets its contract. Assumes nothing.
-use borrow.Author.Needs.{needs}
 use borrow.Author.Tests.{eq-eqb, ne-eqb}
 use Rattle.sdc1d_params.proofs.cells.is_written.Statement.{statement}
 use Rattle.sdc1d_params.proofs.cells.is_written.Tie as tie

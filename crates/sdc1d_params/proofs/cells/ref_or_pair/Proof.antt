@@ -1,5 +1,4 @@
 -- `sdc1d_params::ref_or_pair` meets its contract. Assumes nothing.
-use borrow.Author.Needs.{needs}
 use borrow.Author.Tests.{eq-eqb, ne-eqb}
 use Rattle.sdc1d_params.proofs.cells.ref_or_pair.Statement.{statement}
 use Rattle.sdc1d_params.proofs.cells.ref_or_pair.Tie as tie

@@ -1,16 +1,14 @@
 -- `sdc1d_params::to_cells` meets its contract: the cells passed stand in place of the numbers. Assumes nothing.
 use borrow.Author.Needs.{needs}
-use mathlib.Core.Path.{_≡_, refl, sym, ap, ap₂, _∙_}
-use mathlib.Core.Bool.{true, false}
-use Prim.Native.Nat.{ℕ, _+_, _-_, _≤_, _<_}
+use mathlib.Core.Path.{_≡_, ap, ap₂, _∙_}
+use Prim.Native.Nat.{ℕ, _-_, _≤_}
 use native.Mathlib.Omega.{arith}
 use lib.ListN.{length, getD}
 use denote.Ref.{now}
-use Rattle.lists.specs.Find.{any}
 use Rattle.lists.specs.Build.{tabulate}
 use Rattle.lists.proofs.Counted.{stored, stored-none, stored-length, stored-more, stored-next, stored-whole}
-use Rattle.sdc1d_params.specs.Entries.{Cell, cell}
-use Rattle.sdc1d_params.specs.Cells.{refOrPair, cellOfNames, placeCell, cellFrom, rowFrom, columnFrom, InTables}
+use Rattle.sdc1d_params.specs.Entries.{Cell}
+use Rattle.sdc1d_params.specs.Cells.{refOrPair, cellOfNames, placeCell, cellFrom, rowFrom, columnFrom}
 use Rattle.sdc1d_params.proofs.Small.{column-small}
 use Rattle.sdc1d_params.proofs.cells.to_cells.Statement.{statement}
 use Rattle.sdc1d_params.proofs.cells.to_cells.Tie as tie

@@ -1,7 +1,7 @@
 -- `sdc1d_params::check` meets its contract: each return is the first check that holds, and the last leaves what is written. Assumes nothing.
 use borrow.Author.Needs.{needs}
 use mathlib.Core.Path.{_≡_, ap, sym, _∙_}
-use mathlib.Core.Bool.{true, false}
+use mathlib.Core.Bool.{false}
 use denote.Ref.{now}
 use Rattle.lists.specs.Find.{any}
 use Rattle.reply.specs.declared.Refusal.the-variants.{WrongSize, NotABase, TooShort, UnknownName, TooManyGlues, DuplicatePair, OutOfRange}
@@ -14,7 +14,7 @@ use Rattle.sdc1d_params.specs.Tables.{cellsOf, duplicated, outOfRange}
 use Rattle.sdc1d_params.specs.Params.{Params, Outcome, paramsOf, lentOf, entryCount, strandNames, bases, writesOf, wrongSize}
 use Rattle.sdc1d_params.proofs.Lengths.{Sized, sized, size-unpriced}
 use Rattle.sdc1d_params.proofs.Found.{numbers-length, unknown-found}
-use Rattle.sdc1d_params.proofs.Passed.{never, reply-size, reply-base, reply-short, reply-unknown, reply-glues, reply-twice, reply-range, reply-none, fit-entries, first-fit, as-many-fit, few-bases, many-bases, numbers-inside, rows-many, columns-many, twice-found, writes-found, checked}
+use Rattle.sdc1d_params.proofs.Passed.{never, reply-size, reply-base, reply-short, reply-unknown, reply-glues, reply-twice, reply-range, reply-none, fit-entries, first-fit, as-many-fit, few-bases, many-bases, numbers-inside, rows-many, columns-many, twice-found, writes-found, cells-within, checked}
 use Rattle.sdc1d_params.proofs.checks.check.Statement.{statement}
 use Rattle.sdc1d_params.proofs.checks.check.Tie as tie
 
@@ -147,7 +147,8 @@ any-repeated-requires c κs =
     let lent : Outcome = lentOf (now (a .strand-glues)) (now (a .scaffold-glues)) (now (a .dg)) (now (a .ds)) in
     let size : wrongSize p lent ≡ false = size-unpriced p lent ∙ sym (c .before .before .before .before .before .before .before .before .before .before .before .before .before .before .before .before .before .before .before .before .before .before .before .before .before .before .before .before .before .before .wrong-size .ensures) ∙ c .before .before .before .before .before .before .before .before .before .before .before .before .before .before .before .before .before .before .before .before .before .before .before .before .before .before .before .before .before .if1 .left in
     let fit : Sized p lent = sized p lent size in
-    rows-many p lent fit (now (a .first-marks)) _ _ (c .before .before .before .before .before .before .before .before .before .before .before .before .before .before .before .before .before .before .before .before .before .before .before .before .before .before .before .before .before .before .before .before .before .before .before .before .before .before .before .before .before .before .before .before .before .before .before .before .before .before .before .before .before .before .before .before .pre .0 .0) (c .before .before .before .before .before .before .before .before .before .before .before .before .before .before .before .before .number-names2 .ensures .1) (c .before .before .before .before .before .before .before .before .before .before .before .before .number-names3 .ensures .1) _ _ (c .before .before .before .before .before .before .to-cells .ensures .0) (c .before .before .before .before .before .before .to-cells .ensures .1) ∙ sym (columns-many p lent fit (now (a .first-marks)) _ _ (c .before .before .before .before .before .before .before .before .before .before .before .before .before .before .before .before .before .before .before .before .before .before .before .before .before .before .before .before .before .before .before .before .before .before .before .before .before .before .before .before .before .before .before .before .before .before .before .before .before .before .before .before .before .before .before .before .pre .0 .0) (c .before .before .before .before .before .before .before .before .before .before .before .before .before .before .before .before .number-names2 .ensures .1) (c .before .before .before .before .before .before .before .before .before .before .before .before .number-names3 .ensures .1) _ _ (c .before .before .before .before .before .before .to-cells .ensures .0) (c .before .before .before .before .before .before .to-cells .ensures .1))
+    let few : tooManyBases (strandNames p) ≡ false = few-bases p (c .before .before .before .before .before .before .before .before .before .before .before .before .number-names3 .result) (c .before .before .before .before .before .before .before .before .before .before .before .before .number-names3 .ensures .0) (c .before .before .before .before .before .before .before .before .before .if5 .left) in
+    cells-within p lent fit (now (a .first-marks)) _ _ (c .before .before .before .before .before .before .before .before .before .before .before .before .before .before .before .before .before .before .before .before .before .before .before .before .before .before .before .before .before .before .before .before .before .before .before .before .before .before .before .before .before .before .before .before .before .before .before .before .before .before .before .before .before .before .before .before .pre .0 .0) (c .before .before .before .before .before .before .before .before .before .before .before .before .before .before .before .before .number-names2 .ensures .1) (c .before .before .before .before .before .before .before .before .before .before .before .before .number-names3 .ensures .1) _ _ (c .before .before .before .before .before .before .to-cells .ensures .0) (c .before .before .before .before .before .before .to-cells .ensures .1) few
 
 same-length-5 : tie.Need-same-length-5
 same-length-5 c = search needs

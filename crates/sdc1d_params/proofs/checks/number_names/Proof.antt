@@ -1,6 +1,6 @@
 -- `sdc1d_params::number_names` meets its contract: with the sizes checked, the names are numbered. Assumes nothing.
 use borrow.Author.Needs.{needs}
-use mathlib.Core.Path.{_≡_, ap, sym, _∙_}
+use mathlib.Core.Path.{ap, sym, _∙_}
 use denote.Ref.{now}
 use Rattle.sdc_common.specs.Lent.{Names, namesOf}
 use Rattle.sdc_common.specs.Calls.{NumbersFigures, numbersFigures}

@@ -1,15 +1,15 @@
 -- `sdc1d_params::any_short` meets its contract: no sequence that was passed over is short. Assumes nothing.
 use borrow.Author.Needs.{needs}
 use mathlib.Core.Path.{_≡_, refl, sym, ap, _∙_}
-use mathlib.Core.Bool.{Bool, true, false, _||_}
+use mathlib.Core.Bool.{true, false}
 use Prim.Native.Nat.{ℕ, _-_, _≤_}
 use native.Mathlib.Omega.{arith}
-use lib.ListN.{length, getD}
+use lib.ListN.{length}
 use denote.Ref.{now}
 use Rattle.lists.specs.Find.{any}
-use Rattle.lists.specs.Build.{tabulate, upTo}
+use Rattle.lists.specs.Build.{tabulate}
 use Rattle.lists.proofs.Counted.{any-more, any-found}
-use Rattle.sdc1d_params.specs.Entries.{badForm, unfitEntry, hasBadBase, isShort, energiesOf, entryAt, entriesOf, unfitAt}
+use Rattle.sdc1d_params.specs.Entries.{unfitEntry, isShort, energiesOf, entryAt, entriesOf}
 use Rattle.sdc1d_params.proofs.entries.any_short.Statement.{statement}
 use Rattle.sdc1d_params.proofs.entries.any_short.Tie as tie
 

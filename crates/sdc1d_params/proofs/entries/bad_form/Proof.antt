@@ -1,5 +1,4 @@
 -- `sdc1d_params::bad_form` meets its contract. Assumes nothing.
-use borrow.Author.Needs.{needs}
 use borrow.Author.Tests.{eq-eqb, ne-eqb}
 use Rattle.sdc1d_params.proofs.entries.bad_form.Statement.{statement}
 use Rattle.sdc1d_params.proofs.entries.bad_form.Tie as tie

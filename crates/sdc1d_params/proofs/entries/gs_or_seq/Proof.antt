@@ -1,6 +1,5 @@
 -- `sdc1d_params::gs_or_seq` meets its contract. Assumes nothing.
 use borrow.Author.Needs.{needs}
-use native.Mathlib.Omega.{arith}
 use borrow.Author.Tests.{eq-eqb, ne-eqb}
 use Rattle.sdc1d_params.specs.Entries.{entryAt}
 use Rattle.sdc1d_params.proofs.entries.gs_or_seq.Statement.{statement}

@@ -1,23 +1,16 @@
 -- `sdc1d_params::gsorseq_to_gs` meets its contract: the part of the text is handed to the sequence call. Assumes nothing.
 use borrow.Author.Needs.{needs}
-use mathlib.Core.Path.{_≡_, refl, sym, ap, ap₂, _∙_}
-use lib.Dec.{eqb}
-use mathlib.Core.Bool.{Bool, true, false}
-use mathlib.Core.List.{List}
-use Prim.Native.Nat.{ℕ, _+_, _≤_, _<_}
+use mathlib.Core.Path.{_≡_, sym, ap, _∙_}
+use mathlib.Core.Bool.{false}
 use native.Mathlib.Omega.{arith}
 use lib.Ieee.{ofBits}
-use lib.ListN.{length}
 use denote.Ref.{now}
-use borrow.Author.Tests.{lt-ltb, le-ltb, eq-eqb}
 use Rattle.utils.specs.Answers.{DgDsFigures, dgDsFigures}
 use Rattle.utils.specs.Single.{stringDnaDgDs}
-use Rattle.sdc_common.specs.Lent.{partOf}
 use Rattle.sdc_common.proofs.Held.{part-is}
-use Rattle.sdc1d_params.specs.Entries.{unfitEntry, hasBadBase, isShort, entryDg, entryDs}
-use Rattle.sdc1d_params.specs.declared.entries.GsOrSeq.{GsOrSeq}
+use Rattle.sdc1d_params.specs.Entries.{unfitEntry, entryDg, entryDs}
 use Rattle.sdc1d_params.specs.declared.entries.GsOrSeq.the-variants.{Sequence}
-use Rattle.sdc1d_params.proofs.Sequences.{sequence-fits, not-long, short-as-lent, long-as-lent, given-good, refused-bad}
+use Rattle.sdc1d_params.proofs.Sequences.{sequence-fits}
 use Rattle.sdc1d_params.proofs.entries.gsorseq_to_gs.Statement.{statement}
 use Rattle.sdc1d_params.proofs.entries.gsorseq_to_gs.Tie as tie
 

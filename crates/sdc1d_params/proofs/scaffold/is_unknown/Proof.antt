@@ -1,7 +1,7 @@
 -- `sdc1d_params::is_unknown` meets its contract: the stars are counted from the base. Assumes nothing.
 use borrow.Author.Needs.{needs}
 use mathlib.Core.Path.{_≡_, ap, sym, _∙_}
-use mathlib.Core.Bool.{Bool, false}
+use mathlib.Core.Bool.{false}
 use native.Mathlib.Omega.{arith}
 use denote.Ref.{now}
 use Rattle.sdc_common.specs.Lent.{unfitName}

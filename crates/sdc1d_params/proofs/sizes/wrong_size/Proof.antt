@@ -1,6 +1,6 @@
 -- `sdc1d_params::wrong_size` meets its contract: each test is one of the definition. Assumes nothing.
 use borrow.Author.Needs.{needs}
-use mathlib.Core.Path.{_≡_, sym, _∙_}
+use mathlib.Core.Path.{sym, _∙_}
 use denote.Ref.{now}
 use Rattle.doubles.specs.Decimal.{zero}
 use Rattle.sdc_common.proofs.Fit.{few-strands}

@@ -1,7 +1,6 @@
 -- `sdc1d_params::quencher_sides` meets its contract: strand k has its glues from 3 k on. Assumes nothing.
 use borrow.Author.Needs.{needs}
-use mathlib.Core.Path.{_≡_, refl, ap, ap₂, sym, _∙_}
-use mathlib.Core.List.{[], _∷_}
+use mathlib.Core.Path.{refl, ap, sym, _∙_}
 use Prim.Native.Nat.{_*_}
 use native.Mathlib.Omega.{arith}
 use lib.ListN.{drop}

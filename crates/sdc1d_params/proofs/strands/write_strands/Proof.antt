@@ -1,9 +1,8 @@
 -- `sdc1d_params::write_strands` meets its contract: the four parts follow each other. Assumes nothing.
 use borrow.Author.Needs.{needs}
-use mathlib.Core.Path.{_≡_, refl, ap, sym, _∙_}
+use mathlib.Core.Path.{_∙_}
 use native.Mathlib.Omega.{arith}
 use denote.Ref.{now}
-use lib.ListN.{length}
 use Rattle.sdc_common.specs.Lent.{Names, namesOf, gluesOf}
 use Rattle.sdc_common.specs.Numbers.{numbersAmong}
 use Rattle.sdc_common.proofs.Fit.{few-strands}

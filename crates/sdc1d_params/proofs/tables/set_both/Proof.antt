@@ -1,23 +1,12 @@
 -- `sdc1d_params::set_both` meets its contract. Assumes nothing.
 use borrow.Author.Needs.{needs}
-use mathlib.Core.Path.{_≡_, refl, sym, ap, ap₂, _∙_}
-use mathlib.Core.Bool.{Bool, true, false, not, _||_}
-use mathlib.Core.List.{List}
-use Prim.Native.Nat.{ℕ, _+_, _-_, _*_, _≤_, _<_}
+use mathlib.Core.Path.{_≡_, sym, _∙_}
+use mathlib.Core.Bool.{true, false}
+use Prim.Native.Nat.{_-_}
 use native.Mathlib.Omega.{arith}
-use lib.Ieee.{Float, binary64, add, ofBits, neg}
-use lib.ListN.{length, getD, set, length-set, replicate}
-use denote.Ref.{now}
-use Rattle.doubles.specs.Decimal.{nearest, zero}
-use Rattle.doubles.specs.Range.{inRange}
-use Rattle.lists.specs.Find.{any}
-use Rattle.lists.specs.Fold.{foldl}
-use Rattle.lists.specs.Build.{tabulate}
-use Rattle.lists.proofs.Counted.{any-more, any-found, fold-more, stored, stored-none, stored-length, stored-more, stored-whole}
-use borrow.Author.Tests.{not-true, not-false}
-use Rattle.sdc1d_params.specs.Entries.{Cell, cell, isWritten, energiesOf, entryAt, entryDg, entryDs, unfitEntry}
-use Rattle.sdc1d_params.specs.Tables.{Write, writeOf, dgInRange, dsInRange, outOfRange, setBoth, writeDg, writeDs}
-use Rattle.sdc1d_params.specs.Cells.{writeAt, InTables}
+use lib.ListN.{length-set}
+use Rattle.sdc1d_params.specs.Entries.{cell, isWritten}
+use Rattle.sdc1d_params.specs.Tables.{setBoth}
 use Rattle.sdc1d_params.proofs.tables.set_both.Statement.{statement}
 use Rattle.sdc1d_params.proofs.tables.set_both.Tie as tie
 

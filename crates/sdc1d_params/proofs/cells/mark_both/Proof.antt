@@ -1,0 +1,61 @@
+-- `sdc1d_params::mark_both` meets its contract. Assumes nothing.
+use borrow.Author.Needs.{needs}
+use mathlib.Core.Path.{_≡_, sym, _∙_}
+use mathlib.Core.Bool.{true, false}
+use native.Mathlib.Omega.{arith}
+use lib.ListN.{length-set}
+use Rattle.sdc1d_params.specs.Entries.{cell, isWritten}
+use Rattle.sdc1d_params.specs.Cells.{markBoth}
+use Rattle.sdc1d_params.proofs.cells.mark_both.Statement.{statement}
+use Rattle.sdc1d_params.proofs.cells.mark_both.Tie as tie
+
+is-written-requires : tie.Need-is-written-requires
+is-written-requires c κs = search needs
+
+mul-at : tie.Need-mul-at
+mul-at c = search needs
+
+add-at : tie.Need-add-at
+add-at c = search needs
+
+mul-mirror : tie.Need-mul-mirror
+mul-mirror c = search needs
+
+add-mirror : tie.Need-add-mirror
+add-mirror c = search needs
+
+slice-write-seen : tie.Need-slice-write-seen
+slice-write-seen c = search needs
+
+slice-write-seen-2 : tie.Need-slice-write-seen-2
+slice-write-seen-2 c = simp length-set (omega arith)
+
+same-length : tie.Need-same-length
+same-length c = search needs
+
+returns : tie.Need-returns
+unfolding markBoth
+returns c =
+    let written : isWritten (cell (c .before .before .before .args .row) (c .before .before .before .args .column)) ≡ true = sym (c .before .is-written .ensures) ∙ c .if1 .taken in
+    rw written
+
+returns-2 : tie.Need-returns-2
+unfolding markBoth
+returns-2 c =
+    let unwritten : isWritten (cell (c .before .before .before .args .row) (c .before .before .before .args .column)) ≡ false = sym (c .before .is-written .ensures) ∙ c .if1 .left in
+    rw unwritten
+
+pub mark-both-spec : {M : Type 1} → statement M
+mark-both-spec =
+    tie.close
+    (tie.spec
+    is-written-requires
+    mul-at
+    add-at
+    mul-mirror
+    add-mirror
+    slice-write-seen
+    slice-write-seen-2
+    same-length
+    returns
+    returns-2)
