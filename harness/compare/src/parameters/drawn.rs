@@ -175,38 +175,13 @@ pub fn damage(random: &mut Random, set: &mut Parameters) {
             let length = random.below(2);
             set.entries[entry].1 = Energy::Sequence(strand(random, length));
         }
-        (2, _) => {
-            let stars = random.within(0..=5);
-            let mut bases = set.known();
-            bases.push(b"unused".to_vec());
-            let mut name = bases[random.below(bases.len())].clone();
-            name.extend(vec![b'*'; stars]);
-            set.scaffold.push(Some(name));
-            set.scaffold.truncate(128);
-        }
-        (3, _) => {
-            let from = set.strands.len().saturating_sub(11);
-            for (index, sides) in set.strands[from..].iter_mut().enumerate() {
-                *sides = [0, 1, 2].map(|side| Some(format!("m{}", 3 * index + side).into_bytes()));
-            }
-        }
-        (4 | 5, Some(entry)) => {
+        (2, _) => name_the_scaffold(random, set),
+        (3, _) => use_many_bases(set),
+        (4 | 5, Some(entry)) if set.entries.len() < 1024 => {
             let key = respelled(random, &set.entries[entry].0);
-            if set.entries.len() < 1024 {
-                set.entries.push((key, energy(random)));
-            }
+            set.entries.push((key, energy(random)));
         }
-        (6 | 7, Some(entry)) => {
-            let odd = [not_finite(), extreme(), edges(set.penalty.0, 1024.0)].concat();
-            let dg = random.pick(&odd);
-            let odd = [not_finite(), extreme(), edges(set.penalty.1, 8.0)].concat();
-            let ds = random.pick(&odd);
-            set.entries[entry].1 = match random.below(3) {
-                0 => Energy::Given(dg, 0.0),
-                1 => Energy::Given(0.0, ds),
-                _ => Energy::Given(dg, ds),
-            };
-        }
+        (6 | 7, Some(entry)) => set.entries[entry].1 = odd_energy(random, set.penalty),
         _ => {
             let odd = [
                 not_finite(),
@@ -218,6 +193,38 @@ pub fn damage(random: &mut Random, set: &mut Parameters) {
                 false => set.penalty.1 = random.pick(&odd),
             }
         }
+    }
+}
+
+/// One more position, with a name that need not be known as it is spelled.
+fn name_the_scaffold(random: &mut Random, set: &mut Parameters) {
+    let mut bases = set.known();
+    bases.push(b"unused".to_vec());
+    let mut name = bases[random.below(bases.len())].clone();
+    name.extend(vec![b'*'; random.within(0..=5)]);
+    set.scaffold.push(Some(name));
+    set.scaffold.truncate(128);
+}
+
+/// The last eleven strands get glues of their own: 33 bases, where there are as many strands.
+fn use_many_bases(set: &mut Parameters) {
+    let from = set.strands.len().saturating_sub(11);
+    for (index, sides) in set.strands[from..].iter_mut().enumerate() {
+        *sides = [0, 1, 2].map(|side| Some(format!("m{}", 3 * index + side).into_bytes()));
+    }
+}
+
+/// Numbers that are odd by themselves, or whose sums with the penalties are about the ends.
+fn odd_energy(random: &mut Random, penalty: (f64, f64)) -> Energy {
+    let mut odd = |penalty: f64, end: f64| {
+        let numbers = [not_finite(), extreme(), edges(penalty, end)].concat();
+        random.pick(&numbers)
+    };
+    let (dg, ds) = (odd(penalty.0, 1024.0), odd(penalty.1, 8.0));
+    match random.below(3) {
+        0 => Energy::Given(dg, 0.0),
+        1 => Energy::Given(0.0, ds),
+        _ => Energy::Given(dg, ds),
     }
 }
 
