@@ -11,6 +11,7 @@ mod place;
 mod print;
 mod reads;
 mod reasons;
+mod search;
 mod settle;
 mod words;
 
