@@ -30,7 +30,12 @@ fn refused(reply: u32, at: usize) -> Option<Expected> {
 pub const KINDS: usize = 27;
 
 /// Plants a fault of a kind; none where the design has no place for it.
-pub fn plant(random: &mut Random, design: &Design, all: &mut Vec<Statement>, kind: usize) -> Option<Expected> {
+pub fn plant(
+    random: &mut Random,
+    design: &Design,
+    all: &mut Vec<Statement>,
+    kind: usize,
+) -> Option<Expected> {
     match kind {
         0 => bad_number(random, all),
         1 => word_missing(random, all),
@@ -51,9 +56,21 @@ pub fn plant(random: &mut Random, design: &Design, all: &mut Vec<Statement>, kin
         16 => long_name(random, all),
         17 => add(all, &["energy", "none", "seq", &"acgt".repeat(65)], 1),
         18 => bad_sequence(random, all),
-        19 => add(all, &["pair", "none", "none*", "seq", random.pick(&["a", "T"])], 3),
+        19 => add(
+            all,
+            &["pair", "none", "none*", "seq", random.pick(&["a", "T"])],
+            3,
+        ),
         20 if design.scaffold.len() > 126 => None,
-        20 => add(all, &["scaffold", "-", random.pick(&["nowhere", "nowhere*", "x**"])], 6),
+        20 => add(
+            all,
+            &[
+                "scaffold",
+                "-",
+                random.pick(&["nowhere", "nowhere*", "x**"]),
+            ],
+            6,
+        ),
         21 => bases_32(design, all),
         22 => pair_twice(random, design, all),
         23 => energy_range(random, design, all),
@@ -106,9 +123,31 @@ fn bad_number(random: &mut Random, all: &mut [Statement]) -> Option<Expected> {
     let at = one(random, all, |words| !number_places(words).is_empty())?;
     let place = random.pick(&number_places(&all[at]));
     let bad = [
-        "1,5", "x", "-", "--1", "1.2.3", "1e", "1e+", ".", "+", "e5", "nan", "inf", "NaN", "0x3ff", "0x3ff000000000000g",
-        "0x3ff00000000000000", "123456789012345678", "0.123456789012345678", "1e1000", "1e-401", "1_000", "1e5.5", "\u{221e}",
-        "0X3ff0000000000000", "1\u{0}",
+        "1,5",
+        "x",
+        "-",
+        "--1",
+        "1.2.3",
+        "1e",
+        "1e+",
+        ".",
+        "+",
+        "e5",
+        "nan",
+        "inf",
+        "NaN",
+        "0x3ff",
+        "0x3ff000000000000g",
+        "0x3ff00000000000000",
+        "123456789012345678",
+        "0.123456789012345678",
+        "1e1000",
+        "1e-401",
+        "1_000",
+        "1e5.5",
+        "\u{221e}",
+        "0X3ff0000000000000",
+        "1\u{0}",
     ];
     all[at][place] = random.pick(&bad).as_bytes().to_vec();
     unreadable(at)
@@ -132,7 +171,18 @@ fn word_too_many(random: &mut Random, all: &mut [Statement]) -> Option<Expected>
 
 fn no_statement(random: &mut Random, all: &mut Vec<Statement>) -> Option<Expected> {
     let wrong = [
-        "Strand", "STRAND", "strands", "stran", "glue", "-", "1", "\u{0}", "\u{e9}", "kelvin:", "\"strand\"", "energy,",
+        "Strand",
+        "STRAND",
+        "strands",
+        "stran",
+        "glue",
+        "-",
+        "1",
+        "\u{0}",
+        "\u{e9}",
+        "kelvin:",
+        "\"strand\"",
+        "energy,",
     ];
     let word = random.pick(&wrong).as_bytes().to_vec();
     if random.once_in(2) {
@@ -149,13 +199,22 @@ fn dash_for_a_name(random: &mut Random, all: &mut [Statement]) -> Option<Expecte
     let at = one(random, all, |words| {
         [b"strand".as_slice(), b"energy", b"pair"].contains(&words[0].as_slice())
     })?;
-    let place = if is(&all[at], b"pair") { random.within(1..=2) } else { 1 };
+    let place = if is(&all[at], b"pair") {
+        random.within(1..=2)
+    } else {
+        1
+    };
     all[at][place] = b"-".to_vec();
     unreadable(at)
 }
 
 /// A word in the middle of an entry, in place of another.
-fn wrong_letters(random: &mut Random, all: &mut [Statement], right: &[u8], wrong: &[&str]) -> Option<Expected> {
+fn wrong_letters(
+    random: &mut Random,
+    all: &mut [Statement],
+    right: &[u8],
+    wrong: &[&str],
+) -> Option<Expected> {
     let place = |words: &Statement| {
         let numbers = number_places(words);
         let entry = is(words, b"energy") || is(words, b"pair");
@@ -176,7 +235,12 @@ fn given_twice(random: &mut Random, all: &mut Vec<Statement>, lines: &[&str]) ->
     unreadable(all.len() - 1)
 }
 
-fn twice_if_there(random: &mut Random, all: &mut Vec<Statement>, keyword: &[u8], line: &str) -> Option<Expected> {
+fn twice_if_there(
+    random: &mut Random,
+    all: &mut Vec<Statement>,
+    keyword: &[u8],
+    line: &str,
+) -> Option<Expected> {
     one(random, all, |words| is(words, keyword))?;
     given_twice(random, all, &[line])
 }
@@ -238,7 +302,12 @@ fn bad_sequence(random: &mut Random, all: &mut Vec<Statement>) -> Option<Expecte
     let bases = random.pick(&["acgu", "n", "ACGT-", "ac\u{0}gt", "\u{e9}\u{e9}", "acgtX"]);
     let count = random.within(1..=2);
     let names = ["none", "none"];
-    let words = [&[["energy", "pair"][count - 1]], &names[..count], &["seq", bases]].concat();
+    let words = [
+        &[["energy", "pair"][count - 1]],
+        &names[..count],
+        &["seq", bases],
+    ]
+    .concat();
     add(all, &words, 2)
 }
 
@@ -250,7 +319,9 @@ fn bases_32(design: &Design, all: &mut Vec<Statement>) -> Option<Expected> {
         if strands == 61 {
             return None;
         }
-        all.push(split(&format!("strand more{strands} new{count} new{count}* - -16")));
+        all.push(split(&format!(
+            "strand more{strands} new{count} new{count}* - -16"
+        )));
         count += 1;
         strands += 1;
     }
@@ -267,7 +338,11 @@ fn is_known(design: &Design, entry: &Entry) -> bool {
 }
 
 fn pair_twice(random: &mut Random, design: &Design, all: &mut Vec<Statement>) -> Option<Expected> {
-    let known: Vec<&Entry> = design.entries.iter().filter(|entry| is_known(design, entry)).collect();
+    let known: Vec<&Entry> = design
+        .entries
+        .iter()
+        .filter(|entry| is_known(design, entry))
+        .collect();
     if known.is_empty() {
         return None;
     }
@@ -285,10 +360,20 @@ fn pair_twice(random: &mut Random, design: &Design, all: &mut Vec<Statement>) ->
     refused(8, all.len() - 1)
 }
 
-fn energy_range(random: &mut Random, design: &Design, all: &mut Vec<Statement>) -> Option<Expected> {
+fn energy_range(
+    random: &mut Random,
+    design: &Design,
+    all: &mut Vec<Statement>,
+) -> Option<Expected> {
     let known = design.known();
-    let taken: Vec<_> = design.entries.iter().map(|entry| pair(&entry.names)).collect();
-    let free = known.iter().find(|base| !taken.contains(&pair(&[base.to_vec()])))?;
+    let taken: Vec<_> = design
+        .entries
+        .iter()
+        .map(|entry| pair(&entry.names))
+        .collect();
+    let free = known
+        .iter()
+        .find(|base| !taken.contains(&pair(&[base.to_vec()])))?;
     let (dg, ds) = random.pick(&[
         ("1030", "0"),
         ("-1030", "0"),
@@ -305,7 +390,9 @@ fn energy_range(random: &mut Random, design: &Design, all: &mut Vec<Statement>) 
 }
 
 fn ambient_range(random: &mut Random, all: &mut [Statement]) -> Option<Expected> {
-    let at = one(random, all, |words| is(words, b"kelvin") || is(words, b"ambient"))?;
+    let at = one(random, all, |words| {
+        is(words, b"kelvin") || is(words, b"ambient")
+    })?;
     all[at] = split(random.pick(&[
         "kelvin 199.99999999999997",
         "kelvin 500.1",
@@ -321,12 +408,23 @@ fn ambient_range(random: &mut Random, all: &mut [Statement]) -> Option<Expected>
 }
 
 /// A strand that has a friend's place, and a potential out of range.
-fn potential_range(random: &mut Random, design: &Design, all: &mut Vec<Statement>) -> Option<Expected> {
+fn potential_range(
+    random: &mut Random,
+    design: &Design,
+    all: &mut Vec<Statement>,
+) -> Option<Expected> {
     if design.strands.len() == 61 || design.scaffold.len() == 128 || design.known().len() > 30 {
         return None;
     }
-    let potential = random.pick(&["1024.1", "-2000", "0x7ff0000000000000", "0x7ff8000000000000"]);
-    all.push(statement(&["strand", "rich", "-", "unlike*", "-", potential]));
+    let potential = random.pick(&[
+        "1024.1",
+        "-2000",
+        "0x7ff0000000000000",
+        "0x7ff8000000000000",
+    ]);
+    all.push(statement(&[
+        "strand", "rich", "-", "unlike*", "-", potential,
+    ]));
     let at = all.len() - 1;
     all.push(split("energy unlike dg -20 ds 0"));
     all.push(split("scaffold unlike"));

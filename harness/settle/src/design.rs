@@ -114,7 +114,12 @@ impl Design {
     /// The bases of all strand glues.
     pub fn known(&self) -> Vec<Name> {
         let mut bases: Vec<Name> = vec![];
-        for name in self.strands.iter().flat_map(|strand| &strand.sides).flatten() {
+        for name in self
+            .strands
+            .iter()
+            .flat_map(|strand| &strand.sides)
+            .flatten()
+        {
             if !bases.contains(&base(name)) {
                 bases.push(base(name));
             }
@@ -138,7 +143,10 @@ impl Design {
         for strand in &self.strands {
             let sides = joined(strand.sides.iter().map(|name| word(name.as_deref())), " ");
             let name = word(Some(&strand.name));
-            lines.push(format!("p.strand {name} {sides} {}", bits(strand.potential)));
+            lines.push(format!(
+                "p.strand {name} {sides} {}",
+                bits(strand.potential)
+            ));
         }
         for (what, copied) in [("quencher", &self.quencher), ("reporter", &self.reporter)] {
             if let Some((Some(strand), potential)) = copied {
@@ -151,7 +159,11 @@ impl Design {
             lines.push(format!("p.scaffold {}", joined(names, " ")));
         }
         for entry in &self.entries {
-            let kind = if entry.names.len() == 1 { "ref" } else { "pair" };
+            let kind = if entry.names.len() == 1 {
+                "ref"
+            } else {
+                "pair"
+            };
             let names = joined(entry.names.iter().map(|name| word(Some(name))), " ");
             let energy = match &entry.energy {
                 Energy::Given(dg, ds) => format!("gs {} {}", bits(*dg), bits(*ds)),
@@ -194,7 +206,11 @@ impl Design {
             positions = rest;
         }
         for entry in &self.entries {
-            let keyword: &[u8] = if entry.names.len() == 1 { b"energy" } else { b"pair" };
+            let keyword: &[u8] = if entry.names.len() == 1 {
+                b"energy"
+            } else {
+                b"pair"
+            };
             let mut words = vec![keyword.to_vec()];
             words.extend(entry.names.iter().cloned());
             match &entry.energy {
@@ -271,7 +287,11 @@ fn bases(random: &mut Random, count: usize) -> Vec<Name> {
 
 fn starred(random: &mut Random, bases: &[Name]) -> Name {
     let mut name = bases[random.below(bases.len())].clone();
-    let stars = if random.once_in(6) { random.below(5) } else { random.below(2) };
+    let stars = if random.once_in(6) {
+        random.below(5)
+    } else {
+        random.below(2)
+    };
     name.extend(vec![b'*'; stars]);
     name
 }

@@ -97,8 +97,14 @@ fn run(arguments: &Arguments) -> Result<usize, String> {
     }
     damaged(arguments, &mut tally)?;
     let (seconds, damaged) = (started.elapsed().as_secs_f64(), arguments.damaged);
-    println!("{seconds:.1} s; settled {}, refused {}, unreadable {}", tally.settled, tally.refused, tally.unreadable);
-    println!("files: {designs} designs as the oracle has them, {damaged} damaged; differ {}", tally.differ);
+    println!(
+        "{seconds:.1} s; settled {}, refused {}, unreadable {}",
+        tally.settled, tally.refused, tally.unreadable
+    );
+    println!(
+        "files: {designs} designs as the oracle has them, {damaged} damaged; differ {}",
+        tally.differ
+    );
     Ok(tally.differ)
 }
 
@@ -122,7 +128,10 @@ impl Tally {
         if let Some(complaint) = complaint {
             self.differ += 1;
             if self.differ <= SHOWN {
-                println!("{complaint}\n{answer:?}\n{}\n", String::from_utf8_lossy(text));
+                println!(
+                    "{complaint}\n{answer:?}\n{}\n",
+                    String::from_utf8_lossy(text)
+                );
             }
         }
     }
@@ -132,8 +141,11 @@ impl Tally {
 
 /// Sizes, ends of lines, single bytes, what is no file.
 fn fixed(settle: &Settle, tally: &mut Tally) -> Result<(), String> {
-    let whole = b"kelvin 310.15\nstrand a - s* - -16\nscaffold s -\nenergy s dg -20 ds 0\n".to_vec();
-    let with_returns = String::from_utf8_lossy(&whole).replace('\n', "\r\n").into_bytes();
+    let whole =
+        b"kelvin 310.15\nstrand a - s* - -16\nscaffold s -\nenergy s dg -20 ds 0\n".to_vec();
+    let with_returns = String::from_utf8_lossy(&whole)
+        .replace('\n', "\r\n")
+        .into_bytes();
     let mut padded = whole.clone();
     padded.resize((1 << 20) - 1, b'#');
     padded.push(b'\n');
@@ -164,8 +176,10 @@ fn fixed(settle: &Settle, tally: &mut Tally) -> Result<(), String> {
     let texts: Vec<&[u8]> = asked.iter().map(|(text, ..)| text.as_slice()).collect();
     let answers = settle.ask(&texts)?;
     for (answer, (text, reply, line)) in answers.iter().zip(&asked) {
-        let complaint = (answer.reply != *reply || answer.line != *line)
-            .then(|| format!("expected {reply:?} at line {line:?}"));
+        let complaint = match answer.reply != *reply || answer.line != *line {
+            true => Some(format!("expected {reply:?} at line {line:?}")),
+            false => misplaced(answer, text),
+        };
         tally.count(answer, complaint, &text[..text.len().min(200)]);
     }
     std::fs::create_dir(settle.path("folder")).map_err(|error| error.to_string())?;
@@ -180,7 +194,11 @@ fn fixed(settle: &Settle, tally: &mut Tally) -> Result<(), String> {
 // ---- designs
 
 /// Each design is built and settled by the oracle, and written to a file with the oracle's own ambient.
-fn settled_as_the_oracle(arguments: &Arguments, oracle: &mut Program, tally: &mut Tally) -> Result<(), String> {
+fn settled_as_the_oracle(
+    arguments: &Arguments,
+    oracle: &mut Program,
+    tally: &mut Tally,
+) -> Result<(), String> {
     let mut random = Random::stream(arguments.seed, "designs", 0);
     let mut left = arguments.designs;
     while left > 0 {
@@ -211,8 +229,15 @@ struct Lowest {
 }
 
 /// The ambient as a statement, and what the Rust settles; none where the Rust takes no such design.
-fn lowest(oracle: &mut Program, design: &Design, random: &mut Random) -> Result<Option<(Statement, Lowest)>, String> {
-    oracle.send(format!("{}\np.build\nhere\nmfe\nnstates\n", design.oracle_lines()));
+fn lowest(
+    oracle: &mut Program,
+    design: &Design,
+    random: &mut Random,
+) -> Result<Option<(Statement, Lowest)>, String> {
+    oracle.send(format!(
+        "{}\np.build\nhere\nmfe\nnstates\n",
+        design.oracle_lines()
+    ));
     let built = oracle.answer()?;
     let here = oracle.answer()?;
     let settled = oracle.answer()?;
@@ -221,7 +246,9 @@ fn lowest(oracle: &mut Program, design: &Design, random: &mut Random) -> Result<
         return Ok(None);
     }
     let words = |line: &str| -> Result<Vec<String>, String> {
-        let words = line.strip_prefix("ok ").ok_or(format!("the oracle says {line}"))?;
+        let words = line
+            .strip_prefix("ok ")
+            .ok_or(format!("the oracle says {line}"))?;
         Ok(words.split(' ').map(String::from).collect())
     };
     let ambient = words(&here)?;
@@ -233,7 +260,10 @@ fn lowest(oracle: &mut Program, design: &Design, random: &mut Random) -> Result<
     let settled = words(&settled)?;
     let configuration = match settled[1].as_str() {
         "-" => vec![],
-        list => list.split(',').map(|word| word.parse().map_err(|_| list.to_string())).collect::<Result<_, _>>()?,
+        list => list
+            .split(',')
+            .map(|word| word.parse().map_err(|_| list.to_string()))
+            .collect::<Result<_, _>>()?,
     };
     let lowest = Lowest {
         bits: protocol::double(&settled[0])?.to_bits(),
@@ -248,13 +278,23 @@ fn unlike(answer: &Answer, design: &Design, lowest: &Lowest) -> Option<String> {
     let Some(settled) = &answer.settled else {
         return Some("the oracle settles it".to_string());
     };
-    let names: Vec<_> = settled.configuration.iter().map(|strand| design.shown(*strand)).collect();
+    let names: Vec<_> = settled
+        .configuration
+        .iter()
+        .map(|strand| design.shown(*strand))
+        .collect();
     let checks = [
         ("bits", settled.bits == lowest.bits),
-        ("configuration", settled.configuration == lowest.configuration),
+        (
+            "configuration",
+            settled.configuration == lowest.configuration,
+        ),
         ("names", settled.names == names),
         ("states", settled.states == lowest.states),
-        ("energy", settled.energy == six_places(f64::from_bits(settled.bits))),
+        (
+            "energy",
+            settled.energy == six_places(f64::from_bits(settled.bits)),
+        ),
         ("deck", settled.deck == deck(settled)),
     ];
     let (what, _) = checks.iter().find(|(_, holds)| !holds)?;
@@ -299,22 +339,41 @@ fn damaged(arguments: &Arguments, tally: &mut Tally) -> Result<(), String> {
         }
         let texts: Vec<&[u8]> = files.iter().map(|(text, _)| text.as_slice()).collect();
         for (answer, (text, expected)) in arguments.settle.ask(&texts)?.iter().zip(&files) {
-            let lines = 1 + text.iter().filter(|byte| **byte == b'\n').count();
             let complaint = match expected {
-                Some((expected, line)) if answer.reply != expected.reply || answer.line != *line => {
+                Some((expected, line))
+                    if answer.reply != expected.reply || answer.line != *line =>
+                {
                     Some(format!("expected {expected:?} at line {line:?}"))
                 }
-                _ if answer.line.is_some_and(|line| line == 0 || line > lines) => Some("no such line".to_string()),
-                _ => None,
+                _ => misplaced(answer, text),
             };
             tally.count(answer, complaint, text);
         }
         left -= files.len();
     }
     match planted.iter().position(|count| *count == 0) {
-        Some(kind) if arguments.damaged > 10_000 => Err(format!("no fault of kind {kind} was planted")),
+        Some(kind) if arguments.damaged > 10_000 => {
+            Err(format!("no fault of kind {kind} was planted"))
+        }
         _ => Ok(()),
     }
+}
+
+/// A line is one of the file's, and a word stands in it; of a long one the beginning, and dots.
+fn misplaced(answer: &Answer, text: &[u8]) -> Option<String> {
+    let lines: Vec<&[u8]> = text.split(|byte| *byte == b'\n').collect();
+    let line = match answer.line {
+        Some(line) if line == 0 || line > lines.len() => return Some("no such line".to_string()),
+        Some(line) => lines[line - 1],
+        None => text,
+    };
+    let word = answer.word.as_deref()?;
+    let shown = match word.len() {
+        67 => word.strip_suffix(b"...").unwrap_or(word),
+        _ => word,
+    };
+    let there = line.windows(shown.len()).any(|part| part == shown);
+    (!there).then(|| "no such word".to_string())
 }
 
 type Damaged = (Vec<u8>, Option<(Expected, Option<usize>)>);

@@ -136,7 +136,9 @@ fn settled(object: &Value) -> Result<Settled, String> {
         states: perhaps(field("states")?, number)?,
         energy: energy.clone(),
         bits: hex(field("bits")?, 16)?,
-        deck: list(field("deck")?, |value| hex(value, 8).map(|word| word as u32))?,
+        deck: list(field("deck")?, |value| {
+            hex(value, 8).map(|word| word as u32)
+        })?,
     })
 }
 

@@ -15,7 +15,14 @@ pub fn written(random: &mut Random, statements: &[Statement]) -> (Vec<u8>, Vec<u
     let newline: &[u8] = random.pick(&[b"\n".as_slice(), b"\n", b"\r\n"]);
     for words in statements {
         while random.once_in(6) {
-            let idle = ["", "   ", "# a comment", "\t#", "#strand x - - - 1", "# \u{e9} \u{3bb} \""];
+            let idle = [
+                "",
+                "   ",
+                "# a comment",
+                "\t#",
+                "#strand x - - - 1",
+                "# \u{e9} \u{3bb} \"",
+            ];
             text.extend(random.pick(&idle).as_bytes());
             text.extend(newline);
             line += 1;
