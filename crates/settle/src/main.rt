@@ -6,6 +6,7 @@ mod answers;
 mod build;
 mod draw;
 mod file;
+mod lines;
 mod names;
 mod place;
 mod print;

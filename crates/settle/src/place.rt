@@ -2,6 +2,7 @@
 use crate::answers::Spot;
 use crate::build::glues_reply;
 use crate::build::reply_to;
+use crate::lines::word_on_line;
 use crate::reads::first_numbers;
 use crate::reads::part;
 use crate::reads::place_at;
@@ -28,6 +29,7 @@ use statements::grammar::REPORTER;
 use statements::grammar::STRAND;
 use statements::words::Word;
 use units::Ambient;
+use units::Kelvin;
 use utils::DgDsAnswer;
 use utils::string_dna_dg_ds;
 
@@ -322,13 +324,48 @@ pub(crate) fn of_build(
 
 // ---- ambient and potentials
 
-pub(crate) fn of_kelvin(kinds: &[u8], lines: &[usize]) -> Found {
-    at_row(
-        lines,
-        row_of(kinds, KELVIN),
-        Word { start: 0, size: 0 },
-        Why::KelvinRange,
-    )
+// The n-th word of a line.
+pub(crate) fn on_line(text: &[u8], line: usize, n: usize, why: Why) -> Found {
+    let word = word_on_line(text, line, n);
+    Found {
+        spot: Spot {
+            line,
+            start: word.start,
+            size: word.size,
+        },
+        why,
+    }
+}
+
+pub(crate) fn of_kelvin(text: &[u8], kinds: &[u8], lines: &[usize]) -> Found {
+    let line = place_at(lines, row_of(kinds, KELVIN));
+    on_line(text, line, 2, Why::KelvinRange)
+}
+
+// Which word of the ambient's line is the first that makes it unfit: RT, then the two excesses.
+fn ambient_word(scaffold: &[u8], glues: &[u8], dg: &[f64], ds: &[f64], ambient: Ambient) -> usize {
+    let none = [0.0; 64];
+    let strands = glues.len() / 3;
+    let rt = ambient.rt;
+    let strand_excess = ambient.strand_excess;
+    let rt_alone = Ambient {
+        rt,
+        strand_excess: Kelvin(0.0),
+        scaffold_excess: Kelvin(0.0),
+    };
+    let potentials = first_numbers(&none, strands);
+    if 0 < design_reply(scaffold, glues, dg, ds, potentials, rt_alone).number() {
+        return 2;
+    }
+    let with_strands = Ambient {
+        rt,
+        strand_excess,
+        scaffold_excess: Kelvin(0.0),
+    };
+    if 0 < design_reply(scaffold, glues, dg, ds, potentials, with_strands).number() {
+        return 3;
+    }
+    4
 }
 
 // The design's reply where of all potentials one strand's alone is not 0.0.
@@ -391,6 +428,7 @@ fn row_of_strand(kinds: &[u8], strand_rows: &[usize], strand: usize) -> usize {
 
 // Where a design that was built is refused: its ambient, or the potential of a strand.
 pub(crate) fn of_design(
+    text: &[u8],
     kinds: &[u8],
     lines: &[usize],
     words: &[usize],
@@ -404,8 +442,9 @@ pub(crate) fn of_design(
 ) -> Found {
     let strand = strand_at_fault(scaffold, glues, dg, ds, potentials, ambient);
     if strand == 0 {
-        let none = Word { start: 0, size: 0 };
-        return at_row(lines, row_of(kinds, AMBIENT), none, Why::AmbientRange);
+        let line = place_at(lines, row_of(kinds, AMBIENT));
+        let word = ambient_word(scaffold, glues, dg, ds, ambient);
+        return on_line(text, line, word, Why::AmbientRange);
     }
     let row = row_of_strand(kinds, strand_rows, strand);
     at_row(lines, row, word_of(words, row, 0), Why::PotentialRange)

@@ -162,7 +162,8 @@ fn settle_rows(
             complain(style, path, text, found)
         }
         SheetAnswer::GivenTwice(line, _) => {
-            complain(style, path, text, at_line(line, Why::GivenTwice))
+            let found = place::on_line(text, line, 1, Why::GivenTwice);
+            complain(style, path, text, found)
         }
         SheetAnswer::TooMany(line, group) => refuse(
             style,
@@ -283,7 +284,13 @@ fn settle_design(
 ) -> bool {
     match ambient_of(kinds, numbers) {
         AmbientAnswer::Refused(refusal) => {
-            refuse(style, path, text, refusal, place::of_kelvin(kinds, lines))
+            refuse(
+                style,
+                path,
+                text,
+                refusal,
+                place::of_kelvin(text, kinds, lines),
+            )
         }
         AmbientAnswer::Given(ambient) => search(
             style,
@@ -349,6 +356,7 @@ fn search(
             text,
             refusal,
             place::of_design(
+                text,
                 kinds,
                 lines,
                 words,
