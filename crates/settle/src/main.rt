@@ -12,7 +12,9 @@ mod place;
 mod print;
 mod reads;
 mod reasons;
+mod report;
 mod settle;
+mod unfit;
 mod words;
 
 ghost use mathlib.Core.Path.{_≡_};
