@@ -6,13 +6,15 @@ mod answers;
 mod build;
 mod draw;
 mod file;
+mod lines;
 mod names;
 mod place;
 mod print;
 mod reads;
 mod reasons;
-mod search;
+mod report;
 mod settle;
+mod unfit;
 mod words;
 
 ghost use mathlib.Core.Path.{_≡_};

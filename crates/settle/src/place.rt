@@ -2,13 +2,11 @@
 use crate::answers::Spot;
 use crate::build::glues_reply;
 use crate::build::reply_to;
-use crate::reads::first_numbers;
+use crate::lines::word_on_line;
 use crate::reads::part;
 use crate::reads::place_at;
 use crate::reasons::Why;
-use design::checks::design_reply;
 use design::reads::byte_at;
-use design::reads::number_at;
 use reply::Refusal;
 use reply::Reply;
 use sdc_common::NameAnswer;
@@ -16,10 +14,8 @@ use sdc_common::self_and_inverse;
 use sdc1d_params::Copied;
 use sheet::once::copied;
 use sheet::rows::rows_of;
-use statements::grammar::AMBIENT;
 use statements::grammar::ENERGY_GIVEN;
 use statements::grammar::ENERGY_SEQUENCE;
-use statements::grammar::KELVIN;
 use statements::grammar::PAIR_GIVEN;
 use statements::grammar::PAIR_SEQUENCE;
 use statements::grammar::POSITION;
@@ -27,7 +23,6 @@ use statements::grammar::QUENCHER;
 use statements::grammar::REPORTER;
 use statements::grammar::STRAND;
 use statements::words::Word;
-use units::Ambient;
 use utils::DgDsAnswer;
 use utils::string_dna_dg_ds;
 
@@ -49,7 +44,7 @@ pub(crate) fn nowhere(why: Why) -> Found {
 }
 
 // Word j of a row, as `statements` lays them out.
-fn word_of(words: &[usize], row: usize, j: usize) -> Word {
+pub(crate) fn word_of(words: &[usize], row: usize, j: usize) -> Word {
     if words.len() < row {
         return Word { start: 0, size: 0 };
     }
@@ -61,10 +56,23 @@ fn word_of(words: &[usize], row: usize, j: usize) -> Word {
 }
 
 // A row's line, and a word of it.
-fn at_row(lines: &[usize], row: usize, word: Word, why: Why) -> Found {
+pub(crate) fn at_row(lines: &[usize], row: usize, word: Word, why: Why) -> Found {
     Found {
         spot: Spot {
             line: place_at(lines, row),
+            start: word.start,
+            size: word.size,
+        },
+        why,
+    }
+}
+
+// The n-th word of a line.
+pub(crate) fn on_line(text: &[u8], line: usize, n: usize, why: Why) -> Found {
+    let word = word_on_line(text, line, n);
+    Found {
+        spot: Spot {
+            line,
             start: word.start,
             size: word.size,
         },
@@ -114,7 +122,7 @@ fn in_sequence(
 }
 
 // The first row of a kind, or the number of rows.
-fn row_of(kinds: &[u8], kind: u8) -> usize {
+pub(crate) fn row_of(kinds: &[u8], kind: u8) -> usize {
     for row in 0..kinds.len() {
         if byte_at(kinds, row) == kind {
             return row;
@@ -318,95 +326,4 @@ pub(crate) fn of_build(
         }
         _ => nowhere(Why::Refused),
     }
-}
-
-// ---- ambient and potentials
-
-pub(crate) fn of_kelvin(kinds: &[u8], lines: &[usize]) -> Found {
-    at_row(
-        lines,
-        row_of(kinds, KELVIN),
-        Word { start: 0, size: 0 },
-        Why::KelvinRange,
-    )
-}
-
-// The design's reply where of all potentials one strand's alone is not 0.0.
-fn reply_to_one(
-    scaffold: &[u8],
-    glues: &[u8],
-    dg: &[f64],
-    ds: &[f64],
-    potentials: &[f64],
-    ambient: Ambient,
-    strand: usize,
-) -> Reply {
-    let strands = potentials.len();
-    let mut one = [0.0; 64];
-    if 64 < strands || 64 <= strand {
-        return Reply::Admitted;
-    }
-    one[strand] = number_at(potentials, strand);
-    design_reply(
-        scaffold,
-        glues,
-        dg,
-        ds,
-        first_numbers(&one, strands),
-        ambient,
-    )
-}
-
-// The strand whose potential is refused, or strand 0, whose potential is none, where it is the ambient.
-fn strand_at_fault(
-    scaffold: &[u8],
-    glues: &[u8],
-    dg: &[f64],
-    ds: &[f64],
-    potentials: &[f64],
-    ambient: Ambient,
-) -> usize {
-    for strand in 0..potentials.len() {
-        let reply = reply_to_one(scaffold, glues, dg, ds, potentials, ambient, strand);
-        if 0 < reply.number() {
-            return strand;
-        }
-    }
-    0
-}
-
-// The row of a strand by its number: the user strands, the quencher, the reporter.
-fn row_of_strand(kinds: &[u8], strand_rows: &[usize], strand: usize) -> usize {
-    if strand <= strand_rows.len() {
-        if strand == 0 {
-            return kinds.len();
-        }
-        return place_at(strand_rows, strand - 1);
-    }
-    if strand - 1 == strand_rows.len() {
-        return row_of(kinds, QUENCHER);
-    }
-    row_of(kinds, REPORTER)
-}
-
-// Where a design that was built is refused: its ambient, or the potential of a strand.
-pub(crate) fn of_design(
-    kinds: &[u8],
-    lines: &[usize],
-    words: &[usize],
-    strand_rows: &[usize],
-    scaffold: &[u8],
-    glues: &[u8],
-    dg: &[f64],
-    ds: &[f64],
-    potentials: &[f64],
-    ambient: Ambient,
-) -> Found {
-    let strand = strand_at_fault(scaffold, glues, dg, ds, potentials, ambient);
-    if strand == 0 {
-        let none = Word { start: 0, size: 0 };
-        return at_row(lines, row_of(kinds, AMBIENT), none, Why::AmbientRange);
-    }
-    let row = row_of_strand(kinds, strand_rows, strand);
-    at_row(lines, row, word_of(words, row, 0), Why::PotentialRange)
 }

@@ -1,7 +1,6 @@
 // From a file's bytes to what is printed of it.
 use crate::answers::Spot;
 use crate::answers::refused;
-use crate::answers::settled;
 use crate::answers::unreadable;
 use crate::build::MOST_ENTRIES;
 use crate::build::MOST_POSITIONS;
@@ -15,15 +14,25 @@ use crate::reads::first_bytes;
 use crate::reads::first_numbers;
 use crate::reads::first_places;
 use crate::reasons::Why;
-use crate::search::settle_design;
+use crate::report::report;
+use crate::unfit;
+use mfe::Settled;
+use mfe::mfe_configuration;
 use reply::Refusal;
 use reply::Reply;
+use sdc1d::number_of_states;
 use sheet::faults::SheetAnswer;
+use sheet::once;
+use sheet::parts;
 use sheet::rows::rows_of;
 use statements::ReadAnswer;
 use statements::grammar::ENERGY_GIVEN;
 use statements::grammar::POSITION;
 use statements::grammar::STRAND;
+use units::Ambient;
+use units::AmbientAnswer;
+use units::KcalPerMol;
+use units::Kelvin;
 
 // More rows than any design has.
 const ROWS: usize = 2048;
@@ -39,13 +48,7 @@ fn too_many(group: u8) -> Why {
 }
 
 // Prints a refusal, and answers that the file was not settled.
-pub(crate) fn refuse(
-    style: Style,
-    path: &[u8],
-    text: &[u8],
-    refusal: Refusal,
-    found: Found,
-) -> bool {
+fn refuse(style: Style, path: &[u8], text: &[u8], refusal: Refusal, found: Found) -> bool {
     let spot = found.spot;
     let why = found.why;
     refused(style, path, text, refusal, spot, why);
@@ -157,7 +160,8 @@ fn settle_rows(
             complain(style, path, text, found)
         }
         SheetAnswer::GivenTwice(line, _) => {
-            complain(style, path, text, at_line(line, Why::GivenTwice))
+            let found = place::on_line(text, line, 1, Why::GivenTwice);
+            complain(style, path, text, found)
         }
         SheetAnswer::TooMany(line, group) => refuse(
             style,
@@ -245,5 +249,138 @@ fn settle_sheet(
             &dg,
             &ds,
         ),
+    }
+}
+
+// The ambient as given, or at a temperature.
+fn ambient_of(kinds: &[u8], numbers: &[f64]) -> AmbientAnswer {
+    match once::ambient_of(kinds, numbers) {
+        once::Ambient::Kelvin(kelvin) => units::ambient_at(Kelvin(kelvin)),
+        once::Ambient::Given(rt, strand_excess, scaffold_excess) => AmbientAnswer::Given(Ambient {
+            rt: KcalPerMol(rt),
+            strand_excess: Kelvin(strand_excess),
+            scaffold_excess: Kelvin(scaffold_excess),
+        }),
+        once::Ambient::Missing => AmbientAnswer::Refused(Refusal::OutOfRange),
+    }
+}
+
+fn settle_design(
+    style: Style,
+    path: &[u8],
+    text: &[u8],
+    kinds: &[u8],
+    lines: &[usize],
+    words: &[usize],
+    numbers: &[f64],
+    strand_rows: &[usize],
+    entries: usize,
+    scaffold: &[u8],
+    glues: &[u8],
+    dg: &[f64],
+    ds: &[f64],
+) -> bool {
+    match ambient_of(kinds, numbers) {
+        AmbientAnswer::Refused(refusal) => {
+            refuse(
+                style,
+                path,
+                text,
+                refusal,
+                unfit::of_kelvin(text, kinds, lines),
+            )
+        }
+        AmbientAnswer::Given(ambient) => search(
+            style,
+            path,
+            text,
+            kinds,
+            lines,
+            words,
+            numbers,
+            strand_rows,
+            entries,
+            scaffold,
+            glues,
+            dg,
+            ds,
+            ambient,
+        ),
+    }
+}
+
+fn search(
+    style: Style,
+    path: &[u8],
+    text: &[u8],
+    kinds: &[u8],
+    lines: &[usize],
+    words: &[usize],
+    numbers: &[f64],
+    strand_rows: &[usize],
+    entries: usize,
+    scaffold: &[u8],
+    glues: &[u8],
+    dg: &[f64],
+    ds: &[f64],
+    ambient: Ambient,
+) -> bool {
+    let positions = scaffold.len();
+    if MOST_USERS < strand_rows.len() || MOST_POSITIONS < positions {
+        return false;
+    }
+    let strands = strand_rows.len() + 3;
+    let mut room = [0.0; 64];
+    parts::potentials(
+        kinds,
+        numbers,
+        strand_rows,
+        reads::numbers(&mut room, strands),
+    );
+    let potentials = first_numbers(&room, strands);
+    let mut configuration = [0u8; 128];
+    match mfe_configuration(
+        scaffold,
+        glues,
+        dg,
+        ds,
+        potentials,
+        ambient,
+        reads::bytes(&mut configuration, positions),
+    ) {
+        Settled::Refused(refusal, _) => refuse(
+            style,
+            path,
+            text,
+            refusal,
+            unfit::of_design(
+                text,
+                kinds,
+                lines,
+                words,
+                strand_rows,
+                scaffold,
+                glues,
+                dg,
+                ds,
+                potentials,
+                ambient,
+            ),
+        ),
+        Settled::Energy(energy) => {
+            let states = number_of_states(scaffold, glues, dg, ds, potentials, ambient);
+            report(
+                style,
+                path,
+                text,
+                kinds,
+                words,
+                strand_rows,
+                entries,
+                states,
+                first_bytes(&configuration, positions),
+                energy.0,
+            )
+        }
     }
 }

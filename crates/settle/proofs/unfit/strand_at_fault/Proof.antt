@@ -1,8 +1,8 @@
--- `settle::place::strand_at_fault` is safe and ends. Assumes nothing.
+-- `settle::unfit::strand_at_fault` is safe and ends. Assumes nothing.
 use Prim.Native.Nat.{_-_}
 use borrow.Author.Needs.{needs}
-use Rattle.settle.proofs.place.strand_at_fault.Statement.{statement}
-use Rattle.settle.proofs.place.strand_at_fault.Tie as tie
+use Rattle.settle.proofs.unfit.strand_at_fault.Statement.{statement}
+use Rattle.settle.proofs.unfit.strand_at_fault.Tie as tie
 
 abbrev Inv-loop : tie.InvT-loop
 Inv-loop scaffold glues dg ds potentials ambient strand₀ strand-end strand = Unit {0}
