@@ -1,6 +1,12 @@
 // Document 01's bench table, the lines that are run rather than proved, and the worked examples of the paper and of rgrow's
 // documentation. Each answer is compared bit for bit with the sum that the line gives; the file stdout holds what must be written.
 use reply::Refusal;
+use reply::Reply;
+use sdc1d::CountAnswer;
+use sdc1d_params::Copied;
+use units::Ambient;
+use units::KcalPerMol;
+use units::KcalPerMolKelvin;
 use units::Kelvin;
 use utils::DgAnswer;
 use utils::DgDsAnswer;
@@ -37,6 +43,148 @@ fn is_refused(answer: DgAnswer, refusal: Refusal) -> bool {
         DgAnswer::Given(_) => false,
         DgAnswer::Refused(given) => given.number() == refusal.number(),
     }
+}
+
+// The reply to a build of eleven strands, with 33 glues of as many names: the letter a once, twice and so on. No scaffold, no entries.
+fn named(marks: &[u8]) -> Reply {
+    let starts = [0usize; 33];
+    let lengths = [
+        1usize,
+        2,
+        3,
+        4,
+        5,
+        6,
+        7,
+        8,
+        9,
+        10,
+        11,
+        12,
+        13,
+        14,
+        15,
+        16,
+        17,
+        18,
+        19,
+        20,
+        21,
+        22,
+        23,
+        24,
+        25,
+        26,
+        27,
+        28,
+        29,
+        30,
+        31,
+        32,
+        33,
+    ];
+    let place = [0usize; 1];
+    let places = &place[0..0];
+    let bytes = [0u8; 1];
+    let marks_of_none = &bytes[0..0];
+    let doubles = [0.0; 1];
+    let numbers = &doubles[0..0];
+    let mut strand_glues = [0u8; 42];
+    let mut scaffold = [0u8; 1];
+    let mut dg = [0.0; 4096];
+    let mut ds = [0.0; 4096];
+    sdc1d_params::from_params(
+        b"aaaaaaaaaaaaaaaaaaaaaaaaaaaaaaaaa",
+        11,
+        &starts,
+        &lengths,
+        marks,
+        places,
+        places,
+        marks_of_none,
+        places,
+        places,
+        places,
+        places,
+        marks_of_none,
+        marks_of_none,
+        numbers,
+        numbers,
+        places,
+        places,
+        KcalPerMol(0.0),
+        KcalPerMolKelvin(0.0),
+        Copied::Nothing,
+        Copied::Nothing,
+        &mut strand_glues,
+        &mut scaffold[0..0],
+        &mut dg,
+        &mut ds,
+    )
+}
+
+// The states of a scaffold whose every position has strand 1 as its one friend.
+fn states_of(scaffold: &[u8]) -> CountAnswer {
+    let glues = [0u8, 0, 0, 0, 1, 0];
+    let mut dg = [0.0; 4096];
+    dg[65] = -2.0;
+    let ds = [0.0; 4096];
+    let potentials = [0.0, -1.0];
+    let ambient = Ambient {
+        rt: KcalPerMol(0.5),
+        strand_excess: Kelvin(0.0),
+        scaffold_excess: Kelvin(0.0),
+    };
+    sdc1d::number_of_states(scaffold, &glues, &dg, &ds, &potentials, ambient)
+}
+
+fn is_built(reply: Reply) -> bool {
+    match reply {
+        Reply::Admitted => true,
+        Reply::Refused(_) => false,
+    }
+}
+
+fn is_too_many_glues(reply: Reply) -> bool {
+    match reply {
+        Reply::Admitted => false,
+        Reply::Refused(given) => given.number() == Refusal::TooManyGlues.number(),
+    }
+}
+
+fn is_count(answer: CountAnswer, count: u64) -> bool {
+    match answer {
+        CountAnswer::States(given) => given == count,
+        CountAnswer::Refused(_, _) => false,
+    }
+}
+
+fn is_too_many_states(answer: CountAnswer) -> bool {
+    match answer {
+        CountAnswer::States(_) => false,
+        CountAnswer::Refused(given, _) => given.number() == Refusal::TooManyStates.number(),
+    }
+}
+
+fn limits() {
+    let mut marks = [1u8; 33];
+    marks[32] = 0;
+    say(
+        b"32 base names: refused, glues",
+        is_too_many_glues(named(&marks)),
+    );
+    marks[31] = 0;
+    say(b"31 base names: built", is_built(named(&marks)));
+    let twenty = [1u8; 20];
+    say(
+        b"20 positions of one friend: 1,048,576 states",
+        is_count(states_of(&twenty), 1048576),
+    );
+    let more = [1u8; 21];
+    say(
+        b"21 positions of one friend: refused, many",
+        is_too_many_states(states_of(&more)),
+    );
 }
 
 fn table() {
@@ -77,5 +225,6 @@ fn examples() {
 
 fn main() {
     table();
+    limits();
     examples();
 }
