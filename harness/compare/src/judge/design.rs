@@ -226,12 +226,12 @@ fn occupied(configuration: &[u8]) -> impl Iterator<Item = (usize, usize)> + '_ {
 }
 
 #[cfg(test)]
-mod tests {
+pub(crate) mod tests {
     use super::*;
 
     /// Positions with these scaffold glues; strand k has the bottom glue k, dG[k][k] is given and
     /// every potential is −1; RT 0.5.
-    fn bench(scaffold: &[u8], dg: &[f64]) -> Lent {
+    pub(crate) fn bench(scaffold: &[u8], dg: &[f64]) -> Lent {
         let mut lent = Lent {
             scaffold: scaffold.to_vec(),
             glues: vec![0; 3],

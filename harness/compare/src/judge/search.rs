@@ -107,27 +107,7 @@ fn traced(rows: &[Vec<Entry>], last: usize) -> Vec<u8> {
 #[cfg(test)]
 mod tests {
     use super::*;
-    use crate::judge::design::CELLS;
-
-    /// As in the bench table: strand k has the bottom glue k and the potential −1; RT 0.5.
-    fn bench(scaffold: &[u8], dg: &[f64]) -> Lent {
-        let mut lent = Lent {
-            scaffold: scaffold.to_vec(),
-            glues: vec![0; 3],
-            dg: vec![0.0; CELLS],
-            ds: vec![0.0; CELLS],
-            potentials: vec![f64::NAN],
-            rt: 0.5,
-            ..Lent::default()
-        };
-        for (index, energy) in dg.iter().enumerate() {
-            let strand = index + 1;
-            lent.glues.extend([0, strand as u8, 0]);
-            lent.dg[65 * strand] = *energy;
-            lent.potentials.push(-1.0);
-        }
-        lent
-    }
+    use crate::judge::design::tests::bench;
 
     #[test]
     fn the_bench_lines_hold() {
