@@ -19,5 +19,6 @@ abbrev pub upTo : ℕ → List ℕ
 upTo n = tabulate n (λ k. k)
 
 unfoldable pub product : List ℕ → ℕ
+-- the numbers multiplied, 1 where there is none
 product [] = 1
 product (n ∷ ns) = n * product ns

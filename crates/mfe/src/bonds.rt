@@ -32,6 +32,7 @@ fn fill_strand_row(
     }
 }
 
+// The bonds of each two strands.
 pub(crate) fn strand_bonds(
     glues: &[u8],
     dg: &[f64],
@@ -83,6 +84,7 @@ fn fill_scaffold_row(
     }
 }
 
+// The bonds of each position and strand.
 pub(crate) fn scaffold_bonds(
     scaffold: &[u8],
     glues: &[u8],

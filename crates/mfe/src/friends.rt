@@ -12,6 +12,7 @@ pub struct Friends {
     pub count: usize,
 }
 
+// A strand's number as an index; a call, so that its proofs see a plain number.
 pub(crate) fn wide(number: u8) -> usize
     ensures { λ r. ⌜ r ≡ number ⌝ }
 {

@@ -12,6 +12,7 @@ ghost use mathlib.Core.Path.{_≡_};
 ghost use Rattle.design.specs.Design.{lent};
 ghost use Rattle.mfe.specs.Answers.{settledFigures, searchAnswer, searchEntries, LowestShown};
 
+// The energy of the lowest configuration, or why there is none.
 pub enum Settled {
     // The configuration stands in the lent entries.
     Energy(KcalPerMol),

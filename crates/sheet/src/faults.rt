@@ -15,13 +15,16 @@ use statements::grammar::POSITION;
 use statements::grammar::STRAND;
 use statements::words::Word;
 
-// The most user strands, positions and energy entries.
+// The most user strands.
 const MOST_STRANDS: usize = 61;
 
+// The most positions.
 const MOST_POSITIONS: usize = 128;
 
+// The most energy entries.
 const MOST_ENTRIES: usize = 1024;
 
+// What is wrong with a file's rows, or how many strands, positions and entries there are.
 pub enum SheetAnswer {
     // Nothing is wrong: how many strands, positions and entries there are.
     Whole(usize, usize, usize),
