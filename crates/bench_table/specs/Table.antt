@@ -26,6 +26,7 @@ use Rattle.bench_table.specs.Letters.{A, C, G, T}
 use Rattle.bench_table.specs.Designs.{bare, onePosition, twoPositions}
 
 infixl 60 _⊕_
+-- one rounded sum of doubles
 abbrev pub _⊕_ : Float → Float → Float
 x ⊕ y = add binary64 x y
 

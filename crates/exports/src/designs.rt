@@ -12,6 +12,7 @@ use units::Ambient;
 use units::KcalPerMol;
 use units::Kelvin;
 
+// The ambient out of its three doubles.
 pub(crate) fn ambient(rt: f64, strand_excess: f64, scaffold_excess: f64) -> Ambient
     ensures { λ r. ⌜ r ≡ ambientOf rt «strand_excess» «scaffold_excess» ⌝ }
 {
@@ -50,6 +51,7 @@ pub extern "C" fn mj_strand_bond_reply(
     ))
 }
 
+// The bond itself, as its bits.
 #[no_mangle]
 pub extern "C" fn mj_strand_bond(
     scaffold: &[u8],
@@ -105,6 +107,7 @@ pub extern "C" fn mj_scaffold_bond_reply(
     ))
 }
 
+// The bond itself, as its bits.
 #[no_mangle]
 pub extern "C" fn mj_scaffold_bond(
     scaffold: &[u8],
@@ -161,6 +164,7 @@ pub extern "C" fn mj_friends_reply(
     ))
 }
 
+// How many friends there are.
 #[no_mangle]
 pub extern "C" fn mj_friends_count(
     scaffold: &[u8],
@@ -213,6 +217,7 @@ pub extern "C" fn mj_states_reply(
     ))
 }
 
+// The number of states itself.
 #[no_mangle]
 pub extern "C" fn mj_states_count(
     scaffold: &[u8],
@@ -291,6 +296,7 @@ pub extern "C" fn mj_state_energy_reply(
     ))
 }
 
+// The state energy itself, as its bits.
 #[no_mangle]
 pub extern "C" fn mj_state_energy(
     scaffold: &[u8],
@@ -342,6 +348,7 @@ pub extern "C" fn mj_chain_energy_reply(
     ))
 }
 
+// RT times the chain energy, as its bits.
 #[no_mangle]
 pub extern "C" fn mj_chain_energy(
     scaffold: &[u8],
@@ -367,6 +374,7 @@ pub extern "C" fn mj_chain_energy(
     ))
 }
 
+// The chain energy as it is, as its bits.
 #[no_mangle]
 pub extern "C" fn mj_chain_sum(
     scaffold: &[u8],

@@ -39,6 +39,7 @@ fn print_word(text: &[u8], spot: Spot, style: Style) {
     print_bytes(part(text, start, spot.size), style);
 }
 
+// The place of a reason, for people.
 fn print_spot(text: &[u8], spot: Spot) {
     if 0 < spot.line {
         print(b", line ");
@@ -50,6 +51,7 @@ fn print_spot(text: &[u8], spot: Spot) {
     }
 }
 
+// The place of a reason, as two fields.
 fn print_json_spot(text: &[u8], spot: Spot) {
     print(b",\"line\":");
     if 0 < spot.line {
@@ -67,6 +69,7 @@ fn print_json_spot(text: &[u8], spot: Spot) {
     }
 }
 
+// The reason as the last field.
 fn print_json_reason(why: Why) {
     print(b",\"reason\":\"");
     print_reason(why);
@@ -80,6 +83,7 @@ fn print_json_head(path: &[u8]) {
     print(b"\",\"reply\":");
 }
 
+// A file that can't be read, and why.
 pub(crate) fn unreadable(style: Style, path: &[u8], text: &[u8], spot: Spot, why: Why) {
     match style {
         Style::People => {
@@ -99,6 +103,7 @@ pub(crate) fn unreadable(style: Style, path: &[u8], text: &[u8], spot: Spot, why
     }
 }
 
+// A file whose design is refused, by which number, and why.
 pub(crate) fn refused(
     style: Style,
     path: &[u8],
@@ -143,6 +148,7 @@ fn print_number_of(n: usize, one: &[u8], more: &[u8]) {
     }
 }
 
+// The number of states, for people.
 fn print_states(states: CountAnswer) {
     print(b"  ");
     match states {
@@ -152,6 +158,7 @@ fn print_states(states: CountAnswer) {
     print(b"\n");
 }
 
+// The number of states, as a value.
 fn print_json_states(states: CountAnswer) {
     match states {
         CountAnswer::States(n) => print_count(n as usize),
@@ -172,10 +179,12 @@ fn print_deck(deck: &[u32]) {
     print(b"\n");
 }
 
+// A word of a deck as a number of 64 bits.
 fn wide(word: u32) -> u64 {
     word as u64
 }
 
+// Word i of a deck.
 fn deck_word(deck: &[u32], i: usize) -> u64 {
     if i < deck.len() {
         return wide(deck[i]);
@@ -183,6 +192,7 @@ fn deck_word(deck: &[u32], i: usize) -> u64 {
     0
 }
 
+// The words of a deck, as the items of a list.
 fn print_json_deck(deck: &[u32]) {
     for i in 0..deck.len() {
         print_comma(i);
@@ -199,6 +209,7 @@ fn print_comma(i: usize) {
     }
 }
 
+// The strands' numbers, as the items of a list.
 fn print_json_numbers(configuration: &[u8]) {
     for i in 0..configuration.len() {
         print_comma(i);
@@ -206,6 +217,7 @@ fn print_json_numbers(configuration: &[u8]) {
     }
 }
 
+// The strands' names, as the items of a list.
 fn print_json_names(
     text: &[u8],
     name_starts: &[usize],
@@ -261,6 +273,7 @@ fn settled_for_people(
     print_deck(deck);
 }
 
+// As one object, on a line of its own.
 fn settled_as_json(
     path: &[u8],
     text: &[u8],
@@ -294,6 +307,7 @@ fn settled_as_json(
     print(b"]}\n");
 }
 
+// A settled design in either style.
 pub(crate) fn settled(
     style: Style,
     path: &[u8],

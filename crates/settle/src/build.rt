@@ -20,11 +20,13 @@ use statements::grammar::STRAND;
 use units::KcalPerMol;
 use units::KcalPerMolKelvin;
 
-// Document 01's limits, for which there is room here.
+// Document 01's limits, for which there is room here. The most user strands.
 pub(crate) const MOST_USERS: usize = 61;
 
+// The most positions.
 pub(crate) const MOST_POSITIONS: usize = 128;
 
+// The most energy entries.
 pub(crate) const MOST_ENTRIES: usize = 1024;
 
 // The first so many strands, positions and entries of the rows, as `from_params` builds them into the lent slices. What it takes is gathered
@@ -80,6 +82,7 @@ pub(crate) fn build(
     )
 }
 
+// The second step: the names of the positions.
 fn with_scaffold(
     text: &[u8],
     kinds: &[u8],
@@ -133,6 +136,7 @@ fn with_scaffold(
     )
 }
 
+// The third step: the names of the entries.
 fn with_names(
     text: &[u8],
     kinds: &[u8],
@@ -198,6 +202,7 @@ fn with_names(
     )
 }
 
+// The last step: the entries' energies, and the call.
 fn with_energies(
     text: &[u8],
     kinds: &[u8],

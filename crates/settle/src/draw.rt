@@ -15,6 +15,7 @@ use design::reads::byte_at;
 // What a line of a stretch holds beside its head.
 const LINE: usize = 66;
 
+// The larger of two.
 fn larger(a: usize, b: usize) -> usize {
     if a < b {
         return b;
@@ -31,6 +32,7 @@ fn print_glue(text: &[u8], start: usize, size: usize) {
     print_bytes(part(text, start, size), Style::People);
 }
 
+// How wide the glue of a position is.
 fn glue_width(text: &[u8], start: usize, size: usize) -> usize {
     if size == 0 {
         return 1;
@@ -92,6 +94,7 @@ fn print_gap(column: usize, wide: usize) {
     print(b"  ");
 }
 
+// The strands of a stretch, on one line.
 fn print_strands(
     text: &[u8],
     glue_starts: &[usize],
@@ -125,6 +128,7 @@ fn print_strands(
     print(b"\n");
 }
 
+// The glues of a stretch, on one line.
 fn print_glues(
     text: &[u8],
     glue_starts: &[usize],

@@ -2,12 +2,14 @@
 use crate::reads::tail;
 use crate::reasons::Why;
 
+// What became of a file that was to be read.
 pub(crate) enum FileRead {
     // How many; they stand first in the lent bytes.
     Bytes(usize),
     Failed(Why),
 }
 
+// What one call of read gave.
 enum Step {
     More(usize),
     End,

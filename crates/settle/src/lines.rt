@@ -10,6 +10,7 @@ struct Walk {
     start: usize,
 }
 
+// Space, tab and carriage return.
 fn is_blank(byte: u8) -> bool {
     match byte {
         b'\t' | b'\r' | b' ' => true,
@@ -46,6 +47,7 @@ fn step(walk: Walk, byte: u8, i: usize) -> Walk {
     }
 }
 
+// The word from one place to another.
 fn word_up_to(start: usize, end: usize) -> Word {
     Word {
         start,

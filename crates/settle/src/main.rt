@@ -36,6 +36,7 @@ fn room() -> [u8; 1048577]
     [0; 1048577]
 }
 
+// A file that can't be had. Answers that it was not settled.
 fn failed(style: Style, path: &[u8], why: Why) -> bool {
     let nowhere = Spot {
         line: 0,
@@ -75,6 +76,7 @@ fn settle_all(style: Style, text: &mut [u8]) -> bool {
     all
 }
 
+// The first argument, which the script gives.
 fn style() -> Style {
     let mut word = io::buffer();
     let size = os::arg(1, &mut word);
@@ -84,6 +86,7 @@ fn style() -> Style {
     Style::People
 }
 
+// Settles the files, and writes 0 to the script if each was settled, 1 if not.
 fn main() {
     let mut text = room();
     if settle_all(style(), &mut text) {

@@ -6,6 +6,7 @@ use crate::print::width;
 use crate::reads::part;
 use crate::reads::place_at;
 
+// Who sits at a place.
 pub(crate) enum Occupant {
     Nobody,
     // A user strand by its place in the file, from 0.
@@ -42,6 +43,7 @@ pub(crate) fn occupant_width(
     }
 }
 
+// Writes the name of who sits at a place.
 pub(crate) fn print_occupant(
     occupant: Occupant,
     text: &[u8],

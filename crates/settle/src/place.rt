@@ -32,6 +32,7 @@ pub(crate) struct Found {
     pub(crate) why: Why,
 }
 
+// A reason that lies nowhere in particular.
 pub(crate) fn nowhere(why: Why) -> Found {
     Found {
         spot: Spot {
@@ -108,6 +109,7 @@ fn sequence_row(text: &[u8], kinds: &[u8], words: &[usize], number: u32) -> usiz
     kinds.len()
 }
 
+// The first sequence that is refused so.
 fn in_sequence(
     text: &[u8],
     kinds: &[u8],
@@ -143,6 +145,7 @@ fn member_row(kinds: &[u8], group: u8, member: usize) -> usize {
 // The words of a row that are names of glues, from one up to before another.
 struct Slots(usize, usize);
 
+// Which words of a row of this kind are names of glues.
 fn glue_slots(kind: u8) -> Slots {
     match kind {
         STRAND => Slots(1, 4),
@@ -153,6 +156,7 @@ fn glue_slots(kind: u8) -> Slots {
     }
 }
 
+// Whether a name is refused by itself.
 fn is_refused(text: &[u8], name: Word) -> bool {
     match self_and_inverse(text, name.start, name.size) {
         NameAnswer::Given(_, _, _) => false,
@@ -208,6 +212,7 @@ fn size_of_row(
     nowhere(Why::Refused)
 }
 
+// The first row in which something is too large or not there.
 fn in_size(
     text: &[u8],
     kinds: &[u8],

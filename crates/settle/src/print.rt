@@ -10,10 +10,12 @@ pub(crate) enum Style {
     Json,
 }
 
+// Writes to standard output.
 pub(crate) fn print(text: &[u8]) {
     io::write_all(STDOUT_FILENO, text);
 }
 
+// A number's text, where it has one.
 fn print_made(made: Printed, text: &[u8]) {
     if let Printed::Text(size) = made {
         print(part(text, 0, size));
@@ -110,6 +112,7 @@ pub(crate) fn width(bytes: &[u8]) -> usize {
     sum
 }
 
+// How wide a byte is: itself, or \x and two digits.
 fn byte_width(byte: u8) -> usize {
     match byte {
         b' '..=b'~' => 1,
@@ -117,6 +120,7 @@ fn byte_width(byte: u8) -> usize {
     }
 }
 
+// So many blanks.
 pub(crate) fn print_blanks(n: usize) {
     for i in 0..n {
         print(b" ");

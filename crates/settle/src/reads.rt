@@ -37,6 +37,7 @@ pub(crate) fn first_places(places: &[usize], n: usize) -> &[usize] {
     &places[0..n]
 }
 
+// The first n bytes.
 pub(crate) fn first_bytes(bytes: &[u8], n: usize) -> &[u8] {
     if bytes.len() < n {
         return bytes;
@@ -44,6 +45,7 @@ pub(crate) fn first_bytes(bytes: &[u8], n: usize) -> &[u8] {
     &bytes[0..n]
 }
 
+// The first n doubles.
 pub(crate) fn first_numbers(numbers: &[f64], n: usize) -> &[f64] {
     if numbers.len() < n {
         return numbers;
@@ -51,6 +53,7 @@ pub(crate) fn first_numbers(numbers: &[f64], n: usize) -> &[f64] {
     &numbers[0..n]
 }
 
+// The first n words of a deck.
 pub(crate) fn first_words(words: &[u32], n: usize) -> &[u32] {
     if words.len() < n {
         return words;
@@ -66,6 +69,7 @@ pub(crate) fn places(places: &mut [usize], n: usize) -> &mut [usize] {
     &mut places[0..n]
 }
 
+// The first n bytes, to be written.
 pub(crate) fn bytes(bytes: &mut [u8], n: usize) -> &mut [u8] {
     if bytes.len() < n {
         return bytes;
@@ -73,6 +77,7 @@ pub(crate) fn bytes(bytes: &mut [u8], n: usize) -> &mut [u8] {
     &mut bytes[0..n]
 }
 
+// The first n doubles, to be written.
 pub(crate) fn numbers(numbers: &mut [f64], n: usize) -> &mut [f64] {
     if numbers.len() < n {
         return numbers;

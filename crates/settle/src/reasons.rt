@@ -2,6 +2,7 @@
 use crate::print::print;
 use statements::statement::Reason;
 
+// Each reason that is told.
 pub(crate) enum Why {
     // The file can't be had.
     NoSuchFile,

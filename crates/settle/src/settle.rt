@@ -55,6 +55,7 @@ fn refuse(style: Style, path: &[u8], text: &[u8], refusal: Refusal, found: Found
     false
 }
 
+// A reason that lies in a line.
 fn at_line(line: usize, why: Why) -> Found {
     Found {
         spot: Spot {
@@ -66,6 +67,7 @@ fn at_line(line: usize, why: Why) -> Found {
     }
 }
 
+// A file that can't be read. Answers that it was not settled.
 fn complain(style: Style, path: &[u8], text: &[u8], found: Found) -> bool {
     let spot = found.spot;
     let why = found.why;
@@ -265,6 +267,7 @@ fn ambient_of(kinds: &[u8], numbers: &[f64]) -> AmbientAnswer {
     }
 }
 
+// The ambient, then the search.
 fn settle_design(
     style: Style,
     path: &[u8],
@@ -309,6 +312,7 @@ fn settle_design(
     }
 }
 
+// The search, and what is printed of it.
 fn search(
     style: Style,
     path: &[u8],

@@ -17,6 +17,7 @@ use statements::grammar::REPORTER;
 use units::Ambient;
 use units::Kelvin;
 
+// The temperature of `kelvin`.
 pub(crate) fn of_kelvin(text: &[u8], kinds: &[u8], lines: &[usize]) -> Found {
     let line = place_at(lines, row_of(kinds, KELVIN));
     on_line(text, line, 2, Why::KelvinRange)

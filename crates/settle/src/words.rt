@@ -2,6 +2,7 @@
 use crate::print::print;
 use reply::Refusal;
 
+// The trade word of a refusal.
 pub(crate) fn print_trade_word(refusal: Refusal) {
     match refusal {
         Refusal::WrongSize => print(b"size"),
