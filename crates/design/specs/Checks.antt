@@ -131,7 +131,7 @@ rankTooHigh d rank = leb (count (modelOf d)) rank
 
 -- ---- a design is admitted if no condition on which the table refuses the search holds
 
--- none of the design's own checks holds
+-- Document 01's admitted design: none of its own checks holds.
 pub record Admitted (d : Design) : Type 0 where
   pub sizes : sizesOut d ≡ false
   pub cells : cellsOut (d .dg) (d .ds) ≡ false

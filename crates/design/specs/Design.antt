@@ -10,7 +10,7 @@ use Rattle.doubles.specs.Decimal.{zero}
 use Rattle.units.specs.declared.Ambient.{Ambient}
 use Rattle.model.specs.Model.{Model}
 
--- what a call that takes a design is lent
+-- Document 01's design: what a call on one is lent.
 pub record Design : Type 0 where
   -- the scaffold glue of each position
   pub scaffold : List ℕ
@@ -19,7 +19,7 @@ pub record Design : Type 0 where
   -- the dG and the dS table, 64 by 64, row first
   pub dg : List Float
   pub ds : List Float
-  -- one for each strand: the logarithm of its concentration
+  -- document 01's potentials, one for each strand: the logarithm of its concentration
   pub potentials : List Float
   pub ambient : Ambient
 

@@ -1,6 +1,5 @@
 // A design's calls as C functions. Each works out its whole call anew: the one that ends in `_reply` answers the reply number, the others a
 // figure of the answer, a double as its 64 bits, and 0 on a refusal. Those of one call leave the same in the lent entries.
-//
 // A design is lent as sdc1d takes it, the ambient as its three doubles.
 ghost use mathlib.Core.Path.{_≡_};
 ghost use lib.Ieee as Ieee;

@@ -12,7 +12,7 @@ pub struct Friends {
     pub count: usize,
 }
 
-// A strand's number as an index; a call, so that its proofs see a plain number.
+// A strand's number as an index. As a function of its own it asks the proofs for no bound on the byte.
 pub(crate) fn wide(number: u8) -> usize
     ensures { λ r. ⌜ r ≡ number ⌝ }
 {

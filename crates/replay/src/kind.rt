@@ -1,7 +1,7 @@
 // The kinds of lines that are compared.
 ghost use Prim.Native.Nat.{_<_};
 
-// Each with a count of its own.
+// A kind of line; each has a count of its own.
 pub(crate) enum Kind {
     Sequence,
     Pair,

@@ -102,7 +102,7 @@ const LOWEST_KELVIN: f64 = 200.0;
 // The highest temperature that `ambient_at` takes, in kelvin.
 const HIGHEST_KELVIN: f64 = 500.0;
 
-// What a design is judged in: RT, and the excess over 37 °C between strands and between strand and scaffold.
+// Document 01's ambient, in which a design is judged: RT, and the excess over 37 °C between strands and between strand and scaffold.
 pub struct Ambient {
     pub rt: KcalPerMol,
     pub strand_excess: Kelvin,
