@@ -5,12 +5,12 @@ use Prim.Native.Nat.{ℕ, _≤_}
 use lib.Ieee.{Float, Format}
 use Rattle.doubles.specs.Size.{sgn, mag}
 
--- the two parts of ±a
+-- how far ±a lies over zero; `true` is minus
 abbrev pub overPart : Bool → ℕ → ℕ
 overPart false a = a
 overPart true a = 0
 
--- how far −a lies under zero, and +a not at all
+-- how far ±a lies under zero
 abbrev pub underPart : Bool → ℕ → ℕ
 underPart false a = 0
 underPart true a = a

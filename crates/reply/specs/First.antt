@@ -20,7 +20,7 @@ pub record Check : Type 0 where
 abbrev pub _if_ : Refusal → Bool → Check
 refusal if holds = record { refusal = refusal; holds = holds }
 
--- one check against the reply of those after it
+-- the refusal where its condition holds, and otherwise the reply of the checks after it
 abbrev pub orElse : Bool → Refusal → Reply → Reply
 orElse true refusal rest = Refused refusal
 orElse false refusal rest = rest

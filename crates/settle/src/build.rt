@@ -20,7 +20,9 @@ use statements::grammar::STRAND;
 use units::KcalPerMol;
 use units::KcalPerMolKelvin;
 
-// Document 01's limits, for which there is room here. The most user strands.
+// ---- document 01's limits, for which there is room here
+
+// The most user strands.
 pub(crate) const MOST_USERS: usize = 61;
 
 // The most positions.

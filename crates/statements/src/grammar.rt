@@ -4,7 +4,9 @@ ghost use Prim.Native.Nat.{_<_};
 ghost use Rattle.statements.specs.Grammar.{kindOf, sequenceKind, InRow, decoded, itemOf};
 use crate::words::spells;
 
-// The kinds of rows, of which `scaffold` gives one for each position. `kelvin`.
+// ---- the kinds of rows, each by its keyword; `scaffold` gives a row for each position
+
+// `kelvin`.
 pub const KELVIN: u8 = 0;
 
 // `ambient`.
@@ -54,7 +56,9 @@ pub enum Item {
     End,
 }
 
-// Items as bytes, to which the slot is added. No word.
+// ---- items as bytes, to which the slot is added
+
+// No word.
 const END: u8 = 0;
 
 // A number.
