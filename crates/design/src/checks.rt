@@ -1,4 +1,4 @@
-// The conditions on which a design is refused. The searches for a number out of its range say where the first one stands.
+// The conditions on which a design is refused.
 use super::friends::binds;
 use super::friends::is_friend_somewhere;
 use super::reads::bottom_glue;
@@ -92,28 +92,26 @@ fn wrong_sizes(scaffold: &[u8], glues: &[u8], dg: &[f64], ds: &[f64], potentials
     first_high_glue(glues) < glues.len()
 }
 
-// Where the first number outside low to high stands; how many there are where none is.
-fn first_outside(low: f64, high: f64, numbers: &[f64]) -> usize
-    ensures { λ r. ⌜ r ≡ firstIndex (outside low high) (now (numbers .entry)) ⌝ }
+// Whether some number is outside low to high. All are counted: a loop with one way out is one that the compiler takes several at a time.
+fn any_outside(low: f64, high: f64, numbers: &[f64]) -> bool
+    ensures { λ r. ⌜ r ≡ any (outside low high) (now (numbers .entry)) ⌝ }
 {
+    let mut count: usize = 0;
     let mut i = 0;
     while i < numbers.len() {
         if !doubles::in_range(low, high, numbers[i]) {
-            return i;
+            count += 1;
         }
         i += 1;
     }
-    i
+    0 < count
 }
 
 // Whether a cell of either table is out of its range.
 fn cells_out(dg: &[f64], ds: &[f64]) -> bool
     ensures { λ r. ⌜ r ≡ cellsOut (now (dg .entry)) (now (ds .entry)) ⌝ }
 {
-    if first_outside(-DG, DG, dg) < dg.len() {
-        return true;
-    }
-    first_outside(-DS, DS, ds) < ds.len()
+    any_outside(-DG, DG, dg) || any_outside(-DS, DS, ds)
 }
 
 // Whether RT or an excess is out of its range.
