@@ -32,7 +32,7 @@ fn fill_strand_row(
     }
 }
 
-// The bonds of each two strands.
+// The bonds of each two strands, into lent cells.
 pub(crate) fn strand_bonds(
     glues: &[u8],
     dg: &[f64],
@@ -84,7 +84,7 @@ fn fill_scaffold_row(
     }
 }
 
-// The bonds of each position and strand.
+// The bonds of each position and strand, into lent cells.
 pub(crate) fn scaffold_bonds(
     scaffold: &[u8],
     glues: &[u8],
