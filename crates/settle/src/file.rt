@@ -1,6 +1,6 @@
 // A file's bytes, or why they can't be had.
-use crate::reads::tail;
-use crate::reasons::Why;
+use answers::reads::tail;
+use answers::reasons::Why;
 
 pub(crate) enum FileRead {
     // How many; they stand first in the lent bytes.
