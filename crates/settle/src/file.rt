@@ -1,6 +1,6 @@
 // A file's bytes, or why they can't be had.
-use crate::reads::tail;
-use crate::reasons::Why;
+use answers::reads::tail;
+use answers::reasons::Why;
 
 // What became of a file that was to be read.
 pub(crate) enum FileRead {

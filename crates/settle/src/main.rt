@@ -2,29 +2,22 @@
 //
 // The first argument is --people or --json, the rest are names of files. A program has no exit status: whether all files were answered goes
 // to descriptor 3, as 0 or 1, where the script `settle` reads it.
-mod answers;
 mod build;
-mod draw;
 mod file;
 mod lines;
-mod names;
 mod place;
-mod print;
-mod reads;
-mod reasons;
 mod report;
 mod settle;
 mod unfit;
-mod words;
 
 ghost use mathlib.Core.Path.{_≡_};
 ghost use lib.ListN.{length};
 use answers::Spot;
+use answers::print::Style;
+use answers::reads::first_bytes;
+use answers::reasons::Why;
 use answers::unreadable;
 use file::FileRead;
-use print::Style;
-use reads::first_bytes;
-use reasons::Why;
 
 // Where the script waits for the status.
 const STATUS: i32 = 3;

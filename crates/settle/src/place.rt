@@ -1,11 +1,11 @@
 // Where in a file the reason of a refusal lies. Each is found by asking the calls again, of parts of the design.
-use crate::answers::Spot;
 use crate::build::glues_reply;
 use crate::build::reply_to;
 use crate::lines::word_on_line;
-use crate::reads::part;
-use crate::reads::place_at;
-use crate::reasons::Why;
+use answers::Spot;
+use answers::reads::part;
+use answers::reads::place_at;
+use answers::reasons::Why;
 use design::reads::byte_at;
 use reply::Refusal;
 use reply::Reply;
