@@ -6,6 +6,8 @@ pub mod reads;
 pub mod reasons;
 mod words;
 
+use design::reads::byte_at;
+use doubles::bits;
 use draw::draw;
 use names::Occupant;
 use names::occupant_of;
@@ -19,10 +21,8 @@ use print::print_hex;
 use reads::part;
 use reasons::Why;
 use reasons::print_reason;
-use words::print_trade_word;
-use design::reads::byte_at;
-use doubles::bits;
 use reply::Refusal;
+use words::print_trade_word;
 
 // Where in a file the reason lies. Line 0 is nowhere; a word of no bytes is none.
 pub struct Spot {
@@ -116,14 +116,7 @@ pub fn unreadable(style: Style, path: &[u8], text: &[u8], spot: Spot, why: Why) 
 }
 
 // A file whose design is refused, by which number, and why.
-pub fn refused(
-    style: Style,
-    path: &[u8],
-    text: &[u8],
-    refusal: Refusal,
-    spot: Spot,
-    why: Why,
-) {
+pub fn refused(style: Style, path: &[u8], text: &[u8], refusal: Refusal, spot: Spot, why: Why) {
     match style {
         Style::People => {
             print_bytes(path, style);
