@@ -8,3 +8,4 @@ pub mod Strands
 pub mod Published
 pub mod Replies
 pub mod SameSums
+pub mod Finite
