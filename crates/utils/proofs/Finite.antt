@@ -1,111 +1,50 @@
 -- No sum over sequences overflows: each term is small, and there are few. Assumes nothing.
-use mathlib.Core.Path.{_≡_, refl, _∙_}
-use mathlib.Core.Bool.{Bool, true, false, cond, _&&_}
-use mathlib.Core.List.{List, [], _∷_, map}
+use mathlib.Core.Path.{_≡_, refl}
+use mathlib.Core.Bool.{Bool, true, false, cond, not, _&&_, _||_, true≢false}
+use mathlib.Core.List.{List, [], _∷_, _++_, map}
 use Prim.Native.Nat.{ℕ, zero, suc, _+_, _-_, _*_, _^_, _≤_, _<_}
-use native.Mathlib.Nat.{le-trans, le-of-eq, lt-of-lt-of-le, lt-of-le-of-lt, zero-add, mul-le-mul-left, mul-le-mul-right, pow-le-pow-left}
+use native.Mathlib.Nat.{le-trans, lt-of-le-of-lt}
 use native.Mathlib.Omega.{arith}
-use lib.Dec.{T, ltb, leb, leb→le, lit≤}
-use lib.Pow.{pow-pos}
-use lib.ListN.{length, getD, length-map}
-use lib.Ieee.{Float, binary64, prec, low, round, add}
-use lib.Ieee.Fits.{round-fits}
-use borrow.Author.Tests.{ltb-true}
-use Rattle.lists.specs.Each.{Each}
-use Rattle.lists.specs.Find.{firstIndex}
+use lib.Dec.{T, eqb, lit≤, lit<}
+use lib.ListN.{length, length-map}
+use lib.Ieee.{Float, binary64, add, mul, fits}
+use borrow.Author.Tests.{ltb-true, ltb-false}
+use Rattle.lists.specs.Find.{any}
 use Rattle.lists.specs.Fold.{foldl}
-use Rattle.lists.proofs.Each.{each-all, each-getD, each-map, none-each}
+use Rattle.lists.proofs.Any.{neither}
+use Rattle.lists.proofs.Each.{each-all, each-map}
 use Rattle.doubles.specs.Decimal as Decimal
-use Rattle.doubles.specs.Decimal.{Decimal, nearest}
+use Rattle.doubles.specs.Sum.{sumFrom}
 use Rattle.doubles.specs.Size.{mag, Within}
-use Rattle.doubles.proofs.Size.{grid-le, round-mag, finite-of-mag, whole-lt}
-use Rattle.doubles.proofs.Sums.{weaken, add-within}
-use Rattle.doubles.proofs.Bounds.{zero-within, sum-within}
-use Rattle.utils.specs.Bases.{Base, complementary}
-use Rattle.utils.specs.Paper.{Stack, absent, find, stackOf, table1, Loop, noLoop, table4, figure, initiationDg, kilo, mismatchOf, table2}
-use Rattle.utils.specs.Figures.{stackDg, stackDs, entropyOf, startDg, startDs, penalty, mismatchDg, isLength, hasLength, loopEntry, loopDg}
-use Rattle.utils.specs.Single.{Neighbours, neighbours, figureOf, stackSum}
-use Rattle.utils.specs.Pair.{Window, windows, good, Sums, endsLoop, withLoop, afterGood, afterBad, noSums, step, pairSums}
-use Rattle.utils.specs.Finite.{SumsFinite}
-use Rattle.utils.specs.declared.bases.DnaNucleotideBase.the-variants.{A, T as Th, G, C}
+use Rattle.doubles.proofs.Sums.{weaken, add-within, sub-within}
+use Rattle.doubles.proofs.Products.{mul-within}
+use Rattle.doubles.proofs.Bounds.{zero-within, sum-within, in-range-within}
+use Rattle.reply.specs.First.{Check, _if_, firstOf, answer}
+use Rattle.reply.specs.Number.{numberOf}
+use Rattle.reply.specs.declared.Refusal.the-variants.{WrongSize, NotABase, TooShort, UnequalLengths, NoSuchLoop, OutOfRange}
+use Rattle.reply.specs.declared.Reply.{Reply}
+use Rattle.reply.specs.declared.Reply.the-variants.{Admitted, Refused}
+use Rattle.reply.proofs.First.{passes}
+use Rattle.utils.specs.Answers.{DgDsFigures, refusedDgDs, DgFigures, refusedDg}
+use Rattle.utils.specs.Bases.{Base, bases, notABase}
+use Rattle.utils.specs.Figures.{stackDg, stackDs, startDg, startDs, hasLength, loopDg}
+use Rattle.utils.specs.Single.{Neighbours, neighbours, figureOf, stackSum, tooLong, tooShort, sequenceChecks, stringDnaDgDs}
+use Rattle.utils.specs.Pair.{Window, windows, good, Sums, endsLoop, withLoop, afterGood, afterBad, noSums, step, pairSums, lacksLoop, pairChecks, sequencePairDgDs}
+use Rattle.utils.specs.Strength.{strengthAt, excessInRange, excessChecks, sequenceStrength, pairStrength}
+use Rattle.utils.specs.Finite.{SumsFinite, AnswersFinite}
 use Rattle.utils.specs.declared.tables.LoopKind.the-variants.{Internal}
+use Rattle.utils.proofs.Neighbours.{bases-length}
+use Rattle.utils.proofs.ThirtySeconds.{Parts, add-parts, weaken-parts, parts-within, zero-parts}
+use Rattle.utils.proofs.Small.{stack-energy, stack-entropy, start-energy, start-entropy, mismatch-energy, loop-energy}
 
--- ---- figures
+-- sums this small have room
+energy-sum : (j k : ℕ) (x y : Float) → j + k ≤ 1030 → Within binary64 j x → Within binary64 k y → Within binary64 (j + k) (add binary64 x y)
+energy-sum j k x y h p q = add-within binary64 j k x y p q (le-trans h (lit≤ tt))
 
--- at most a whole number in size
-abbrev small : ℕ → Decimal → Bool
-small most d = leb (d .digits) (most * 10 ^ d .places)
-
-nearest-within : (most : ℕ) → most ≤ 2 ^ prec binary64 → (d : Decimal) → T (small most d) → Within binary64 most (nearest d)
-unfolding nearest
-nearest-within most h d t =
-    let c = 10 ^ d .places in
-    let m : mag binary64 (round binary64 (d .negative) (d .digits) c) ≤ most * 2 ^ low binary64 =
-      le-trans (le-of-eq (round-mag binary64 (d .negative) (d .digits) c))
-      (grid-le binary64 (d .digits) c most (lt-of-lt-of-le (pow-pos (d .places)) (pow-le-pow-left (lit≤ tt) (d .places))) h (leb→le (d .digits) (most * c) t)) in
-    record {
-      real = record {
-        fit = round-fits binary64 (d .negative) (d .digits) c;
-        fini = finite-of-mag binary64 (round binary64 (d .negative) (d .digits) c) (lt-of-le-of-lt m (whole-lt binary64 most h));
-      };
-      size = m;
-    }
-
--- a test of every base
-abbrev every : (Base → Bool) → Bool
-every p = p A && (p Th && (p G && p C))
-
-first : (p q : Bool) → T (p && q) → T p
-first true q t = tt
-first false q t = absurd t
-
-second : (p q : Bool) → T (p && q) → T q
-second true q t = t
-second false q t = absurd t
-
-at-every : (p : Base → Bool) → T (every p) → (b : Base) → T (p b)
-at-every p t A = first (p A) _ t
-at-every p t Th = first (p Th) _ (second (p A) _ t)
-at-every p t G = first (p G) _ (second (p Th) _ (second (p A) _ t))
-at-every p t C = second (p G) _ (second (p Th) _ (second (p A) _ t))
-
-stack-within : (a b : Base) → Within binary64 3 (stackDg a b)
-unfolding stackDg stackOf find table1
-stack-within a b =
-    nearest-within 3 (lit≤ tt) (stackOf a b .dg)
-    (at-every (λ b. small 3 (stackOf a b .dg)) (at-every (λ a. every (λ b. small 3 (stackOf a b .dg))) tt a) b)
-
-entropy-within : (a b : Base) → Within binary64 1 (stackDs a b)
-unfolding stackDs entropyOf stackOf find table1
-entropy-within a b =
-    nearest-within 1 (lit≤ tt) (kilo (entropyOf a b))
-    (at-every (λ b. small 1 (kilo (entropyOf a b))) (at-every (λ a. every (λ b. small 1 (kilo (entropyOf a b)))) tt a) b)
-
-mismatch-within : (a1 a2 b1 b2 : Base) → Within binary64 2 (mismatchDg a1 a2 b1 b2)
-unfolding mismatchDg
-mismatch-within a1 a2 b1 b2 = go (complementary a1 b1) (complementary a2 b2)
-  where
-    row : (p x y : Base) → T (small 2 (mismatchOf p x y))
-    row p x =
-        at-every (λ y. small 2 (mismatchOf p x y))
-        (at-every (λ x. every (λ y. small 2 (mismatchOf p x y))) (at-every (λ p. every (λ x. every (λ y. small 2 (mismatchOf p x y)))) (unfold mismatchOf table2 in tt) p) x)
-
-    entry : (p x y : Base) → Within binary64 2 (penalty p x y)
-    entry p x y = unfold penalty in nearest-within 2 (lit≤ tt) (mismatchOf p x y) (row p x y)
-
-    go : (s t : Bool) → Within binary64 2 (cond s (penalty a1 a2 b2) (cond t (penalty b2 b1 a1) Decimal.zero))
-    go true t = entry a1 a2 b2
-    go false true = entry b2 b1 a1
-    go false false = weaken 2 (lit≤ tt) zero-within
-
-loop-within : (n : ℕ) → Within binary64 7 (loopDg Internal n)
-unfolding loopDg loopEntry table4
-loop-within n =
-    let l = getD table4 (firstIndex (isLength n) table4) noLoop in
-    nearest-within 7 (lit≤ tt) (figure Internal l)
-    (each-getD (λ (l : Loop). T (small 7 (figure Internal l))) table4 noLoop
-    (tt, (tt, (tt, (tt, (tt, (tt, (tt, (tt, (tt, (tt, (tt, (tt, (tt, (tt, (tt, tt))))))))))))))) tt
-    (firstIndex (isLength n) table4))
+entropy-sum : (n : ℕ) (x y : Float) → n < 256 → Parts binary64 n x → Parts binary64 1 y → Parts binary64 (suc n) (add binary64 x y)
+entropy-sum n x y h p q =
+    let few : n + 1 ≤ 256 = omega arith in
+    weaken-parts (suc n) (omega arith) (add-parts binary64 n 1 x y (lt-of-le-of-lt few (lit< tt)) p q)
 
 -- ---- one strand
 
@@ -115,18 +54,26 @@ few-neighbours [] = omega arith
 few-neighbours (a ∷ []) = omega arith
 few-neighbours (a ∷ b ∷ s) = omega (arith, few-neighbours (b ∷ s))
 
-stacks-within : (f : Base → Base → Float) (E : ℕ) → E ≤ 3 → ((a b : Base) → Within binary64 E (f a b)) → (s : List Base) → length s ≤ 256
-    → Within binary64 (255 * E) (stackSum f s)
+one-energy : (s : List Base) → length s ≤ 256 → Within binary64 765 (stackSum stackDg s)
 unfolding stackSum
-stacks-within f E e h s l =
-    let terms = map (figureOf f) (neighbours s) in
+one-energy s h =
+    let terms = map (figureOf stackDg) (neighbours s) in
     let few : length terms ≤ 255 = simp length-map (omega (arith, few-neighbours s)) in
-    let most : 0 + length terms * E ≤ 255 * E = simp zero-add (mul-le-mul-right E few) in
-    let room : 255 * E ≤ 2 ^ prec binary64 = le-trans (mul-le-mul-left 255 e) (lit≤ tt) in
-    weaken (255 * E) most
-    (sum-within E 0 Decimal.zero terms zero-within
-    (each-map (λ (n : Neighbours). Unit) (Within binary64 E) (figureOf f) (λ n u. h (n .first) (n .second)) (neighbours s) (each-all (λ (n : Neighbours). Unit) (λ n. tt) (neighbours s)))
-    (le-trans most room))
+    let most : 0 + length terms * 3 ≤ 765 = omega arith in
+    weaken 765 most
+    (sum-within 3 0 Decimal.zero terms zero-within
+    (each-map (λ n. Unit) (Within binary64 3) (figureOf stackDg) (λ n u. stack-energy (n .first) (n .second)) (neighbours s) (each-all (λ n. Unit) (λ n. tt) (neighbours s)))
+    (le-trans most (lit≤ tt)))
+
+entropies : (n : ℕ) (sum : Float) (rest : List Neighbours) → n + length rest ≤ 255 → Parts binary64 n sum → Parts binary64 255 (sumFrom sum (map (figureOf stackDs) rest))
+unfolding sumFrom
+entropies n sum [] h p = weaken-parts 255 (omega arith) p
+entropies n sum (x ∷ rest) h p =
+    entropies (suc n) (add binary64 sum (figureOf stackDs x)) rest (omega arith) (entropy-sum n sum (figureOf stackDs x) (omega arith) p (stack-entropy (x .first) (x .second)))
+
+one-entropy : (s : List Base) → length s ≤ 256 → Parts binary64 255 (stackSum stackDs s)
+unfolding stackSum
+one-entropy s h = entropies 0 Decimal.zero (neighbours s) (omega (arith, few-neighbours s)) zero-parts
 
 -- ---- two strands
 
@@ -143,11 +90,7 @@ record Kept (n : ℕ) (s : Sums) : Type 0 where
   most : ℕ
   left : most + 2 * s .bad ≤ 4 * n
   energy : Within binary64 most (s .dg)
-  entropy : Within binary64 n (s .ds)
-
--- sums of up to 1,030 have room
-plus-within : (j k : ℕ) (x y : Float) → j + k ≤ 1030 → Within binary64 j x → Within binary64 k y → Within binary64 (j + k) (add binary64 x y)
-plus-within j k x y h p q = add-within binary64 j k x y p q (le-trans h (lit≤ tt))
+  entropy : Parts binary64 n (s .ds)
 
 module _ (n : ℕ) (s : Sums) (below : n < 255) (kept : Kept n s) where
   -- three bad windows or more have left 6 for the loop
@@ -157,7 +100,7 @@ module _ (n : ℕ) (s : Sums) (below : n < 255) (kept : Kept n s) where
       go : (ends has : Bool) → (ends ≡ true → 2 < s .bad) → Within binary64 (4 * suc n) (cond (ends && has) (add binary64 dg (loopDg Internal (s .bad - 1))) dg)
       go true true h =
           let k = h refl in
-          weaken (4 * suc n) (omega (arith, kept .left)) (plus-within (kept .most + 3) 7 dg (loopDg Internal (s .bad - 1)) (omega (arith, kept .left)) w (loop-within (s .bad - 1)))
+          weaken (4 * suc n) (omega (arith, kept .left)) (energy-sum (kept .most + 3) 7 dg (loopDg Internal (s .bad - 1)) (omega (arith, kept .left)) w (loop-energy (s .bad - 1)))
       go true false h = weaken (4 * suc n) (omega (arith, kept .left)) w
       go false has h = weaken (4 * suc n) (omega (arith, kept .left)) w
 
@@ -166,8 +109,8 @@ module _ (n : ℕ) (s : Sums) (below : n < 255) (kept : Kept n s) where
       record {
         most = 4 * suc n;
         left = omega arith;
-        energy = after-loop (add binary64 (s .dg) (stackDg a1 a2)) (plus-within (kept .most) 3 (s .dg) (stackDg a1 a2) (omega (arith, kept .left)) (kept .energy) (stack-within a1 a2));
-        entropy = weaken (suc n) (omega arith) (plus-within n 1 (s .ds) (stackDs a1 a2) (omega arith) (kept .entropy) (entropy-within a1 a2));
+        energy = after-loop (add binary64 (s .dg) (stackDg a1 a2)) (energy-sum (kept .most) 3 (s .dg) (stackDg a1 a2) (omega (arith, kept .left)) (kept .energy) (stack-energy a1 a2));
+        entropy = entropy-sum n (s .ds) (stackDs a1 a2) (omega arith) (kept .entropy) (stack-entropy a1 a2);
       }
 
   bad-kept : (w : Window) → Kept (suc n) (afterBad (loopDg Internal) hasLength s w)
@@ -175,8 +118,8 @@ module _ (n : ℕ) (s : Sums) (below : n < 255) (kept : Kept n s) where
       record {
         most = kept .most + 2;
         left = omega (arith, kept .left);
-        energy = plus-within (kept .most) 2 (s .dg) _ (omega (arith, kept .left)) (kept .energy) (mismatch-within (w .a1) (w .a2) (w .b1) (w .b2));
-        entropy = weaken (suc n) (omega arith) (kept .entropy);
+        energy = energy-sum (kept .most) 2 (s .dg) _ (omega (arith, kept .left)) (kept .energy) (mismatch-energy (w .a1) (w .a2) (w .b1) (w .b2));
+        entropy = weaken-parts (suc n) (omega arith) (kept .entropy);
       }
 
   step-kept : (w : Window) → Kept (suc n) (step s w)
@@ -189,21 +132,83 @@ module _ (n : ℕ) (s : Sums) (below : n < 255) (kept : Kept n s) where
 
 all-kept : (n : ℕ) (s : Sums) (ws : List Window) → n + length ws ≤ 255 → Kept n s → Kept 255 (foldl step s ws)
 unfolding foldl
-all-kept n s [] h k = record { most = k .most; left = omega (arith, k .left); energy = k .energy; entropy = weaken 255 (omega arith) (k .entropy) }
+all-kept n s [] h k = record { most = k .most; left = omega (arith, k .left); energy = k .energy; entropy = weaken-parts 255 (omega arith) (k .entropy) }
 all-kept n s (w ∷ ws) h k = all-kept (suc n) (step s w) ws (omega arith) (step-kept n s (omega arith) k w)
 
 none-kept : Kept 0 noSums
-none-kept = record { most = 0; left = omega arith; energy = zero-within; entropy = zero-within }
+none-kept = record { most = 0; left = omega arith; energy = zero-within; entropy = zero-parts }
 
 pair-kept : (a b : List Base) → length a ≤ 256 → Kept 255 (pairSums a b)
 unfolding pairSums
 pair-kept a b h = all-kept 0 noSums (windows a b) (omega (arith, few-windows a b)) none-kept
 
+pair-energy : (a b : List Base) → length a ≤ 256 → Within binary64 1020 (pairSums a b .dg)
+pair-energy a b h = let k = pair-kept a b h in weaken 1020 (omega (arith, k .left)) (k .energy)
+
 pub sums-finite : SumsFinite
 sums-finite =
     record {
-      stackEnergy = stacks-within stackDg 3 (lit≤ tt) stack-within;
-      stackEntropy = stacks-within stackDs 1 (lit≤ tt) entropy-within;
-      pairEnergy = λ a b h. let k = pair-kept a b h in weaken 1020 (omega (arith, k .left)) (k .energy);
-      pairEntropy = λ a b h. pair-kept a b h .entropy;
+      stackEnergy = one-energy;
+      stackEntropy = λ s h. parts-within binary64 255 8 _ (lit≤ tt) (one-entropy s h);
+      pairEnergy = pair-energy;
+      pairEntropy = λ a b h. parts-within binary64 255 8 _ (lit≤ tt) (pair-kept a b h .entropy);
+    }
+
+-- ---- answers
+
+-- what holds of a refusal, and of what is given where all checks are passed, holds of the answer
+of-answer : {X : Type 0} (P : X → Type 0) (reply : Reply) (refused : ℕ → X) (given : X) → ((number : ℕ) → P (refused number)) → (reply ≡ Admitted → P given) → P (answer reply refused given)
+of-answer P Admitted refused given none some = some refl
+of-answer P (Refused refusal) refused given none some = none (numberOf refusal)
+
+-- of checks one after the other all are passed
+both-passed : (cs ds : List Check) → firstOf (cs ++ ds) ≡ Admitted → (firstOf cs ≡ Admitted) × (firstOf ds ≡ Admitted)
+both-passed [] ds e = (refl, e)
+both-passed (c ∷ cs) ds e =
+    let p = passes c (cs ++ ds) e in
+    let r = both-passed cs ds (p .1) in
+    (rw (p .0) (r .0), r .1)
+
+sequence-short : (s : List ℕ) → firstOf (sequenceChecks s) ≡ Admitted → length (bases s) ≤ 256
+sequence-short s e = rw (bases-length s) (ltb-false 256 (length s) (passes (WrongSize if tooLong s) (NotABase if any notABase s ∷ TooShort if tooShort s ∷ []) e .0))
+
+pair-short : (a b : List ℕ) → firstOf (pairChecks a b) ≡ Admitted → length (bases a) ≤ 256
+pair-short a b e =
+    let p = both-passed (WrongSize if (tooLong a || tooLong b) ∷ []) (NotABase if (any notABase a || any notABase b) ∷ UnequalLengths if not (eqb (length a) (length b)) ∷ NoSuchLoop if lacksLoop a b ∷ []) e in
+    rw (bases-length a) (ltb-false 256 (length a) (neither (tooLong a) (tooLong b) (passes (WrongSize if (tooLong a || tooLong b)) [] (p .0) .0) .0))
+
+excess-within : (x : Float) → T (fits binary64 x) → firstOf (excessChecks x) ≡ Admitted → Within binary64 1024 x
+unfolding excessInRange
+excess-within x t e = in-range-within 1024 (lit≤ tt) x t (in-range (excessInRange x) (passes (OutOfRange if not (excessInRange x)) [] e .0))
+  where
+    in-range : (t : Bool) → not t ≡ false → t ≡ true
+    in-range true h = refl
+    in-range false h = absurd (true≢false h)
+
+-- with the initiation
+start-sum : {x : Float} → Parts binary64 255 x → Within binary64 8 (add binary64 x startDs)
+start-sum {x} p = parts-within binary64 256 8 _ (lit≤ tt) (entropy-sum 255 x startDs (lit< tt) p start-entropy)
+
+strength-within : (most : ℕ) → most ≤ 1020 → (excess dg ds : Float) → Within binary64 1024 excess → Within binary64 most dg → Parts binary64 255 ds → Within binary64 (most + 2 + 8192) (strengthAt excess dg ds)
+unfolding strengthAt
+strength-within most h excess dg ds e p q =
+    let few : most + 2 + 8192 ≤ 9214 = omega arith in
+    sub-within binary64 (most + 2) 8192 _ _ (energy-sum most 2 dg startDg (omega arith) p start-energy) (mul-within binary64 1024 8 excess _ e (start-sum q) (lit≤ tt)) (le-trans few (lit≤ tt))
+
+-- 0.0
+none-within : (most : ℕ) → Within binary64 most Decimal.zero
+none-within most = weaken most (omega arith) zero-within
+
+pub answers-finite : AnswersFinite
+unfolding stringDnaDgDs sequencePairDgDs sequenceStrength pairStrength
+answers-finite =
+    record {
+      sequenceDg = λ s. of-answer (λ (r : DgDsFigures). Within binary64 767 (r .dg)) (firstOf (sequenceChecks s)) refusedDgDs _ (λ n. none-within 767) (λ e. energy-sum 765 2 _ startDg (lit≤ tt) (one-energy (bases s) (sequence-short s e)) start-energy);
+      sequenceDs = λ s. of-answer (λ (r : DgDsFigures). Within binary64 8 (r .ds)) (firstOf (sequenceChecks s)) refusedDgDs _ (λ n. none-within 8) (λ e. start-sum (one-entropy (bases s) (sequence-short s e)));
+      pairDg = λ a b. of-answer (λ (r : DgDsFigures). Within binary64 1020 (r .dg)) (firstOf (pairChecks a b)) refusedDgDs _ (λ n. none-within 1020) (λ e. pair-energy (bases a) (bases b) (pair-short a b e));
+      pairDs = λ a b. of-answer (λ (r : DgDsFigures). Within binary64 8 (r .ds)) (firstOf (pairChecks a b)) refusedDgDs _ (λ n. none-within 8) (λ e. parts-within binary64 255 8 _ (lit≤ tt) (pair-kept (bases a) (bases b) (pair-short a b e) .entropy));
+      sequenceStrengthDg = λ s x t. of-answer (λ (r : DgFigures). Within binary64 8959 (r .dg)) (firstOf (sequenceChecks s ++ excessChecks x)) refusedDg _ (λ n. none-within 8959)
+        (λ e. let p = both-passed (sequenceChecks s) (excessChecks x) e in let h = sequence-short s (p .0) in strength-within 765 (lit≤ tt) x _ _ (excess-within x t (p .1)) (one-energy (bases s) h) (one-entropy (bases s) h));
+      pairStrengthDg = λ a b x t. of-answer (λ (r : DgFigures). Within binary64 9214 (r .dg)) (firstOf (pairChecks a b ++ excessChecks x)) refusedDg _ (λ n. none-within 9214)
+        (λ e. let p = both-passed (pairChecks a b) (excessChecks x) e in let h = pair-short a b (p .0) in strength-within 1020 (lit≤ tt) x _ _ (excess-within x t (p .1)) (pair-energy (bases a) (bases b) h) (pair-kept (bases a) (bases b) h .entropy));
     }
