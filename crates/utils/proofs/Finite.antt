@@ -2,12 +2,12 @@
 use mathlib.Core.Path.{_≡_, refl}
 use mathlib.Core.Bool.{Bool, true, false, cond, not, _&&_, _||_, true≢false}
 use mathlib.Core.List.{List, [], _∷_, _++_, map}
-use Prim.Native.Nat.{ℕ, zero, suc, _+_, _-_, _*_, _^_, _≤_, _<_}
+use Prim.Native.Nat.{ℕ, suc, _+_, _-_, _*_, _≤_, _<_}
 use native.Mathlib.Nat.{le-trans, lt-of-le-of-lt}
 use native.Mathlib.Omega.{arith}
 use lib.Dec.{T, eqb, lit≤, lit<}
 use lib.ListN.{length, length-map}
-use lib.Ieee.{Float, binary64, add, mul, fits}
+use lib.Ieee.{Float, binary64, add, fits}
 use borrow.Author.Tests.{ltb-true, ltb-false}
 use Rattle.lists.specs.Find.{any}
 use Rattle.lists.specs.Fold.{foldl}
@@ -15,7 +15,7 @@ use Rattle.lists.proofs.Any.{neither}
 use Rattle.lists.proofs.Each.{each-all, each-map}
 use Rattle.doubles.specs.Decimal as Decimal
 use Rattle.doubles.specs.Sum.{sumFrom}
-use Rattle.doubles.specs.Size.{mag, Within}
+use Rattle.doubles.specs.Size.{Within}
 use Rattle.doubles.proofs.Sums.{weaken, add-within, sub-within}
 use Rattle.doubles.proofs.Products.{mul-within}
 use Rattle.doubles.proofs.Bounds.{zero-within, sum-within, in-range-within}
@@ -145,13 +145,16 @@ pair-kept a b h = all-kept 0 noSums (windows a b) (omega (arith, few-windows a b
 pair-energy : (a b : List Base) → length a ≤ 256 → Within binary64 1020 (pairSums a b .dg)
 pair-energy a b h = let k = pair-kept a b h in weaken 1020 (omega (arith, k .left)) (k .energy)
 
+pair-entropy : (a b : List Base) → length a ≤ 256 → Within binary64 8 (pairSums a b .ds)
+pair-entropy a b h = parts-within binary64 255 8 _ (lit≤ tt) (pair-kept a b h .entropy)
+
 pub sums-finite : SumsFinite
 sums-finite =
     record {
       stackEnergy = one-energy;
       stackEntropy = λ s h. parts-within binary64 255 8 _ (lit≤ tt) (one-entropy s h);
       pairEnergy = pair-energy;
-      pairEntropy = λ a b h. parts-within binary64 255 8 _ (lit≤ tt) (pair-kept a b h .entropy);
+      pairEntropy = pair-entropy;
     }
 
 -- ---- answers
@@ -174,8 +177,9 @@ sequence-short s e = rw (bases-length s) (ltb-false 256 (length s) (passes (Wron
 
 pair-short : (a b : List ℕ) → firstOf (pairChecks a b) ≡ Admitted → length (bases a) ≤ 256
 pair-short a b e =
-    let p = both-passed (WrongSize if (tooLong a || tooLong b) ∷ []) (NotABase if (any notABase a || any notABase b) ∷ UnequalLengths if not (eqb (length a) (length b)) ∷ NoSuchLoop if lacksLoop a b ∷ []) e in
-    rw (bases-length a) (ltb-false 256 (length a) (neither (tooLong a) (tooLong b) (passes (WrongSize if (tooLong a || tooLong b)) [] (p .0) .0) .0))
+    let rest = NotABase if (any notABase a || any notABase b) ∷ UnequalLengths if not (eqb (length a) (length b)) ∷ NoSuchLoop if lacksLoop a b ∷ [] in
+    let short = passes (WrongSize if (tooLong a || tooLong b)) rest e .0 in
+    rw (bases-length a) (ltb-false 256 (length a) (neither (tooLong a) (tooLong b) short .0))
 
 excess-within : (x : Float) → T (fits binary64 x) → firstOf (excessChecks x) ≡ Admitted → Within binary64 1024 x
 unfolding excessInRange
@@ -199,16 +203,38 @@ strength-within most h excess dg ds e p q =
 none-within : (most : ℕ) → Within binary64 most Decimal.zero
 none-within most = weaken most (omega arith) zero-within
 
+sequence-strength-within : (s : List ℕ) (x : Float) → T (fits binary64 x) → firstOf (sequenceChecks s ++ excessChecks x) ≡ Admitted
+    → Within binary64 8959 (strengthAt x (stackSum stackDg (bases s)) (stackSum stackDs (bases s)))
+sequence-strength-within s x t e =
+    let p = both-passed (sequenceChecks s) (excessChecks x) e in
+    let h = sequence-short s (p .0) in
+    strength-within 765 (lit≤ tt) x _ _ (excess-within x t (p .1)) (one-energy (bases s) h) (one-entropy (bases s) h)
+
+pair-strength-within : (a b : List ℕ) (x : Float) → T (fits binary64 x) → firstOf (pairChecks a b ++ excessChecks x) ≡ Admitted
+    → Within binary64 9214 (strengthAt x (pairSums (bases a) (bases b) .dg) (pairSums (bases a) (bases b) .ds))
+pair-strength-within a b x t e =
+    let p = both-passed (pairChecks a b) (excessChecks x) e in
+    let h = pair-short a b (p .0) in
+    strength-within 1020 (lit≤ tt) x _ _ (excess-within x t (p .1)) (pair-energy (bases a) (bases b) h) (pair-kept (bases a) (bases b) h .entropy)
+
+-- a figure of an answer
+energy-of : (most : ℕ) (checks : List Check) (given : DgDsFigures) → (firstOf checks ≡ Admitted → Within binary64 most (given .dg)) → Within binary64 most (answer (firstOf checks) refusedDgDs given .dg)
+energy-of most checks given = of-answer (λ (r : DgDsFigures). Within binary64 most (r .dg)) (firstOf checks) refusedDgDs given (λ n. none-within most)
+
+entropy-of : (most : ℕ) (checks : List Check) (given : DgDsFigures) → (firstOf checks ≡ Admitted → Within binary64 most (given .ds)) → Within binary64 most (answer (firstOf checks) refusedDgDs given .ds)
+entropy-of most checks given = of-answer (λ (r : DgDsFigures). Within binary64 most (r .ds)) (firstOf checks) refusedDgDs given (λ n. none-within most)
+
+strength-of : (most : ℕ) (checks : List Check) (given : DgFigures) → (firstOf checks ≡ Admitted → Within binary64 most (given .dg)) → Within binary64 most (answer (firstOf checks) refusedDg given .dg)
+strength-of most checks given = of-answer (λ (r : DgFigures). Within binary64 most (r .dg)) (firstOf checks) refusedDg given (λ n. none-within most)
+
 pub answers-finite : AnswersFinite
 unfolding stringDnaDgDs sequencePairDgDs sequenceStrength pairStrength
 answers-finite =
     record {
-      sequenceDg = λ s. of-answer (λ (r : DgDsFigures). Within binary64 767 (r .dg)) (firstOf (sequenceChecks s)) refusedDgDs _ (λ n. none-within 767) (λ e. energy-sum 765 2 _ startDg (lit≤ tt) (one-energy (bases s) (sequence-short s e)) start-energy);
-      sequenceDs = λ s. of-answer (λ (r : DgDsFigures). Within binary64 8 (r .ds)) (firstOf (sequenceChecks s)) refusedDgDs _ (λ n. none-within 8) (λ e. start-sum (one-entropy (bases s) (sequence-short s e)));
-      pairDg = λ a b. of-answer (λ (r : DgDsFigures). Within binary64 1020 (r .dg)) (firstOf (pairChecks a b)) refusedDgDs _ (λ n. none-within 1020) (λ e. pair-energy (bases a) (bases b) (pair-short a b e));
-      pairDs = λ a b. of-answer (λ (r : DgDsFigures). Within binary64 8 (r .ds)) (firstOf (pairChecks a b)) refusedDgDs _ (λ n. none-within 8) (λ e. parts-within binary64 255 8 _ (lit≤ tt) (pair-kept (bases a) (bases b) (pair-short a b e) .entropy));
-      sequenceStrengthDg = λ s x t. of-answer (λ (r : DgFigures). Within binary64 8959 (r .dg)) (firstOf (sequenceChecks s ++ excessChecks x)) refusedDg _ (λ n. none-within 8959)
-        (λ e. let p = both-passed (sequenceChecks s) (excessChecks x) e in let h = sequence-short s (p .0) in strength-within 765 (lit≤ tt) x _ _ (excess-within x t (p .1)) (one-energy (bases s) h) (one-entropy (bases s) h));
-      pairStrengthDg = λ a b x t. of-answer (λ (r : DgFigures). Within binary64 9214 (r .dg)) (firstOf (pairChecks a b ++ excessChecks x)) refusedDg _ (λ n. none-within 9214)
-        (λ e. let p = both-passed (pairChecks a b) (excessChecks x) e in let h = pair-short a b (p .0) in strength-within 1020 (lit≤ tt) x _ _ (excess-within x t (p .1)) (pair-energy (bases a) (bases b) h) (pair-kept (bases a) (bases b) h .entropy));
+      sequenceDg = λ s. energy-of 767 (sequenceChecks s) _ (λ e. energy-sum 765 2 _ startDg (lit≤ tt) (one-energy (bases s) (sequence-short s e)) start-energy);
+      sequenceDs = λ s. entropy-of 8 (sequenceChecks s) _ (λ e. start-sum (one-entropy (bases s) (sequence-short s e)));
+      pairDg = λ a b. energy-of 1020 (pairChecks a b) _ (λ e. pair-energy (bases a) (bases b) (pair-short a b e));
+      pairDs = λ a b. entropy-of 8 (pairChecks a b) _ (λ e. pair-entropy (bases a) (bases b) (pair-short a b e));
+      sequenceStrengthDg = λ s x t. strength-of 8959 (sequenceChecks s ++ excessChecks x) _ (sequence-strength-within s x t);
+      pairStrengthDg = λ a b x t. strength-of 9214 (pairChecks a b ++ excessChecks x) _ (pair-strength-within a b x t);
     }

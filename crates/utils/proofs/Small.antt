@@ -1,11 +1,11 @@
 -- How large the figures of the tables are: each entry is tested. Assumes nothing.
 use mathlib.Core.Bool.{Bool, true, false, cond, _&&_}
-use Prim.Native.Nat.{ℕ, _*_, _^_, _≤_, _<_}
+use Prim.Native.Nat.{ℕ, _*_, _^_, _<_}
 use native.Mathlib.Nat.{le-refl, lt-of-lt-of-le, pow-le-pow-left}
 use lib.Dec.{T, leb, leb→le, lit≤, lit<}
 use lib.Pow.{pow-pos}
 use lib.ListN.{getD}
-use lib.Ieee.{Float, binary64, prec}
+use lib.Ieee.{binary64, prec}
 use Rattle.lists.specs.Find.{firstIndex}
 use Rattle.lists.proofs.Each.{each-getD}
 use Rattle.doubles.specs.Decimal.{Decimal, nearest, zero}

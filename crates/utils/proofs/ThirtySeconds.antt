@@ -1,4 +1,4 @@
--- Doubles of at most n / 32 in size: how large a sum of them gets. A stack's entropy is one of 1 / 32. Assumes nothing.
+-- Doubles of at most n / 32 in size, and what becomes of them in sums: the entropy of a stack is at most 1 / 32. Assumes nothing.
 use mathlib.Core.Path.{_≡_, refl, sym, ap, _∙_}
 use mathlib.Core.Bool.{Bool, true, false}
 use Prim.Native.Nat.{ℕ, _+_, _-_, _*_, _^_, _≤_, _<_}
