@@ -20,11 +20,13 @@ pub record SumsFinite : Type 0 where
   pub pairEnergy : (a b : List Base) → length a ≤ 256 → Within binary64 1020 (pairSums a b .dg)
   pub pairEntropy : (a b : List Base) → length a ≤ 256 → Within binary64 8 (pairSums a b .ds)
 
--- The answers, to whatever is sent, with the initiation where it is added; a refusal has 0.0. Figures are within the ranges of cells,
--- dG ±1,024 and dS ±8.
+-- The answers, to whatever is sent: a refusal has 0.0. Figures are within the ranges of cells, dG ±1,024 and dS ±8. No step of a strength
+-- overflows either: neither an infinity nor a NaN comes to be finite by adding, subtracting or multiplying.
 pub record AnswersFinite : Type 0 where
+  -- with the initiation, 2 in dG and 1/32 in dS
   pub sequenceDg : (sequence : List ℕ) → Within binary64 767 (stringDnaDgDs sequence .dg)
   pub sequenceDs : (sequence : List ℕ) → Within binary64 8 (stringDnaDgDs sequence .ds)
+  -- without it
   pub pairDg : (a b : List ℕ) → Within binary64 1020 (sequencePairDgDs a b .dg)
   pub pairDs : (a b : List ℕ) → Within binary64 8 (sequencePairDgDs a b .ds)
   -- 767 + 1,024 × 8, and 1,022 + 1,024 × 8, for any double as the excess
