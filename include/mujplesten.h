@@ -3,10 +3,13 @@
  *
  * Link with libexports.a (x86-64 Linux); it needs no other library.
  *
- * Sequences. A sequence is a pointer and a length in bytes. Its letters are a, c, g, t in either
- * case; it need not end in a NUL. With length 0 nothing is read through the pointer, which may then
- * be null. Of two sequences the second is read by index beside the first, not backwards: "aac" pairs
- * with "ttg" without a mismatch.
+ * Slices. A slice is a pointer and a length in elements. The caller sees to it that the pointer is
+ * good for that many elements and aligned for their type, and that a slice lent to be written
+ * overlaps no other of the call; the proofs take this for granted, and nothing checks it. With length
+ * 0 nothing is read or written through the pointer, which may then be null.
+ *
+ * Sequences. Letters are a, c, g, t in either case; no NUL ends a sequence. Of two sequences the
+ * second is read by index beside the first, not backwards: "aac" pairs with "ttg" without a mismatch.
  *
  * Replies. A function that ends in _reply answers 0, or the number for which the call is refused:
  *
@@ -19,7 +22,7 @@
  *    3 short    a single sequence of fewer than 2 bases
  *    4 unequal  paired sequences of different length
  *    5 loop     a loop kind other than 0, 1, 2, or a loop length that the table lacks
- *    6 unknown  a scaffold name that no strand glue has, as it is spelled
+ *    6 unknown  a scaffold name that is neither the base of a strand glue nor that base with one star
  *    7 glues    the strands use more than 31 base names
  *    8 twice    two energy entries name the same unordered pair of known names
  *    9 range    a number not finite or outside its range; an entry of a configuration above 63 that is
@@ -150,7 +153,7 @@ uint32_t mj_params_reply(
  *
  * Every call checks all of the design. A strand is a friend at a position if dG or dS is nonzero at
  * the cell of the position's glue and the strand's bottom glue. A configuration has an occupant for
- * each position, 0 for an empty place; a state is one whose occupants are friends. */
+ * each position, 0 for an empty place; a state is one that has 0 or a friend at each position. */
 #define MJ_DESIGN                                                                              \
     const uint8_t *scaffold, size_t positions, const uint8_t *glues, size_t glue_count,        \
         const double *dg, size_t dg_cells, const double *ds, size_t ds_cells,                  \
@@ -184,8 +187,8 @@ uint32_t mj_state_reply(MJ_DESIGN, uint64_t rank, uint8_t *entries, size_t lent)
 uint32_t mj_state_energy_reply(MJ_DESIGN, const uint8_t *configuration, size_t n);
 uint64_t mj_state_energy(MJ_DESIGN, const uint8_t *configuration, size_t n);
 
-/* The chain energy of a configuration, in kcal/mol, and the bare sum that RT is multiplied by.
- * Replies 1, 9, 10, 11. */
+/* RT times the chain energy of a configuration, in kcal/mol; mj_chain_sum is the chain energy
+ * itself, a plain number. Replies 1, 9, 10, 11. */
 uint32_t mj_chain_energy_reply(MJ_DESIGN, const uint8_t *configuration, size_t n);
 uint64_t mj_chain_energy(MJ_DESIGN, const uint8_t *configuration, size_t n);
 uint64_t mj_chain_sum(MJ_DESIGN, const uint8_t *configuration, size_t n);

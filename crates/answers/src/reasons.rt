@@ -120,7 +120,7 @@ fn print_refusal_reason(why: Why) {
             b"a sequence has 2 bases at least. Correct it, or give dg and ds",
         ),
         Why::UnknownName => print(
-            b"no strand has this glue as it is spelled here. Correct it, add a strand that has it, or write - for a position with no glue",
+            b"no strand has this glue; on the scaffold a glue has no star or one. Correct it, add a strand that has it, or write - for a position with no glue",
         ),
         Why::TooManyGlues => print(
             b"with this strand the glues have more than 31 base names, a and a* being one. Use glues again",

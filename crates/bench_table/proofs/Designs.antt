@@ -21,7 +21,7 @@ use Rattle.design.specs.Checks.{wrongSizes, cellsOut, ambientOut, somewhere, po
 use Rattle.design.specs.Answers.{given, refused, countAnswer, rankAnswer, rankEntries}
 use Rattle.mfe.specs.Answers.{searchAnswer, searchEntries}
 use Rattle.bench_table.specs.Designs.{bare, onePosition, twoPositions}
-use Rattle.bench_table.specs.Zeros.{tiny, TwoZeros}
+use Rattle.bench_table.specs.Ties.{tiny, TwoZeros, close, OneProduct}
 
 -- What a line unfolds: the checks of a design, and the model that it gives.
 unfoldable checked : ℕ
@@ -88,3 +88,18 @@ tiny-walk = refl
 
 pub two-zeros : TwoZeros
 two-zeros = record { energy = tiny-energy; configuration = tiny-configuration; walked = tiny-walk }
+
+close-same : chainProduct (modelOf close) (2 ∷ []) ≡ chainProduct (modelOf close) (1 ∷ [])
+unfolding searched close nearest chainTerms chainEnergy chainProduct sumFrom
+close-same = refl
+
+close-configuration : (x : ℕ) → searchEntries close (x ∷ []) ≡ 1 ∷ []
+unfolding searched close nearest
+close-configuration x = refl
+
+close-smaller : lt (chainEnergy (modelOf close) (2 ∷ [])) (chainEnergy (modelOf close) (1 ∷ [])) ≡ true
+unfolding searched close nearest chainTerms chainEnergy sumFrom
+close-smaller = refl
+
+pub one-product : OneProduct
+one-product = record { smaller = close-smaller; same = close-same; configuration = close-configuration }

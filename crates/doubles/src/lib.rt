@@ -4,7 +4,7 @@ ghost use lib.Ieee as Ieee;
 ghost use lib.Ieee.{binary64};
 ghost use Rattle.doubles.specs.Range.{within};
 
-// Whether x is finite and from low to high, both included. A NaN is in no range.
+// Whether x is from low to high, both included. A NaN is in no range, and between finite ends no infinity is.
 pub fn in_range(low: f64, high: f64, x: f64) -> bool
     ensures { λ r. ⌜ r ≡ within low high x ⌝ }
 {

@@ -14,7 +14,7 @@ pub enum Refusal {
     UnequalLengths,
     // loop: a loop kind or a loop length that the table lacks
     NoSuchLoop,
-    // unknown: a scaffold name that no strand glue has
+    // unknown: a scaffold name that is neither the base of a strand glue nor that base with one star
     UnknownName,
     // glues: more base names than the tables have room for
     TooManyGlues,

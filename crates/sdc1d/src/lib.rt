@@ -232,7 +232,7 @@ pub fn g_system(
                 ambient,
                 attachments,
             );
-            EnergyAnswer::Energy(KcalPerMol(sumg * ambient.rt.0))
+            EnergyAnswer::Energy(ambient.rt.scale(sumg))
         }
     }
 }
@@ -269,7 +269,7 @@ pub fn chain_energy(
                 ambient,
                 configuration,
             );
-            ChainAnswer::Energy(sum, KcalPerMol(sum * ambient.rt.0))
+            ChainAnswer::Energy(sum, ambient.rt.scale(sum))
         }
     }
 }

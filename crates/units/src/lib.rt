@@ -52,11 +52,11 @@ impl KcalPerMol {
         KcalPerMol(self.0 - other.0)
     }
 
-    // A plain number of them.
+    // A plain number of them: a sum of bonds, for RT.
     pub fn scale(self, by: f64) -> KcalPerMol
-        ensures { λ r. ⌜ r .0 ≡ Ieee.mul binary64 (self .0) by ⌝ }
+        ensures { λ r. ⌜ r .0 ≡ Ieee.mul binary64 by (self .0) ⌝ }
     {
-        KcalPerMol(self.0 * by)
+        KcalPerMol(by * self.0)
     }
 
     // How many of the other it is: a plain number.

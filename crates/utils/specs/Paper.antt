@@ -1,5 +1,5 @@
 -- The figures of SantaLucia and Hicks, "The thermodynamics of DNA structural motifs", Annu. Rev. Biophys. Biomol. Struct. 33 (2004):
--- exact decimals, as printed, at 37 °C and 1 M NaCl. Energies in kcal/mol, entropies in cal/mol/K.
+-- exact decimals, by the transcriptions that docs/DIFFERENCES.md names, at 37 °C and 1 M NaCl. Energies in kcal/mol, entropies in cal/mol/K.
 use mathlib.Core.Bool.{Bool, cond, _&&_, _||_}
 use mathlib.Core.List.{List, [], _∷_}
 use Prim.Native.Nat.{ℕ, _+_}

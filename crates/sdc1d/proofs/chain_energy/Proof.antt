@@ -52,6 +52,9 @@ returns-2 c =
 chain-sum-requires : tie.Need-chain-sum-requires
 chain-sum-requires c κs = search needs
 
+scale-requires : tie.Need-scale-requires
+scale-requires c κs = search needs
+
 returns-3 : tie.Need-returns-3
 returns-3 c =
     let a = c .before .before .before .before .before .before .before .before .before .before .before .args in
@@ -66,8 +69,9 @@ returns-4 c =
     let d : Design = lent (a .scaffold) (a .glues) (a .dg) (a .ds) (a .potentials) (a .ambient) in
     let s = a .configuration .now in
     let rt = a .ambient .rt .0 in
-    let figures : _≡_ {A = Chain} (record { bare = c .before .chain-sum .result; timesRt = mul binary64 (c .before .chain-sum .result) rt }) (energies d s) =
-    ap (λ (sum : Float). record { bare = sum; timesRt = mul binary64 sum rt }) (c .before .chain-sum .ensures) in
+    let figures : _≡_ {A = Chain} (record { bare = c .before .chain-sum .result; timesRt = c .scale .result .0 }) (energies d s) =
+    ap (λ (product : Float). record { bare = c .before .chain-sum .result; timesRt = product }) (c .scale .ensures)
+    ∙ ap (λ (sum : Float). record { bare = sum; timesRt = mul binary64 sum rt }) (c .before .chain-sum .ensures) in
     ap given figures
     ∙ answered noChain (energies d s) (energy-admitted d s (c .before .before .before .before .before .before .before .if1 .left) (sym (c .before .before .before .before .before .before .design-reply .ensures) ∙ c .before .before .before .before .enum-told .given .1) (c .before .before .before .first-stranger .ensures) (c .before .before .if2 .left))
 
@@ -83,5 +87,6 @@ chain-energy-spec =
     first-stranger-requires
     returns-2
     chain-sum-requires
+    scale-requires
     returns-3
     returns-4)

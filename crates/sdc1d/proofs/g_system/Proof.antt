@@ -47,6 +47,9 @@ returns-2 c =
 state-sum-requires : tie.Need-state-sum-requires
 state-sum-requires c κs = search needs
 
+scale-requires : tie.Need-scale-requires
+scale-requires c κs = search needs
+
 returns-3 : tie.Need-returns-3
 returns-3 c =
     let a = c .before .before .before .before .before .before .before .before .before .before .before .args in
@@ -60,7 +63,7 @@ returns-4 c =
     let a = c .before .before .before .before .before .before .before .before .before .before .before .before .before .before .args in
     let d : Design = lent (a .scaffold) (a .glues) (a .dg) (a .ds) (a .potentials) (a .ambient) in
     let s = a .attachments .now in
-    let energy : mul binary64 (c .before .state-sum .result) (a .ambient .rt .0) ≡ stateEnergy (modelOf d) s = ap (λ (sum : Float). mul binary64 sum (a .ambient .rt .0)) (c .before .state-sum .ensures) in
+    let energy : c .scale .result .0 ≡ stateEnergy (modelOf d) s = c .scale .ensures ∙ ap (λ (sum : Float). mul binary64 sum (a .ambient .rt .0)) (c .before .state-sum .ensures) in
     ap given energy
     ∙ answered zero (stateEnergy (modelOf d) s) (energy-admitted d s (c .before .before .before .before .before .before .before .if1 .left) (sym (c .before .before .before .before .before .before .design-reply .ensures) ∙ c .before .before .before .before .enum-told .given .1) (c .before .before .before .first-stranger .ensures) (c .before .before .if2 .left))
 
@@ -76,5 +79,6 @@ g-system-spec =
     first-stranger-requires
     returns-2
     state-sum-requires
+    scale-requires
     returns-3
     returns-4)

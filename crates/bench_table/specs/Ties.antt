@@ -1,0 +1,45 @@
+-- Two designs in which rounding makes energies equal: what the search and the walk give, where a reading that is wrong about ties differs.
+use mathlib.Core.Path.{_≡_}
+use mathlib.Core.Bool.{true}
+use mathlib.Core.List.{List, [], _∷_}
+use Prim.Native.Nat.{ℕ}
+use lib.ListN.{set}
+use lib.IntN.{pos}
+use lib.Ieee.{fin, lt}
+use Rattle.doubles.specs.Decimal.{Decimal, plus, minus, nearest, zero}
+use Rattle.units.specs.declared.Ambient.{Ambient}
+use Rattle.model.specs.Energy.{walk, chainEnergy, chainProduct}
+use Rattle.design.specs.Design.{Design, design, modelOf}
+use Rattle.design.specs.Answers.{given}
+use Rattle.mfe.specs.Answers.{searchAnswer, searchEntries}
+use Rattle.bench_table.specs.Designs.{zeros}
+
+-- an RT, and no excess
+abbrev pub noExcess : Decimal → Ambient
+noExcess rt = record { rt = record { 0 = nearest rt }; «strand_excess» = record { 0 = zero }; «scaffold_excess» = record { 0 = zero } }
+
+-- RT 1/8; numbers of a few of the smallest doubles, and one strand bond of 1 / RT
+unfoldable pub tiny : Design
+unfolding nearest
+tiny =
+    design (1 ∷ 2 ∷ []) (0 ∷ 0 ∷ 0 ∷ 0 ∷ 1 ∷ 3 ∷ 3 ∷ 2 ∷ 0 ∷ []) (set (set (set zeros 65 (nearest (minus 5 324))) 130 (nearest (plus 5 324))) 195 (nearest (plus 1 0))) zeros
+    (zero ∷ nearest (minus 35 324) ∷ nearest (plus 4 323) ∷ []) (noExcess (plus 125 3))
+
+-- the search gives 0.0 and the walk −0.0: equal as doubles, not as data
+pub record TwoZeros : Type 0 where
+  pub energy : (x y : ℕ) → searchAnswer tiny (x ∷ y ∷ []) ≡ given zero
+  pub configuration : (x y : ℕ) → searchEntries tiny (x ∷ y ∷ []) ≡ 0 ∷ 2 ∷ []
+  pub walked : walk (modelOf tiny) ≡ fin true 0 (pos 0)
+
+-- RT 0.7; one position with two friends of dG −2, whose potentials are −1 and the second double above it
+unfoldable pub close : Design
+unfolding nearest
+close =
+    design (1 ∷ []) (0 ∷ 0 ∷ 0 ∷ 0 ∷ 1 ∷ 0 ∷ 0 ∷ 1 ∷ 0 ∷ []) (set zeros 65 (nearest (minus 2 0))) zeros
+    (zero ∷ nearest (minus 1 0) ∷ nearest (minus 9999999999999998 16) ∷ []) (noExcess (plus 7 1))
+
+-- the second friend has the smaller chain energy, both have one product with RT, and the first is shown: products are compared
+pub record OneProduct : Type 0 where
+  pub smaller : lt (chainEnergy (modelOf close) (2 ∷ [])) (chainEnergy (modelOf close) (1 ∷ [])) ≡ true
+  pub same : chainProduct (modelOf close) (2 ∷ []) ≡ chainProduct (modelOf close) (1 ∷ [])
+  pub configuration : (x : ℕ) → searchEntries close (x ∷ []) ≡ 1 ∷ []
