@@ -8,3 +8,6 @@ pub mod Strands
 pub mod Published
 pub mod Replies
 pub mod SameSums
+pub mod ThirtySeconds
+pub mod Small
+pub mod Finite

@@ -7,3 +7,4 @@ pub mod Single
 pub mod Pair
 pub mod Strength
 pub mod Published
+pub mod Finite
