@@ -54,6 +54,12 @@ pub fn page(crates: &[Crate], runs: &Runs) -> String {
     block(&mut page, &runs.compared);
     page.push_str("The C interface, used from C and from Rust (`harness/run-clients`):\n\n");
     block(&mut page, &runs.clients);
+    page.push_str("The C interface, called at random (`harness/run-stress`):\n\n");
+    block(&mut page, &runs.stress);
+    page.push_str(
+        "`./settle` on design files, the Rust's answers beside them (`harness/run-files`):\n\n",
+    );
+    block(&mut page, &runs.files);
     let _ = write!(
         page,
         "## What could not be compared\n\n{}\n\n",

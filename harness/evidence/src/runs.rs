@@ -8,6 +8,10 @@ pub struct Runs {
     pub compared: Vec<String>,
     /// The lines of the C and the Rust client.
     pub clients: Vec<String>,
+    /// The lines of the random calls.
+    pub stress: Vec<String>,
+    /// The lines of the runs on design files.
+    pub files: Vec<String>,
     /// The table of times.
     pub times: Vec<String>,
     /// What docs/DIFFERENCES.md says could not be compared.
@@ -43,6 +47,8 @@ impl Runs {
         Runs {
             compared: lines_of("harness/run"),
             clients: lines_of("harness/run-clients"),
+            stress: lines_of("harness/run-stress"),
+            files: lines_of("harness/run-files"),
             times: lines_of("harness/run-bench"),
             not_compared: section(
                 "docs/DIFFERENCES.md",

@@ -88,7 +88,7 @@ fn run(arguments: &Arguments) -> Result<usize, String> {
     let started = Instant::now();
     let mut tally = Tally::default();
     fixed(&arguments.settle, &mut tally)?;
-    println!("fixed {}", tally.asked);
+    println!("seed {}, fixed {}", arguments.seed, tally.asked);
     let mut designs = 0;
     if let Some(oracle) = &arguments.oracle {
         designs = arguments.designs;
