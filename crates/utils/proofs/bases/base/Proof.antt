@@ -1,29 +1,27 @@
--- `utils::base` meets its contract: each arm is one letter of `baseOf`. Assumes nothing.
-use mathlib.Core.Path.{refl}
-use Rattle.utils.specs.Bases.{baseOf}
-use Rattle.utils.specs.declared.bases.DnaNucleotideBase.the-variants.{A, T, G}
-use Rattle.utils.proofs.Letters.{at-letter, no-letter}
+-- `utils::base` meets its contract: the two bits of a letter tell its base. Assumes nothing.
+use mathlib.Core.Path.{sym, ap, _∙_}
+use borrow.Author.Tests.{ne-eqb}
+use Rattle.utils.proofs.Letters.{told, bits-tell}
 use Rattle.utils.proofs.bases.base.Statement.{statement}
 use Rattle.utils.proofs.bases.base.Tie as tie
 
 returns : tie.Need-returns
-unfolding baseOf
-returns c = at-letter baseOf A refl refl (c .match .keys1)
+unfolding told
+returns c = sym (ap told (c .match .keys1)) ∙ bits-tell (c .before .args .letter) (c .before .pre)
 
 returns-2 : tie.Need-returns-2
-unfolding baseOf
-returns-2 c = at-letter baseOf T refl refl (c .match .keys2)
+unfolding told
+returns-2 c = sym (ap told (c .match .keys2)) ∙ bits-tell (c .before .args .letter) (c .before .pre)
 
 returns-3 : tie.Need-returns-3
-unfolding baseOf
-returns-3 c = at-letter baseOf G refl refl (c .match .keys3)
+unfolding told
+returns-3 c = sym (ap told (c .match .keys3)) ∙ bits-tell (c .before .args .letter) (c .before .pre)
 
 returns-4 : tie.Need-returns-4
-unfolding baseOf
+unfolding told
 returns-4 c =
     let rest = c .match .rest in
-    let byte = c .before .args .letter in
-    simp (no-letter 97 65 byte (rest .0 .0 .1), no-letter 116 84 byte (rest .0 .1), no-letter 103 71 byte (rest .1))
+    simp (ne-eqb _ _ (rest .0 .0 .1), ne-eqb _ _ (rest .0 .1), ne-eqb _ _ (rest .1)) at (bits-tell (c .before .args .letter) (c .before .pre))
 
 pub base-spec : {M : Type 1} → statement M
 base-spec = tie.close (tie.spec returns returns-2 returns-3 returns-4)
