@@ -6,12 +6,12 @@ use mathlib.Core.List.{List}
 use Prim.Native.Nat.{ℕ, _<_, _^_}
 use Prim.Native.Nat.{_/_}
 use lib.Bits.{bitAnd}
-use lib.Dec.{eqb}
+use lib.Dec.{eqb, lit<}
 use lib.ListN.{length, getD}
 use borrow.Author.Tests.{eqb-true, ne-eqb, not-false}
 use Rattle.lists.specs.Find.{any}
 use Rattle.lists.proofs.Any.{none-passes}
-use Rattle.utils.specs.Bases.{Base, isLetter, isBase, notABase, baseOf}
+use Rattle.utils.specs.Bases.{Base, isLetter, isBase, notABase, baseOf, indexOf}
 use Rattle.utils.specs.declared.bases.DnaNucleotideBase.the-variants.{A, T, G, C}
 
 -- what f is at both cases of a letter, it is at a byte that is one of them
@@ -35,16 +35,32 @@ module _ (P : ℕ → Type 0) (b : ℕ) where
   one-letter lower upper p q e =
       either (eqb b lower) (eqb b upper) e (λ t. subst P (sym (eqb-true b lower t)) p) (λ t. subst P (sym (eqb-true b upper t)) q)
 
+  -- what holds at the eight letters holds at a byte that is one of them
+  each-letter : P 97 → P 65 → P 99 → P 67 → P 103 → P 71 → P 116 → P 84 → isBase b ≡ true → P b
+  unfolding isBase
+  each-letter a1 a2 c1 c2 g1 g2 t1 t2 e =
+      either _ _ e
+      (λ e. either _ _ e (λ e. either _ _ e (one-letter 97 65 a1 a2) (one-letter 99 67 c1 c2)) (one-letter 103 71 g1 g2))
+      (one-letter 116 84 t1 t2)
+
 -- the base that the second and the third bit of a letter tell
 unfoldable pub told : ℕ → Base
 told k = cond (eqb k 0) A (cond (eqb k 1) C (cond (eqb k 2) T G))
 
-abbrev Told : ℕ → Type 0
-Told b = told (bitAnd (b / 2 ^ 1) 3) ≡ baseOf b
-
 pub bits-tell : (b : ℕ) → isBase b ≡ true → told (bitAnd (b / 2 ^ 1) 3) ≡ baseOf b
-unfolding isBase baseOf told
-bits-tell b e =
-    either _ _ e
-    (λ e. either _ _ e (λ e. either _ _ e (one-letter Told b 97 65 refl refl) (one-letter Told b 99 67 refl refl)) (one-letter Told b 103 71 refl refl))
-    (one-letter Told b 116 84 refl refl)
+unfolding baseOf told
+bits-tell b = each-letter (λ x. told (bitAnd (x / 2 ^ 1) 3) ≡ baseOf x) b refl refl refl refl refl refl refl refl
+
+-- the base's number, read off the byte that has the four of them, and how far that byte is shifted
+pub number-told : (b : ℕ) → isBase b ≡ true → bitAnd (156 / 2 ^ bitAnd b 6) 3 ≡ indexOf (baseOf b)
+unfolding baseOf
+number-told b = each-letter (λ x. bitAnd (156 / 2 ^ bitAnd x 6) 3 ≡ indexOf (baseOf x)) b refl refl refl refl refl refl refl refl
+
+pub shift-under : (b : ℕ) → isBase b ≡ true → bitAnd b 6 < 8
+shift-under b = each-letter (λ x. bitAnd x 6 < 8) b (lit< tt) (lit< tt) (lit< tt) (lit< tt) (lit< tt) (lit< tt) (lit< tt) (lit< tt)
+
+pub number-under : (a : Base) → indexOf a < 4
+number-under A = lit< tt
+number-under T = lit< tt
+number-under G = lit< tt
+number-under C = lit< tt

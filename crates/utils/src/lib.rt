@@ -18,6 +18,7 @@ ghost use Rattle.utils.specs.declared.tables.LoopKind.the-variants.{Inte
 ghost use Rattle.utils.specs.Strength.{strengthAt, excessInRange, sequenceStrength, pairStrength};
 use bases::DnaNucleotideBase;
 use bases::base;
+use bases::base_index;
 use bases::first_not_a_base;
 use bases::good_match;
 use reply::Refusal;
@@ -117,7 +118,12 @@ fn single_sequence_dg_ds(dna: &[u8]) -> DgDs
     let mut ds = KcalPerMolKelvin(0.0);
     let mut i = 1;
     while i < dna.len() {
-        let stack = dg_ds(&energies, &entropies, base(dna[i - 1]), base(dna[i]));
+        let stack = dg_ds(
+            &energies,
+            &entropies,
+            base_index(dna[i - 1]),
+            base_index(dna[i]),
+        );
         dg = dg.add(stack.0);
         ds = ds.add(stack.1);
         i += 1;
@@ -149,7 +155,7 @@ fn after_good(
     requires { ⌜ (now energies ≡ byBases stackDg) × (now entropies ≡ byBases stackDs) ⌝ }
     ensures { λ r. ⌜ sumsOf r ≡ afterGood (loopDg Internal) hasLength (sumsOf s) a1 a2 ⌝ }
 {
-    let stack = dg_ds(energies, entropies, a1, a2);
+    let stack = dg_ds(energies, entropies, a1.index(), a2.index());
     let dg = s.dg.add(stack.0);
     let ds = s.ds.add(stack.1);
     let bad = s.bad;

@@ -4,7 +4,7 @@ ghost use Prim.Native.Nat.{_<_};
 ghost use Rattle.lists.specs.Find.{firstIndex};
 ghost use Rattle.utils.specs.Paper.{table4};
 ghost use Rattle.utils.specs.Bases.{byBase, byBases};
-ghost use Rattle.utils.specs.Figures.{stackDg, stackDs, penalty, mismatchDg, isLength, loopEntry};
+ghost use Rattle.utils.specs.Figures.{stackDg, stackDs, StackOf, penalty, mismatchDg, isLength, loopEntry};
 ghost use Rattle.utils.specs.Loops.{kindIndex};
 use crate::bases::DnaNucleotideBase;
 use crate::bases::good_match;
@@ -132,18 +132,12 @@ impl LoopKind {
     }
 }
 
-// The stack of two neighbours, 5' to 3'.
-pub(crate) fn dg_ds(
-    energies: &[[f64; 4]; 4],
-    entropies: &[[f64; 4]; 4],
-    a: DnaNucleotideBase,
-    b: DnaNucleotideBase,
-) -> DgDs
+// The stack of two neighbours, 5' to 3', by their numbers. The tables are lent, since a const is written out anew wherever it is read.
+pub(crate) fn dg_ds(energies: &[[f64; 4]; 4], entropies: &[[f64; 4]; 4], i: usize, j: usize) -> DgDs
     requires { ⌜ (now energies ≡ byBases stackDg) × (now entropies ≡ byBases stackDs) ⌝ }
-    ensures { λ r. ⌜ (r .0 .0 ≡ stackDg a b) × (r .1 .0 ≡ stackDs a b) ⌝ }
+    requires { ⌜ (i < 4) × (j < 4) ⌝ }
+    ensures { λ r. ⌜ StackOf i j (r .0 .0) (r .1 .0) ⌝ }
 {
-    let i = a.index();
-    let j = b.index();
     DgDs(
         KcalPerMol(energies[i][j]),
         KcalPerMolKelvin(entropies[i][j]),

@@ -7,57 +7,47 @@ use Rattle.utils.proofs.ByBase.{at-bases}
 use Rattle.utils.proofs.tables.dg_ds.Statement.{statement}
 use Rattle.utils.proofs.tables.dg_ds.Tie as tie
 
-index-requires : tie.Need-index-requires
-index-requires c κs = search needs
+mul-t5 : tie.Need-mul-t5
+mul-t5 c = search needs
 
-index-requires-2 : tie.Need-index-requires-2
-index-requires-2 c κs = search needs
+mul-t8 : tie.Need-mul-t8
+mul-t8 c = search needs
 
-mul-t7 : tie.Need-mul-t7
-mul-t7 c = search needs
+index-1-t11 : tie.Need-index-1-t11
+index-1-t11 c = search needs
 
-mul-t10 : tie.Need-mul-t10
-mul-t10 c = search needs
+index-2-t11 : tie.Need-index-2-t11
+index-2-t11 c = search needs
 
-index-1-t13 : tie.Need-index-1-t13
-index-1-t13 c = search needs
+mul-t13 : tie.Need-mul-t13
+mul-t13 c = search needs
 
-index-2-t13 : tie.Need-index-2-t13
-index-2-t13 c = search needs
+mul-t16 : tie.Need-mul-t16
+mul-t16 c = search needs
 
-mul-t15 : tie.Need-mul-t15
-mul-t15 c = search needs
+index-1-t19 : tie.Need-index-1-t19
+index-1-t19 c = search needs
 
-mul-t18 : tie.Need-mul-t18
-mul-t18 c = search needs
-
-index-1-t21 : tie.Need-index-1-t21
-index-1-t21 c = search needs
-
-index-2-t21 : tie.Need-index-2-t21
-index-2-t21 c = search needs
+index-2-t19 : tie.Need-index-2-t19
+index-2-t19 c = search needs
 
 returns : tie.Need-returns
 returns c =
-    let k = c .before .before in
-    let start = k .before .before in
+    let start = c .before .before in
     let args = start .args in
-    let i = k .before .index in
-    let j = k .index2 in
-    (at-bases nan stackDg (now (args .energies)) (args .a) (args .b) (i .result) (j .result) (start .pre .0) (i .ensures .0) (j .ensures .0), at-bases nan stackDs (now (args .entropies)) (args .a) (args .b) (i .result) (j .result) (start .pre .1) (i .ensures .0) (j .ensures .0))
+    λ a b p q.
+    (at-bases nan stackDg (now (args .energies)) a b (args .i) (args .j) (start .pre .0 .0) p q, at-bases nan stackDs (now (args .entropies)) a b (args .i) (args .j) (start .pre .0 .1) p q)
 
 pub dg-ds-spec : {M : Type 1} → statement M
 dg-ds-spec =
     tie.close
     (tie.spec
-    index-requires
-    index-requires-2
-    mul-t7
-    mul-t10
-    index-1-t13
-    index-2-t13
-    mul-t15
-    mul-t18
-    index-1-t21
-    index-2-t21
+    mul-t5
+    mul-t8
+    index-1-t11
+    index-2-t11
+    mul-t13
+    mul-t16
+    index-1-t19
+    index-2-t19
     returns)
