@@ -43,14 +43,6 @@ module _ (P : ℕ → Type 0) (b : ℕ) where
       (λ e. either _ _ e (λ e. either _ _ e (one-letter 97 65 a1 a2) (one-letter 99 67 c1 c2)) (one-letter 103 71 g1 g2))
       (one-letter 116 84 t1 t2)
 
--- the base that the second and the third bit of a letter tell
-unfoldable pub told : ℕ → Base
-told k = cond (eqb k 0) A (cond (eqb k 1) C (cond (eqb k 2) T G))
-
-pub bits-tell : (b : ℕ) → isBase b ≡ true → told (bitAnd (b / 2 ^ 1) 3) ≡ baseOf b
-unfolding baseOf told
-bits-tell b = each-letter (λ x. told (bitAnd (x / 2 ^ 1) 3) ≡ baseOf x) b refl refl refl refl refl refl refl refl
-
 -- the base's number, read off the byte that has the four of them, and how far that byte is shifted
 pub number-told : (b : ℕ) → isBase b ≡ true → bitAnd (156 / 2 ^ bitAnd b 6) 3 ≡ indexOf (baseOf b)
 unfolding baseOf
@@ -64,3 +56,14 @@ number-under A = lit< tt
 number-under T = lit< tt
 number-under G = lit< tt
 number-under C = lit< tt
+
+-- the base that has a number
+unfoldable pub numbered : ℕ → Base
+numbered k = cond (eqb k 0) A (cond (eqb k 1) T (cond (eqb k 2) G C))
+
+pub numbered-index : (a : Base) → numbered (indexOf a) ≡ a
+unfolding numbered
+numbered-index A = refl
+numbered-index T = refl
+numbered-index G = refl
+numbered-index C = refl

@@ -36,25 +36,26 @@ impl DnaNucleotideBase {
     }
 }
 
-// The base of a letter. The letter's second and third bit tell it, in either case; a test of the eight letters would be mispredicted at every other one.
-pub(crate) fn base(letter: u8) -> DnaNucleotideBase
-    requires { ⌜ isBase letter ≡ true ⌝ }
-    ensures { λ r. ⌜ r ≡ baseOf letter ⌝ }
-{
-    match (letter >> 1) & 3 {
-        0 => DnaNucleotideBase::A,
-        1 => DnaNucleotideBase::C,
-        2 => DnaNucleotideBase::T,
-        _ => DnaNucleotideBase::G,
-    }
-}
-
-// The number of a letter's base, read off a byte that has those of A, C, T and G from the lowest bits up: to the sums of one sequence, a match is a jump.
+// The number of a letter's base. The letter's second and third bit tell A, C, T and G apart in either case, and the byte has their numbers
+// from its lowest bits up; tests of the letter would be mispredicted, as the letters of a sequence come by chance.
 pub(crate) fn base_index(letter: u8) -> usize
     requires { ⌜ isBase letter ≡ true ⌝ }
     ensures { λ r. ⌜ (r ≡ indexOf (baseOf letter)) × (r < 4) ⌝ }
 {
     ((0b10_01_11_00u8 >> (letter & 6)) & 3) as usize
+}
+
+// The base of a letter; `first_not_a_base` comes before, so that no other byte is asked for its base.
+pub(crate) fn base(letter: u8) -> DnaNucleotideBase
+    requires { ⌜ isBase letter ≡ true ⌝ }
+    ensures { λ r. ⌜ r ≡ baseOf letter ⌝ }
+{
+    match base_index(letter) {
+        0 => DnaNucleotideBase::A,
+        1 => DnaNucleotideBase::T,
+        2 => DnaNucleotideBase::G,
+        _ => DnaNucleotideBase::C,
+    }
 }
 
 pub(crate) fn is_base(letter: u8) -> bool
