@@ -48,9 +48,12 @@ same a b = eqb (indexOf a) (indexOf b)
 abbrev pub complementary : Base → Base → Bool
 complementary a b = same (complement a) b
 
--- an entry for each base, and for each two bases, in the order of their numbers
+-- an entry for each base, for each two and for each three, in the order of their numbers
 abbrev pub byBase : {X : Type 0} → (Base → X) → List X
 byBase f = f A ∷ f T ∷ f G ∷ f C ∷ []
 
-abbrev pub byBases : {X : Type 0} → (Base → Base → X) → List (List X)
-byBases f = byBase (λ a. byBase (f a))
+abbrev pub byTwo : {X : Type 0} → (Base → Base → X) → List (List X)
+byTwo f = byBase (λ a. byBase (f a))
+
+abbrev pub byThree : {X : Type 0} → (Base → Base → Base → X) → List (List (List X))
+byThree f = byBase (λ a. byTwo (f a))

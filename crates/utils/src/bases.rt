@@ -36,8 +36,8 @@ impl DnaNucleotideBase {
     }
 }
 
-// The number of a letter's base. The letter's second and third bit tell A, C, T and G apart in either case, and the byte has their numbers
-// from its lowest bits up; tests of the letter would be mispredicted, as the letters of a sequence come by chance.
+// The number of a letter's base. The letter's second and third bit tell A, C, T and G apart in either case, and the byte here has their
+// numbers from its lowest bits up. Branches on the letter would be mispredicted, and cost more than the sums.
 pub(crate) fn base_index(letter: u8) -> usize
     requires { ⌜ isBase letter ≡ true ⌝ }
     ensures { λ r. ⌜ (r ≡ indexOf (baseOf letter)) × (r < 4) ⌝ }

@@ -8,7 +8,7 @@ ghost use Prim.Native.Nat.{_<_, _≤_};
 ghost use lib.ListN.{length};
 ghost use Rattle.lists.specs.Find.{any};
 ghost use Rattle.reply.specs.First.{firstOf};
-ghost use Rattle.utils.specs.Bases.{notABase, bases, byBase, byBases};
+ghost use Rattle.utils.specs.Bases.{notABase, bases, byTwo, byThree};
 ghost use Rattle.utils.specs.Figures.{stackDg, stackDs, penalty, hasLength, loopDg};
 ghost use Rattle.utils.specs.Answers.{dgFigures, dgDsFigures};
 ghost use Rattle.utils.specs.Loops.{kindOf, loopPenalty};
@@ -152,7 +152,7 @@ fn after_good(
     a1: DnaNucleotideBase,
     a2: DnaNucleotideBase,
 ) -> Sums
-    requires { ⌜ (now energies ≡ byBases stackDg) × (now entropies ≡ byBases stackDs) ⌝ }
+    requires { ⌜ (now energies ≡ byTwo stackDg) × (now entropies ≡ byTwo stackDs) ⌝ }
     ensures { λ r. ⌜ sumsOf r ≡ afterGood (loopDg Internal) hasLength (sumsOf s) a1 a2 ⌝ }
 {
     let stack = dg_ds(energies, entropies, a1.index(), a2.index());
@@ -206,7 +206,7 @@ fn after_bad(
     b1: DnaNucleotideBase,
     b2: DnaNucleotideBase,
 ) -> Sums
-    requires { ⌜ (s .bad < 4096) × (now penalties ≡ byBase (λ p. byBases (penalty p))) ⌝ }
+    requires { ⌜ (s .bad < 4096) × (now penalties ≡ byThree penalty) ⌝ }
     ensures { λ r. ⌜ sumsOf r ≡ afterBad (loopDg Internal) hasLength (sumsOf s) (window a1 a2 b1 b2) ⌝ }
 {
     let ds = s.ds;

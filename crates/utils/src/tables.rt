@@ -3,7 +3,7 @@ ghost use mathlib.Core.Path.{_≡_};
 ghost use Prim.Native.Nat.{_<_};
 ghost use Rattle.lists.specs.Find.{firstIndex};
 ghost use Rattle.utils.specs.Paper.{table4};
-ghost use Rattle.utils.specs.Bases.{byBase, byBases};
+ghost use Rattle.utils.specs.Bases.{byTwo, byThree};
 ghost use Rattle.utils.specs.Figures.{stackDg, stackDs, StackOf, penalty, mismatchDg, isLength, loopEntry};
 ghost use Rattle.utils.specs.Loops.{kindIndex};
 use crate::bases::DnaNucleotideBase;
@@ -132,9 +132,9 @@ impl LoopKind {
     }
 }
 
-// The stack of two neighbours, 5' to 3', by their numbers. The tables are lent, since a const is written out anew wherever it is read.
+// The stack of two neighbours, 5' to 3', by their numbers. A loop lends the tables: a const would be written out again at each window.
 pub(crate) fn dg_ds(energies: &[[f64; 4]; 4], entropies: &[[f64; 4]; 4], i: usize, j: usize) -> DgDs
-    requires { ⌜ (now energies ≡ byBases stackDg) × (now entropies ≡ byBases stackDs) ⌝ }
+    requires { ⌜ (now energies ≡ byTwo stackDg) × (now entropies ≡ byTwo stackDs) ⌝ }
     requires { ⌜ (i < 4) × (j < 4) ⌝ }
     ensures { λ r. ⌜ StackOf i j (r .0 .0) (r .1 .0) ⌝ }
 {
@@ -150,7 +150,7 @@ pub(crate) fn calc_penalty(
     x: DnaNucleotideBase,
     y: DnaNucleotideBase,
 ) -> KcalPerMol
-    requires { ⌜ now penalties ≡ byBase (λ p. byBases (penalty p)) ⌝ }
+    requires { ⌜ now penalties ≡ byThree penalty ⌝ }
     ensures { λ r. ⌜ r .0 ≡ penalty prior x y ⌝ }
 {
     let p = prior.index();
@@ -167,7 +167,7 @@ pub(crate) fn calculate_single_mismatch_penalty(
     b1: DnaNucleotideBase,
     b2: DnaNucleotideBase,
 ) -> KcalPerMol
-    requires { ⌜ now penalties ≡ byBase (λ p. byBases (penalty p)) ⌝ }
+    requires { ⌜ now penalties ≡ byThree penalty ⌝ }
     ensures { λ r. ⌜ r .0 ≡ mismatchDg a1 a2 b1 b2 ⌝ }
 {
     if good_match(a1, b1) {
