@@ -3,8 +3,7 @@ use mathlib.Core.Path.{_≡_, refl, subst, sym, ap, _∙_}
 use mathlib.Core.Logic.{_⊎_, inl, inr}
 use mathlib.Core.Bool.{Bool, true, false, cond, _||_}
 use mathlib.Core.List.{List}
-use Prim.Native.Nat.{ℕ, _<_, _^_}
-use Prim.Native.Nat.{_/_}
+use Prim.Native.Nat.{ℕ, _<_, _/_, _^_}
 use lib.Bits.{bitAnd}
 use lib.Dec.{eqb, lit<}
 use lib.ListN.{length, getD}

@@ -1,7 +1,5 @@
 -- `utils::base_index` meets its contract: the byte has the four numbers where the letters' bits point. Assumes nothing.
-use mathlib.Core.Path.{_≡_}
 use Prim.Native.Nat.{_<_, _/_, _^_}
-use native.Mathlib.Omega.{arith}
 use lib.Bits.{bitAnd}
 use borrow.Author.Needs.{needs}
 use Rattle.utils.specs.Bases.{baseOf}
