@@ -9,7 +9,9 @@ use native.Mathlib.Numerals.{add-one, sub-one}
 use lib.ListN.{length, getD, drop, length-drop}
 use Rattle.lists.specs.Fold.{foldl}
 use Rattle.utils.specs.Bases.{Base, baseOf, bases}
-use Rattle.utils.specs.Pair.{Window, Sums, window, windows, good, step}
+use Rattle.utils.specs.Figures.{hasLength, loopDg}
+use Rattle.utils.specs.Pair.{Window, Sums, window, windows, good, afterGood, afterBad, step}
+use Rattle.utils.specs.declared.tables.LoopKind.the-variants.{Internal}
 use Rattle.utils.proofs.Neighbours.{bases-length, bases-cons}
 
 -- the sums when the code is at place i, of which the place before is still wanted
@@ -39,6 +41,16 @@ unfolding sumsAt foldl
 sums-done s a b i h =
     let last : length (drop (i - 1) (bases a)) ≤ 1 = rw (length-drop (i - 1) (bases a), bases-length a) (omega arith) in
     rw (no-window (drop (i - 1) (bases a)) (drop (i - 1) (bases b)) last)
+
+module _ (s : Sums) (a1 a2 b1 b2 : Base) where
+  -- a good window and a bad one are the two cases of a step
+  pub good-window : good (window a1 a2 b1 b2) ≡ true → afterGood (loopDg Internal) hasLength s a1 a2 ≡ step s (window a1 a2 b1 b2)
+  unfolding step
+  good-window e = simp e
+
+  pub bad-window : good (window a1 a2 b1 b2) ≡ false → afterBad (loopDg Internal) hasLength s (window a1 a2 b1 b2) ≡ step s (window a1 a2 b1 b2)
+  unfolding step
+  bad-window e = simp e
 
 bad-step : (t : Bool) (s g b : Sums) → g .bad ≡ 0 → b .bad ≡ s .bad + 1 → (cond t g b) .bad ≤ s .bad + 1
 bad-step true s g b p q = omega arith

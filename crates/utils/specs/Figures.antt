@@ -1,4 +1,5 @@
 -- The doubles that the energies are made of: each the one nearest to the paper's decimal, but for the entropies that the Rust has otherwise.
+use mathlib.Core.Path.{_≡_}
 use mathlib.Core.Bool.{Bool, cond, _&&_, _||_}
 use Prim.Native.Nat.{ℕ}
 use lib.Dec.{eqb}
@@ -6,7 +7,7 @@ use lib.Ieee.{Float}
 use lib.ListN.{getD}
 use Rattle.lists.specs.Find.{any, firstIndex}
 use Rattle.doubles.specs.Decimal.{Decimal, plus, minus, nearest, zero}
-use Rattle.utils.specs.Bases.{Base, same, complementary}
+use Rattle.utils.specs.Bases.{Base, indexOf, same, complementary}
 use Rattle.utils.specs.Paper.{stackOf, initiationDg, kilo, mismatchOf, Loop, noLoop, table4, figure}
 use Rattle.utils.specs.declared.bases.DnaNucleotideBase.the-variants.{A, T, G, C}
 use Rattle.utils.specs.declared.tables.LoopKind.{LoopKind}
@@ -23,6 +24,10 @@ entropyOf a b =
 -- dS of a good window, in kcal/mol/K
 unfoldable pub stackDs : Base → Base → Float
 stackDs a b = nearest (kilo (entropyOf a b))
+
+-- dG and dS of the stack of the bases that have these numbers
+abbrev pub StackOf : ℕ → ℕ → Float → Float → Type 0
+StackOf i j dg ds = (a b : Base) → i ≡ indexOf a → j ≡ indexOf b → (dg ≡ stackDg a b) × (ds ≡ stackDs a b)
 
 -- dG of the initiation
 unfoldable pub startDg : Float

@@ -1,5 +1,6 @@
 // Bases and the letters that stand for them.
 ghost use mathlib.Core.Path.{_≡_};
+ghost use mathlib.Core.Bool.{true};
 ghost use Prim.Native.Nat.{_<_};
 ghost use Rattle.lists.specs.Find.{firstIndex};
 ghost use Rattle.utils.specs.Bases.{isBase, notABase, baseOf, complement, complementary, indexOf};
@@ -38,14 +39,24 @@ impl DnaNucleotideBase {
     }
 }
 
+// The number of a letter's base. The letter's second and third bit tell A, C, T and G apart in either case, and the byte here has their
+// numbers from its lowest bits up. Branches on the letter would be mispredicted, and cost more than the sums.
+pub(crate) fn base_index(letter: u8) -> usize
+    requires { ⌜ isBase letter ≡ true ⌝ }
+    ensures { λ r. ⌜ (r ≡ indexOf (baseOf letter)) × (r < 4) ⌝ }
+{
+    ((0b10_01_11_00u8 >> (letter & 6)) & 3) as usize
+}
+
 // The base of a letter; `first_not_a_base` comes before, so that no other byte is asked for its base.
 pub(crate) fn base(letter: u8) -> DnaNucleotideBase
+    requires { ⌜ isBase letter ≡ true ⌝ }
     ensures { λ r. ⌜ r ≡ baseOf letter ⌝ }
 {
-    match letter {
-        b'a' | b'A' => DnaNucleotideBase::A,
-        b't' | b'T' => DnaNucleotideBase::T,
-        b'g' | b'G' => DnaNucleotideBase::G,
+    match base_index(letter) {
+        0 => DnaNucleotideBase::A,
+        1 => DnaNucleotideBase::T,
+        2 => DnaNucleotideBase::G,
         _ => DnaNucleotideBase::C,
     }
 }

@@ -6,23 +6,28 @@ ghost use mathlib.Core.Path.{_≡_};
 ghost use mathlib.Core.Bool.{false};
 ghost use Prim.Native.Nat.{_<_, _≤_};
 ghost use lib.ListN.{length};
+ghost use Rattle.lists.specs.Find.{any};
 ghost use Rattle.reply.specs.First.{firstOf};
-ghost use Rattle.utils.specs.Bases.{bases, complementary};
-ghost use Rattle.utils.specs.Figures.{stackDg, stackDs, hasLength, loopDg};
+ghost use Rattle.utils.specs.Bases.{notABase, bases, byTwo, byThree};
+ghost use Rattle.utils.specs.Figures.{stackDg, stackDs, penalty, hasLength, loopDg};
 ghost use Rattle.utils.specs.Answers.{dgFigures, dgDsFigures};
 ghost use Rattle.utils.specs.Loops.{kindOf, loopPenalty};
 ghost use Rattle.utils.specs.Single.{stackSum, sequenceChecks, stringDnaDgDs};
-ghost use Rattle.utils.specs.Pair.{window, good, sumsOf, afterGood, step, pairSums, strandChecks, sequencePairDgDs};
+ghost use Rattle.utils.specs.Pair.{window, good, sumsOf, afterGood, afterBad, pairSums, strandChecks, sequencePairDgDs};
 ghost use Rattle.utils.specs.declared.tables.LoopKind.the-variants.{Internal};
 ghost use Rattle.utils.specs.Strength.{strengthAt, excessInRange, sequenceStrength, pairStrength};
 use bases::DnaNucleotideBase;
 use bases::base;
+use bases::base_index;
 use bases::first_not_a_base;
 use bases::good_match;
 use reply::Refusal;
 use reply::Reply;
 use tables::DgDs;
 use tables::LoopKind;
+use tables::NEIGHBOUR_DG;
+use tables::NEIGHBOUR_DS;
+use tables::PENALTY_TABLE;
 use tables::calculate_single_mismatch_penalty;
 use tables::dg_ds;
 use tables::length_position;
@@ -109,13 +114,21 @@ fn sequence_reply(dna: &[u8]) -> Reply
 
 // The stacks of a sequence with its perfect partner, without the initiation.
 fn single_sequence_dg_ds(dna: &[u8]) -> DgDs
+    requires { ⌜ any notABase (now dna) ≡ false ⌝ }
     ensures { λ r. ⌜ (r .0 .0 ≡ stackSum stackDg (bases (now (dna .entry)))) × (r .1 .0 ≡ stackSum stackDs (bases (now (dna .entry)))) ⌝ }
 {
+    let energies = NEIGHBOUR_DG;
+    let entropies = NEIGHBOUR_DS;
     let mut dg = KcalPerMol(0.0);
     let mut ds = KcalPerMolKelvin(0.0);
     let mut i = 1;
     while i < dna.len() {
-        let stack = dg_ds(base(dna[i - 1]), base(dna[i]));
+        let stack = dg_ds(
+            &energies,
+            &entropies,
+            base_index(dna[i - 1]),
+            base_index(dna[i]),
+        );
         dg = dg.add(stack.0);
         ds = ds.add(stack.1);
         i += 1;
@@ -137,10 +150,17 @@ pub fn string_dna_dg_ds(dna: &[u8]) -> DgDsAnswer
 }
 
 // The sums after a good window: the stack's energy, then that of the internal loop that it ends, if it ends one.
-fn after_good(s: Sums, a1: DnaNucleotideBase, a2: DnaNucleotideBase) -> Sums
+fn after_good(
+    s: Sums,
+    energies: &[[f64; 4]; 4],
+    entropies: &[[f64; 4]; 4],
+    a1: DnaNucleotideBase,
+    a2: DnaNucleotideBase,
+) -> Sums
+    requires { ⌜ (now energies ≡ byTwo stackDg) × (now entropies ≡ byTwo stackDs) ⌝ }
     ensures { λ r. ⌜ sumsOf r ≡ afterGood (loopDg Internal) hasLength (sumsOf s) a1 a2 ⌝ }
 {
-    let stack = dg_ds(a1, a2);
+    let stack = dg_ds(energies, entropies, a1.index(), a2.index());
     let dg = s.dg.add(stack.0);
     let ds = s.ds.add(stack.1);
     let bad = s.bad;
@@ -182,22 +202,20 @@ fn good_window(
     good_match(a1, b1) && good_match(a2, b2)
 }
 
-// The sums after one window more.
-fn after_window(
+// The sums after a bad window: the mismatch's energy, and no entropy.
+fn after_bad(
     s: Sums,
+    penalties: &[[[f64; 4]; 4]; 4],
     a1: DnaNucleotideBase,
     a2: DnaNucleotideBase,
     b1: DnaNucleotideBase,
     b2: DnaNucleotideBase,
 ) -> Sums
-    requires { ⌜ s .bad < 4096 ⌝ }
-    ensures { λ r. ⌜ sumsOf r ≡ step (sumsOf s) (window a1 a2 b1 b2) ⌝ }
+    requires { ⌜ (s .bad < 4096) × (now penalties ≡ byThree penalty) ⌝ }
+    ensures { λ r. ⌜ sumsOf r ≡ afterBad (loopDg Internal) hasLength (sumsOf s) (window a1 a2 b1 b2) ⌝ }
 {
-    if good_window(a1, a2, b1, b2) {
-        return after_good(s, a1, a2);
-    }
     let ds = s.ds;
-    let dg = s.dg.add(calculate_single_mismatch_penalty(a1, a2, b1, b2));
+    let dg = s.dg.add(calculate_single_mismatch_penalty(penalties, a1, a2, b1, b2));
     Sums {
         dg,
         ds,
@@ -209,8 +227,12 @@ fn after_window(
 // The sums over the windows of two strands of one length.
 fn pair_sums(a: &[u8], b: &[u8]) -> Sums
     requires { ⌜ (length (now a) ≡ length (now b)) × (length (now a) ≤ 256) ⌝ }
+    requires { ⌜ (any notABase (now a) ≡ false) × (any notABase (now b) ≡ false) ⌝ }
     ensures { λ r. ⌜ sumsOf r ≡ pairSums (bases (now (a .entry))) (bases (now (b .entry))) ⌝ }
 {
+    let energies = NEIGHBOUR_DG;
+    let entropies = NEIGHBOUR_DS;
+    let penalties = PENALTY_TABLE;
     let mut sums = Sums {
         dg: KcalPerMol(0.0),
         ds: KcalPerMolKelvin(0.0),
@@ -219,7 +241,15 @@ fn pair_sums(a: &[u8], b: &[u8]) -> Sums
     };
     let mut i = 1;
     while i < a.len() {
-        sums = after_window(sums, base(a[i - 1]), base(a[i]), base(b[i - 1]), base(b[i]));
+        let a1 = base(a[i - 1]);
+        let a2 = base(a[i]);
+        let b1 = base(b[i - 1]);
+        let b2 = base(b[i]);
+        sums = if good_window(a1, a2, b1, b2) {
+            after_good(sums, &energies, &entropies, a1, a2)
+        } else {
+            after_bad(sums, &penalties, a1, a2, b1, b2)
+        };
         i += 1;
     }
     sums

@@ -3,7 +3,8 @@ ghost use mathlib.Core.Path.{_≡_};
 ghost use Prim.Native.Nat.{_<_};
 ghost use Rattle.lists.specs.Find.{firstIndex};
 ghost use Rattle.utils.specs.Paper.{table4};
-ghost use Rattle.utils.specs.Figures.{stackDg, stackDs, penalty, mismatchDg, isLength, loopEntry};
+ghost use Rattle.utils.specs.Bases.{byTwo, byThree};
+ghost use Rattle.utils.specs.Figures.{stackDg, stackDs, StackOf, penalty, mismatchDg, isLength, loopEntry};
 ghost use Rattle.utils.specs.Loops.{kindIndex};
 use crate::bases::DnaNucleotideBase;
 use crate::bases::good_match;
@@ -11,7 +12,7 @@ use units::KcalPerMol;
 use units::KcalPerMolKelvin;
 
 // Stacks of two pairs, 5' to 3': a row for the first base, in the order A, T, G, C.
-const NEIGHBOUR_DG: [[f64; 4]; 4] = [
+pub(crate) const NEIGHBOUR_DG: [[f64; 4]; 4] = [
     [-1.0, -0.88, -1.28, -1.44],
     [-0.58, -1.0, -1.45, -1.30],
     [-1.30, -1.44, -1.84, -2.24],
@@ -19,7 +20,7 @@ const NEIGHBOUR_DG: [[f64; 4]; 4] = [
 ];
 
 // Their entropies, in the same order.
-const NEIGHBOUR_DS: [[f64; 4]; 4] = [
+pub(crate) const NEIGHBOUR_DS: [[f64; 4]; 4] = [
     [-0.0213, -0.0204, -0.0210, -0.0224],
     [-0.0213, -0.0213, -0.0227, -0.0222],
     [-0.0222, -0.0224, -0.0199, -0.0244],
@@ -27,7 +28,7 @@ const NEIGHBOUR_DS: [[f64; 4]; 4] = [
 ];
 
 // Mismatches 5'-PX-3' over 3'-P*Y-5', at [P][X][Y]; 0.0 where X and Y pair.
-const PENALTY_TABLE: [[[f64; 4]; 4]; 4] = [
+pub(crate) const PENALTY_TABLE: [[[f64; 4]; 4]; 4] = [
     [
         [0.61, 0.0, 0.14, 0.88],
         [0.0, 0.69, 0.07, 0.73],
@@ -135,46 +136,50 @@ impl LoopKind {
     }
 }
 
-// The stack of two neighbours, 5' to 3'.
-pub(crate) fn dg_ds(a: DnaNucleotideBase, b: DnaNucleotideBase) -> DgDs
-    ensures { λ r. ⌜ (r .0 .0 ≡ stackDg a b) × (r .1 .0 ≡ stackDs a b) ⌝ }
+// The stack of two neighbours, 5' to 3', by their numbers. A loop lends the tables: a const would be written out again at each window.
+pub(crate) fn dg_ds(energies: &[[f64; 4]; 4], entropies: &[[f64; 4]; 4], i: usize, j: usize) -> DgDs
+    requires { ⌜ (now energies ≡ byTwo stackDg) × (now entropies ≡ byTwo stackDs) ⌝ }
+    requires { ⌜ (i < 4) × (j < 4) ⌝ }
+    ensures { λ r. ⌜ StackOf i j (r .0 .0) (r .1 .0) ⌝ }
 {
-    let i = a.index();
-    let j = b.index();
     DgDs(
-        KcalPerMol(NEIGHBOUR_DG[i][j]),
-        KcalPerMolKelvin(NEIGHBOUR_DS[i][j]),
+        KcalPerMol(energies[i][j]),
+        KcalPerMolKelvin(entropies[i][j]),
     )
 }
 
 // The energy of a mismatch: x over y, next to the pair of `prior`.
 pub(crate) fn calc_penalty(
+    penalties: &[[[f64; 4]; 4]; 4],
     prior: DnaNucleotideBase,
     x: DnaNucleotideBase,
     y: DnaNucleotideBase,
 ) -> KcalPerMol
+    requires { ⌜ now penalties ≡ byThree penalty ⌝ }
     ensures { λ r. ⌜ r .0 ≡ penalty prior x y ⌝ }
 {
     let p = prior.index();
     let i = x.index();
     let j = y.index();
-    KcalPerMol(PENALTY_TABLE[p][i][j])
+    KcalPerMol(penalties[p][i][j])
 }
 
 // The energy of a bad window: of the mismatch, read from whichever strand has the pair first.
 pub(crate) fn calculate_single_mismatch_penalty(
+    penalties: &[[[f64; 4]; 4]; 4],
     a1: DnaNucleotideBase,
     a2: DnaNucleotideBase,
     b1: DnaNucleotideBase,
     b2: DnaNucleotideBase,
 ) -> KcalPerMol
+    requires { ⌜ now penalties ≡ byThree penalty ⌝ }
     ensures { λ r. ⌜ r .0 ≡ mismatchDg a1 a2 b1 b2 ⌝ }
 {
     if good_match(a1, b1) {
-        return calc_penalty(a1, a2, b2);
+        return calc_penalty(penalties, a1, a2, b2);
     }
     if good_match(a2, b2) {
-        return calc_penalty(b2, b1, a1);
+        return calc_penalty(penalties, b2, b1, a1);
     }
     KcalPerMol(0.0)
 }

@@ -15,6 +15,12 @@ use borrow.Author.Needs.{needs}
 use Rattle.utils.proofs.after_good.Statement.{statement}
 use Rattle.utils.proofs.after_good.Tie as tie
 
+index-requires : tie.Need-index-requires
+index-requires c κs = search needs
+
+index-requires-2 : tie.Need-index-requires-2
+index-requires-2 c κs = search needs
+
 dg-ds-requires : tie.Need-dg-ds-requires
 dg-ds-requires c κs = search needs
 
@@ -27,7 +33,9 @@ add-requires-2 c κs = search needs
 returns : tie.Need-returns
 returns c =
     let k = c .before .before in
-    let stack = k .before .dg-ds .ensures in
+    let d = k .before in
+    let start = d .before .before .before in
+    let stack = d .dg-ds .ensures (start .args .a1) (start .args .a2) (d .before .before .index .ensures .0) (d .before .index2 .ensures .0) in
     simp (le-ltb _ _ (c .if1 .taken))
     (same-sums (k .add .ensures ∙ ap (add binary64 _) (stack .0)) (c .before .add2 .ensures ∙ ap (add binary64 _) (stack .1)))
 
@@ -40,8 +48,10 @@ length-position-requires c κs = search needs
 returns-2 : tie.Need-returns-2
 returns-2 c =
     let k = c .before .before in
-    let n = k .before .before .before .before .args .s .bad - 1 in
-    let stack = k .before .before .before .dg-ds .ensures in
+    let d = k .before .before .before in
+    let start = d .before .before .before in
+    let stack = d .dg-ds .ensures (start .args .a1) (start .args .a2) (d .before .before .index .ensures .0) (d .before .index2 .ensures .0) in
+    let n = start .args .s .bad - 1 in
     let past : 15 ≤ firstIndex (isLength n) table4 = omega arith in
     let lacks : hasLength n ≡ false = sym (has-length n) ∙ le-ltb _ _ past in
     simp (lt-ltb _ _ (k .if1 .left), lacks)
@@ -57,8 +67,10 @@ returns-3 : tie.Need-returns-3
 unfolding loopDg
 returns-3 c =
     let k = c .before .before .before .before in
-    let n = k .before .before .before .before .args .s .bad - 1 in
-    let stack = k .before .before .before .dg-ds .ensures in
+    let d = k .before .before .before in
+    let start = d .before .before .before in
+    let stack = d .dg-ds .ensures (start .args .a1) (start .args .a2) (d .before .before .index .ensures .0) (d .before .index2 .ensures .0) in
+    let n = start .args .s .bad - 1 in
     let entry = c .before .loop-entry .ensures ∙ ap (loopEntry Internal) (c .before .before .before .length-position .ensures) in
     let under : firstIndex (isLength n) table4 < 15 = omega arith in
     let has : hasLength n ≡ true = sym (has-length n) ∙ lt-ltb _ _ under in
@@ -69,6 +81,8 @@ pub after-good-spec : {M : Type 1} → statement M
 after-good-spec =
     tie.close
     (tie.spec
+    index-requires
+    index-requires-2
     dg-ds-requires
     add-requires
     add-requires-2

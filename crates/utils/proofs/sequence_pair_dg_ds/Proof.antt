@@ -10,7 +10,7 @@ use Rattle.reply.specs.declared.Reply.the-variants.{Admitted, Refused}
 use Rattle.reply.proofs.First.{reply-append}
 use Rattle.utils.specs.Answers.{DgDsFigures, givenDgDs}
 use Rattle.utils.specs.Pair.{Sums, strandChecks, lacksLoop, pairChecks, sequencePairDgDs}
-use Rattle.utils.proofs.Strands.{one-length, short-enough}
+use Rattle.utils.proofs.Strands.{one-length, short-enough, both-bases}
 use Rattle.utils.proofs.sequence_pair_dg_ds.Statement.{statement}
 use Rattle.utils.proofs.sequence_pair_dg_ds.Tie as tie
 
@@ -34,7 +34,9 @@ pair-sums-requires c κs =
     let k = c .before .before in
     let args = k .before .before .before .args in
     let reply = sym (k .strands-reply .ensures) ∙ c .enum-told .given .1 in
-    (one-length (now (args .a)) (now (args .b)) reply, short-enough (now (args .a)) (now (args .b)) reply)
+    let a = now (args .a) in
+    let b = now (args .b) in
+    ((one-length a b reply, short-enough a b reply), both-bases a b reply)
 
 returns : tie.Need-returns
 unfolding sequencePairDgDs missingOf

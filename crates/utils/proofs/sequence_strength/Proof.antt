@@ -12,6 +12,7 @@ use Rattle.reply.proofs.First.{reply-append}
 use Rattle.utils.specs.Answers.{givenDg}
 use Rattle.utils.specs.Single.{sequenceChecks}
 use Rattle.utils.specs.Strength.{excessChecks, excessInRange, sequenceStrength}
+use Rattle.utils.proofs.Strands.{only-bases}
 use Rattle.utils.proofs.sequence_strength.Statement.{statement}
 use Rattle.utils.proofs.sequence_strength.Tie as tie
 
@@ -40,7 +41,10 @@ returns c =
     rw reply
 
 single-sequence-dg-ds-requires : tie.Need-single-sequence-dg-ds-requires
-single-sequence-dg-ds-requires c κs = search needs
+single-sequence-dg-ds-requires c κs =
+    let k = c .before .before in
+    let s = k .before .before in
+    only-bases (now (s .before .before .args .dna)) (sym (s .sequence-reply .ensures) ∙ k .enum-told .given .1)
 
 strength-requires : tie.Need-strength-requires
 strength-requires c κs = search needs

@@ -1,10 +1,12 @@
 -- `utils::string_dna_dg_ds` meets its contract: the reply is that of the checks, and the figures are the stacks' with the initiation. Assumes nothing.
 use mathlib.Core.Path.{sym, _∙_}
 use lib.Ieee.{ofBits}
+use denote.Ref.{now}
 use Rattle.doubles.specs.Decimal.{nearest}
 use Rattle.utils.specs.Paper.{initiationDg}
 use Rattle.utils.specs.Figures.{startDg, startDs}
 use Rattle.utils.specs.Single.{stringDnaDgDs}
+use Rattle.utils.proofs.Strands.{only-bases}
 use borrow.Author.Needs.{needs}
 use Rattle.utils.proofs.string_dna_dg_ds.Statement.{statement}
 use Rattle.utils.proofs.string_dna_dg_ds.Tie as tie
@@ -19,7 +21,9 @@ enum-told : tie.Need-enum-told
 enum-told c = search needs
 
 single-sequence-dg-ds-requires : tie.Need-single-sequence-dg-ds-requires
-single-sequence-dg-ds-requires c κs = search needs
+single-sequence-dg-ds-requires c κs =
+    let k = c .before .before in
+    only-bases (now (k .before .before .args .dna)) (sym (k .sequence-reply .ensures) ∙ c .enum-told .given .1)
 
 add-requires : tie.Need-add-requires
 add-requires c κs = search needs
