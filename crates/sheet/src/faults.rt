@@ -2,13 +2,13 @@
 ghost use mathlib.Core.Path.{_≡_};
 ghost use Prim.Native.Nat.{_<_};
 ghost use lib.ListN.{length, getD};
-ghost use Rattle.sdc_common.specs.Names.{sameName};
 ghost use Rattle.statements.specs.Words.{spelled};
 ghost use Rattle.sheet.specs.Faults.{limitOf, isOver, sameWord, hasName, isNameTwice, firstFaulty, faultAt, sheetAnswer};
 use crate::rows::count_before;
 use crate::rows::first_of;
 use crate::rows::group_of;
 use crate::rows::word_of;
+use sdc_common::names::same_bytes;
 use statements::grammar::ENERGY_GIVEN;
 use statements::grammar::KELVIN;
 use statements::grammar::POSITION;
@@ -58,23 +58,6 @@ fn is_over(kinds: &[u8], i: usize) -> bool
 {
     let group = group_of(kinds[i]);
     limit_of(group) <= count_before(kinds, group, i)
-}
-
-// Whether two texts have the same bytes.
-fn same_bytes(a: &[u8], b: &[u8]) -> bool
-    ensures { λ r. ⌜ r ≡ sameName (now (a .entry)) (now (b .entry)) ⌝ }
-{
-    if a.len() != b.len() {
-        return false;
-    }
-    let mut i = 0;
-    while i < a.len() {
-        if a[i] != b[i] {
-            return false;
-        }
-        i += 1;
-    }
-    true
 }
 
 // The bytes of a word, as far as they stand in the text.

@@ -1,14 +1,14 @@
--- `sheet::faults::same_bytes` meets its contract: what was passed over is the same in both. Assumes nothing.
+-- `sdc_common::same_bytes` meets its contract: what was passed over is the same in both. Assumes nothing.
 use borrow.Author.Needs.{needs}
 use mathlib.Core.Path.{_≡_, refl, sym, _∙_}
 use Prim.Native.Nat.{_≤_, _-_}
 use native.Mathlib.Omega.{arith}
 use lib.ListN.{length, drop}
 use denote.Ref.{now}
 use Rattle.sdc_common.specs.Names.{sameName}
 use Rattle.sdc_common.proofs.Bases.{same-lengths, same-more, same-not, same-done}
-use Rattle.sheet.proofs.faults.same_bytes.Statement.{statement}
-use Rattle.sheet.proofs.faults.same_bytes.Tie as tie
+use Rattle.sdc_common.proofs.names.same_bytes.Statement.{statement}
+use Rattle.sdc_common.proofs.names.same_bytes.Tie as tie
 
 abbrev Inv-loop : tie.InvT-loop
 Inv-loop a b i₀ i = (i ≤ length a) × (length a ≡ length b) × (sameName a b ≡ sameName (drop i a) (drop i b))
