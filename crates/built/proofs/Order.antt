@@ -10,7 +10,7 @@ use borrow.Author.Tests.{eqb-true, not-false}
 use Rattle.lists.specs.Find.{any}
 use Rattle.lists.specs.Each.{Each}
 use Rattle.lists.specs.Build.{tabulate, upTo}
-use Rattle.lists.proofs.Any.{neither}
+use Rattle.lists.proofs.Tests.{neither}
 use Rattle.lists.proofs.Counted.{map-tabulate}
 use Rattle.lists.proofs.Places.{tabulate-getD}
 use Rattle.lists.proofs.Permuted.{length-permuted, any-permuted, map-permuted}

@@ -11,7 +11,7 @@ use lib.Pow.{pow-pos}
 use lib.Ieee.{Float, nan, inf, fin, Format, low, up, down, lt, eq, le, below, level, fits}
 use lib.Ieee.Fits.{eq→eqb, down-pos, and-l, and-r, and-i}
 use Rattle.doubles.specs.Size.{mag, sgn, Real}
-use Rattle.doubles.proofs.Size.{exact, mag-zero}
+use Rattle.doubles.proofs.Size.{exact, mag-zero, or-split}
 use Rattle.doubles.specs.Order.{overPart, underPart, over, under, Le}
 
 pub Le-refl : (f : Format) (x : Float) → Le f x x
@@ -41,10 +41,6 @@ below-ple false a false b h = omega (arith, ltb→lt)
 below-ple false a true b h = absurd h
 below-ple true a false b h = omega arith
 below-ple true a true b h = omega (arith, ltb→lt)
-
-or-split : (a b : Bool) → T (a || b) → T a ⊎ T b
-or-split true b t = inl tt
-or-split false b t = inr t
 
 level-ple : (s : Bool) (a : ℕ) (t : Bool) (b : ℕ) → T (level s a t b) → Ple s a t b
 level-ple false a false b h = let e = eqb→eq a b (and-l (eqb a b) true h) in omega arith

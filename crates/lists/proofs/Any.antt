@@ -1,6 +1,6 @@
 -- A test that some element of a list passes, or none. Assumes nothing.
 use mathlib.Core.Path.{_≡_, refl}
-use mathlib.Core.Bool.{Bool, true, false, _||_}
+use mathlib.Core.Bool.{Bool, true, false}
 use mathlib.Core.List.{List, [], _∷_}
 use Prim.Native.Nat.{ℕ, zero, suc, _<_, _≤_}
 use native.Mathlib.Nat.{le-of-suc-le-suc, not-suc-le-zero}
@@ -8,13 +8,9 @@ use native.Mathlib.Omega.{arith}
 use lib.ListN.{length, getD}
 use Rattle.lists.specs.Find.{any, firstIndex}
 use Rattle.lists.specs.Build.{upTo}
+use Rattle.lists.proofs.Tests.{neither}
 use Rattle.lists.proofs.Find.{any-true, any-false}
 use Rattle.lists.proofs.Build.{length-tabulate, getD-tabulate}
-
--- what a disjunction that fails tells
-pub neither : (a b : Bool) → (a || b) ≡ false → (a ≡ false) × (b ≡ false)
-neither true b e = absurd (let z : _≡_ {A = ℕ} 0 1 = cc in omega arith)
-neither false b e = (refl, e)
 
 module _ {A : Type 0} (p : A → Bool) where
   -- where none passes, each fails
