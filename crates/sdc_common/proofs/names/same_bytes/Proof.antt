@@ -42,9 +42,10 @@ loop-less c = search needs
 
 loop-again : tie.Need-loop-again Inv-loop μ-loop
 loop-again c =
+    let l = c .before .before .before .before .loop in
     let a = now (c .before .before .before .before .before .before .args .a) in
     let b = now (c .before .before .before .before .before .before .args .b) in
-    (omega arith, c .before .before .before .before .loop .inv .1, c .before .before .before .before .loop .inv .2 ∙ same-more a b (c .before .before .before .before .loop .i) (omega arith) (omega arith) (c .if2 .left))
+    (omega arith, l .inv .1, l .inv .2 ∙ same-more a b (l .i) (omega arith) (omega arith) (c .if2 .left))
 
 returns-3 : tie.Need-returns-3 Inv-loop μ-loop
 returns-3 c =
