@@ -4,7 +4,7 @@ use crate::print::print;
 use crate::print::print_bytes;
 use crate::print::width;
 use crate::reads::part;
-use crate::reads::place_at;
+use sheet::rows::place_at;
 
 pub(crate) enum Occupant {
     Nobody,

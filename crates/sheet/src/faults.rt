@@ -1,12 +1,13 @@
 // What is wrong with a file whose every line can be read.
 ghost use mathlib.Core.Path.{_≡_};
 ghost use Prim.Native.Nat.{_<_};
-ghost use lib.ListN.{length, getD};
+ghost use lib.ListN.{length};
 ghost use Rattle.statements.specs.Words.{spelled};
 ghost use Rattle.sheet.specs.Faults.{limitOf, isOver, sameWord, hasName, isNameTwice, firstFaulty, faultAt, sheetAnswer};
 use crate::rows::count_before;
 use crate::rows::first_of;
 use crate::rows::group_of;
+use crate::rows::place_at;
 use crate::rows::word_of;
 use sdc_common::names::same_bytes;
 use statements::grammar::ENERGY_GIVEN;
@@ -129,22 +130,12 @@ fn first_faulty(text: &[u8], kinds: &[u8], words: &[usize]) -> usize
     i
 }
 
-// The number of a row's line, or 0.
-fn line_of(lines: &[usize], row: usize) -> usize
-    ensures { λ r. ⌜ r ≡ getD (now (lines .entry)) row 0 ⌝ }
-{
-    if row < lines.len() {
-        return lines[row];
-    }
-    0
-}
-
 // What is told of row i, which is at fault.
 fn fault_at(text: &[u8], kinds: &[u8], lines: &[usize], words: &[usize], i: usize) -> SheetAnswer
     requires { ⌜ i < length (now kinds) ⌝ }
     ensures { λ r. ⌜ r ≡ faultAt (now (text .entry)) (now (kinds .entry)) (now (lines .entry)) (now (words .entry)) i ⌝ }
 {
-    let line = line_of(lines, i);
+    let line = place_at(lines, i);
     if is_name_twice(text, kinds, words, i) {
         return SheetAnswer::NameTwice(line, word_of(words, i, 0));
     }

@@ -29,7 +29,7 @@ pub(crate) fn line_end(text: &[u8], at: usize) -> usize
 }
 
 // Space, tab and carriage return.
-fn is_blank(byte: u8) -> bool
+pub fn is_blank(byte: u8) -> bool
     ensures { λ r. ⌜ r ≡ isBlank byte ⌝ }
 {
     match byte {
