@@ -25,7 +25,7 @@ need_rgrow() {
     export RGROW_SRC
 }
 
-# Ours, so its absence is a fault.
+# Built from this repository, so its absence is a fault.
 need_port() {
     PORT_LIB=${PORT_LIB:-$repository/target/staticlib}
     [ -f "$PORT_LIB/libexports.a" ] || {

@@ -11,6 +11,7 @@ use units::Kelvin;
 use utils::DgAnswer;
 use utils::DgDsAnswer;
 
+// A line of the table, and whether it holds.
 fn say(line: &[u8], holds: bool) {
     io::write_all(1, line);
     if holds {
@@ -20,10 +21,12 @@ fn say(line: &[u8], holds: bool) {
     }
 }
 
+// The same bits.
 fn same(x: f64, y: f64) -> bool {
     doubles::bits(x) == doubles::bits(y)
 }
 
+// Whether dG and dS were given, with these bits.
 fn is_dg_ds(answer: DgDsAnswer, dg: f64, ds: f64) -> bool {
     match answer {
         DgDsAnswer::Given(g, s) => same(g.0, dg) && same(s.0, ds),
@@ -31,6 +34,7 @@ fn is_dg_ds(answer: DgDsAnswer, dg: f64, ds: f64) -> bool {
     }
 }
 
+// Whether an energy was given, with these bits.
 fn is_dg(answer: DgAnswer, dg: f64) -> bool {
     match answer {
         DgAnswer::Given(g) => same(g.0, dg),
@@ -38,6 +42,7 @@ fn is_dg(answer: DgAnswer, dg: f64) -> bool {
     }
 }
 
+// Whether the call was refused so.
 fn is_refused(answer: DgAnswer, refusal: Refusal) -> bool {
     match answer {
         DgAnswer::Given(_) => false,
@@ -138,6 +143,7 @@ fn states_of(scaffold: &[u8]) -> CountAnswer {
     sdc1d::number_of_states(scaffold, &glues, &dg, &ds, &potentials, ambient)
 }
 
+// Whether the tables were built.
 fn is_built(reply: Reply) -> bool {
     match reply {
         Reply::Admitted => true,
@@ -145,6 +151,7 @@ fn is_built(reply: Reply) -> bool {
     }
 }
 
+// Whether the build was refused for its base names.
 fn is_too_many_glues(reply: Reply) -> bool {
     match reply {
         Reply::Admitted => false,
@@ -152,6 +159,7 @@ fn is_too_many_glues(reply: Reply) -> bool {
     }
 }
 
+// Whether so many states were counted.
 fn is_count(answer: CountAnswer, count: u64) -> bool {
     match answer {
         CountAnswer::States(given) => given == count,
@@ -159,6 +167,7 @@ fn is_count(answer: CountAnswer, count: u64) -> bool {
     }
 }
 
+// Whether the count was refused.
 fn is_too_many_states(answer: CountAnswer) -> bool {
     match answer {
         CountAnswer::States(_) => false,
@@ -166,6 +175,7 @@ fn is_too_many_states(answer: CountAnswer) -> bool {
     }
 }
 
+// The lines on base names and on counts.
 fn limits() {
     let mut marks = [1u8; 33];
     marks[32] = 0;
@@ -187,6 +197,7 @@ fn limits() {
     );
 }
 
+// The lines on sequences and loops.
 fn table() {
     say(
         b"pair AAAA, TATT: no loop term (dG 0.61 + 0.69 - 1.0, dS -0.0213)",
@@ -206,6 +217,7 @@ fn table() {
     );
 }
 
+// The worked examples.
 fn examples() {
     // SantaLucia's duplex CGTTGA / GCAACT, without the terminal A·T term, which the Rust never adds: -5.40.
     say(
@@ -223,6 +235,7 @@ fn examples() {
     );
 }
 
+// Every line in turn.
 fn main() {
     table();
     limits();

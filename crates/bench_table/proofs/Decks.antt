@@ -1,4 +1,4 @@
--- The bench table's lines on decks.
+-- The bench table's lines on decks. Assumes nothing.
 use mathlib.Core.Bool.{true}
 use mathlib.Core.List.{List, [], _∷_, _++_}
 use mathlib.Core.Path.{_≡_, refl}

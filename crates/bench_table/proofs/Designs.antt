@@ -1,4 +1,4 @@
--- The bench table's lines on states and on the search, and the design of two zeros, computed.
+-- The bench table's lines on states and on the search, and the design of two zeros, computed. Assumes nothing.
 use mathlib.Core.Path.{_≡_, refl}
 use mathlib.Core.Bool.{true}
 use mathlib.Core.List.{List, [], _∷_}

@@ -1,4 +1,4 @@
--- The bench table's lines on sequences. A fact on doubles goes through the value written out, so that no two sums are compared before they are worked out.
+-- The bench table's lines on sequences. A fact on doubles goes through the value written out, so that no two sums are compared before they are worked out. Assumes nothing.
 use mathlib.Core.Path.{_≡_, refl, sym, _∙_}
 use mathlib.Core.Bool.{true, false}
 use mathlib.Core.List.{List, [], _∷_}

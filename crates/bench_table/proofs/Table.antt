@@ -1,4 +1,4 @@
--- The bench table's daggered lines, all of them.
+-- The bench table's daggered lines, all of them. Assumes nothing.
 use Rattle.built.specs.Bench as Names
 use Rattle.bench_table.specs.Table.{BenchTable}
 use Rattle.bench_table.proofs.Sequences as Sequences

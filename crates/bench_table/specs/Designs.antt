@@ -10,6 +10,7 @@ use Rattle.design.specs.Design.{Design, design}
 abbrev pub half : Ambient
 half = record { rt = record { 0 = nearest (plus 5 1) }; «strand_excess» = record { 0 = zero }; «scaffold_excess» = record { 0 = zero } }
 
+-- a glue table in which nothing binds
 abbrev pub zeros : List Float
 zeros = replicate 4096 zero
 

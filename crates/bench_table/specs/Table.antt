@@ -26,13 +26,15 @@ use Rattle.bench_table.specs.Letters.{A, C, G, T}
 use Rattle.bench_table.specs.Designs.{bare, onePosition, twoPositions}
 
 infixl 60 _⊕_
+-- one rounded sum of doubles
 abbrev pub _⊕_ : Float → Float → Float
 x ⊕ y = add binary64 x y
 
--- "[1,0,0,2]" and its words
+-- "[1,0,0,2]"
 abbrev pub configuration : List ℕ
 configuration = 1 ∷ 0 ∷ 0 ∷ 2 ∷ []
 
+-- the words of its deck
 abbrev pub words : List ℕ
 words = 0x1000_0004 ∷ 0x2000_0001 ∷ 0x3000_0002 ∷ 0x2000_0002 ∷ []
 
@@ -40,6 +42,7 @@ words = 0x1000_0004 ∷ 0x2000_0001 ∷ 0x3000_0002 ∷ 0x2000_0002 ∷ []
 abbrev pub faulty : List ℕ
 faulty = 0x1000_0002 ∷ 0x3000_0001 ∷ 0x3000_0001 ∷ []
 
+-- the daggered lines, each a field
 pub record BenchTable : Type 0 where
   -- "A": 3
   pub a : stringDnaDgDs (A ∷ []) ≡ refusedDgDs (numberOf TooShort)

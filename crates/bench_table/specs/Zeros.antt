@@ -25,6 +25,7 @@ tiny =
     design (1 ∷ 2 ∷ []) (0 ∷ 0 ∷ 0 ∷ 0 ∷ 1 ∷ 3 ∷ 3 ∷ 2 ∷ 0 ∷ []) (set (set (set zeros 65 (nearest (minus 5 324))) 130 (nearest (plus 5 324))) 195 (nearest (plus 1 0))) zeros
     (zero ∷ nearest (minus 35 324) ∷ nearest (plus 4 323) ∷ []) eighth
 
+-- what the search and the walk give of it
 pub record TwoZeros : Type 0 where
   pub energy : (x y : ℕ) → searchAnswer tiny (x ∷ y ∷ []) ≡ given zero
   pub configuration : (x y : ℕ) → searchEntries tiny (x ∷ y ∷ []) ≡ 0 ∷ 2 ∷ []

@@ -57,7 +57,7 @@ pub record AsMany (p : Params) : Type 0 where
   pub starts : length (p .energies .starts) ≡ entryCount p
   pub lengths : length (p .energies .lengths) ≡ entryCount p
 
--- the entries of a parameter set
+-- entry i of a parameter set
 abbrev pub entryIn : Params → ℕ → Entry
 entryIn p i =
     record {
@@ -73,6 +73,7 @@ entryIn p i =
       size = getD (p .energies .lengths) i 0;
     }
 
+-- all entries of a parameter set, in order
 abbrev pub entriesIn : Params → List Entry
 entriesIn p = tabulate (entryCount p) (entryIn p)
 

@@ -38,6 +38,7 @@ pub pair-last : afterBoth forName forPair ≡ nearest (minus 1 0)
 unfolding withEntries writesOf writeOf tabulate gluesOf glueOf partOf basesOf foldl learn any firstIndex baseOf baseLength starsOf sameName baseNumber cellOf entryAt setBoth emptyTable dgTable nearest add
 pair-last = refl
 
+-- and so it would in the other order
 pub name-last : afterBoth forPair forName ≡ zero
 unfolding withEntries writesOf writeOf tabulate gluesOf glueOf partOf basesOf foldl learn any firstIndex baseOf baseLength starsOf sameName baseNumber cellOf entryAt setBoth emptyTable dgTable nearest add
 name-last = refl
@@ -47,6 +48,7 @@ pub name-pair-refused : fromParams (withEntries (oneStrand 2) (forName ∷ forPa
 unfolding withEntries fromParams wrongSize unfitNames unfitGlue any tabulate gluesOf glueOf partOf isUnknown knownNames basesOf foldl learn firstIndex baseOf baseLength starsOf sameName baseNumber writesOf writeOf cellOf entryAt Entries.unfitAt samePair duplicated
 name-pair-refused = refl
 
+-- and so is the other order
 pub pair-name-refused : fromParams (withEntries (oneStrand 2) (forPair ∷ forName ∷ [])) lent .number ≡ numberOf DuplicatePair
 unfolding withEntries fromParams wrongSize unfitNames unfitGlue any tabulate gluesOf glueOf partOf isUnknown knownNames basesOf foldl learn firstIndex baseOf baseLength starsOf sameName baseNumber writesOf writeOf cellOf entryAt Entries.unfitAt samePair duplicated
 pair-name-refused = refl

@@ -9,14 +9,17 @@ use Rattle.doubles.specs.Size.{sgn, mag}
 use Rattle.decimals.specs.Digits.{digitsIn, decimalDigits}
 use Rattle.decimals.specs.Print.{fixedText}
 
+-- a double, and its text
 pub record Case : Type 0 where
   pub double : Float
   pub text : List ℕ
 
 infix 68 _is_
+-- `double is text`, as the cases are written
 abbrev pub _is_ : Float → List ℕ → Case
 double is text = record { double = double; text = text }
 
+-- signs, zeros, ties and both ends
 abbrev pub cases : List Case
 cases =
     -- -1.5
@@ -51,15 +54,17 @@ cases =
     ∷
     []
 
+-- the definition prints each case as it was worked out
 pub as-worked-out : map (λ (c : Case). fixedText (c .double)) cases ≡ map (λ (c : Case). c .text) cases
 unfolding fixedText sgn mag
 as-worked-out = refl
 
--- 255 in 4 hexadecimal digits, and 1,048,576
+-- 255 in 4 hexadecimal digits
 pub hexadecimal : digitsIn 16 4 255 ≡ 48 ∷ 48 ∷ 102 ∷ 102 ∷ []
 unfolding digitsIn
 hexadecimal = refl
 
+-- and 1,048,576 in decimal digits
 pub count : decimalDigits 1048576 ≡ 49 ∷ 48 ∷ 52 ∷ 56 ∷ 53 ∷ 55 ∷ 54 ∷ []
 unfolding decimalDigits
 count = refl

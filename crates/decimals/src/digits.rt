@@ -17,6 +17,7 @@ fn digit_value(b: u8) -> u64
     }
 }
 
+// A byte as a number.
 fn wide(b: u8) -> u64
     ensures { λ r. ⌜ r ≡ b ⌝ }
 {

@@ -15,6 +15,7 @@ ghost use lib.Ieee.{binary64};
 ghost use lib.Ieee.Nearest.{closest};
 ghost use Rattle.decimals.specs.Print.{minusSigns, fixed, millionths, printed, laid};
 
+// How many millionths are 1.
 const MILLION: u64 = 1_000_000;
 
 // significand * 10 ^ 6 / 2 ^ shift to the nearest whole number, of two equally near the even one.
@@ -42,6 +43,7 @@ pub(crate) fn in_millionths(bits: u64) -> u64
     shifted_millionths(0x10_0000_0000_0000 + digits, 1075 - field as usize)
 }
 
+// How many minus signs stand in front: one, but none before 0.
 fn minus_signs(negative: bool, n: u64) -> usize
     ensures { λ r. ⌜ (r ≡ minusSigns negative n) × (r ≤ 1) ⌝ }
 {
@@ -54,6 +56,7 @@ fn minus_signs(negative: bool, n: u64) -> usize
     1
 }
 
+// The minus sign, where there is one.
 fn put_signs(signs: usize, out: &mut [u8])
     requires { ⌜ (signs ≤ 1) × (signs ≤ length (now out)) ⌝ }
     ensures { λ r. ⌜ now (out .exit) ≡ sets (now (out .entry)) 0 (replicate signs 45) ⌝ }

@@ -39,6 +39,7 @@ pub(crate) fn past(text: &[u8], start: usize) -> &[u8]
     &text[start..]
 }
 
+// Whether a text begins with a byte.
 fn begins_with(text: &[u8], b: u8) -> bool
     ensures { λ r. ⌜ r ≡ beginsWith b (now (text .entry)) ⌝ }
 {
@@ -48,6 +49,7 @@ fn begins_with(text: &[u8], b: u8) -> bool
     text[0] == b
 }
 
+// How long the sign in front of a text is.
 fn sign_length(text: &[u8]) -> usize
     ensures { λ r. ⌜ (r ≡ signLength (now (text .entry))) × (r ≤ length (now (text .entry))) ⌝ }
 {
@@ -60,6 +62,7 @@ fn sign_length(text: &[u8]) -> usize
     0
 }
 
+// How long the point in front of a text is.
 fn point_length(text: &[u8]) -> usize
     ensures { λ r. ⌜ (r ≡ pointLength (now (text .entry))) × (r ≤ length (now (text .entry))) ⌝ }
 {
@@ -69,6 +72,7 @@ fn point_length(text: &[u8]) -> usize
     0
 }
 
+// Whether a text is nothing but digits, and has one.
 fn all_digits(text: &[u8]) -> bool
     ensures { λ r. ⌜ r ≡ allDigits (now (text .entry)) ⌝ }
 {
@@ -126,6 +130,7 @@ fn place(negative: bool, digits: u64, up: usize, down: usize) -> NumberAnswer
     NumberAnswer::Number(double(decimal_bits(negative, digits, 0, down - up)))
 }
 
+// Whether there is a digit neither before the point nor after it.
 fn no_digits(whole: &[u8], fraction: &[u8]) -> bool
     ensures { λ r. ⌜ r ≡ noDigits (now (whole .entry)) (now (fraction .entry)) ⌝ }
 {

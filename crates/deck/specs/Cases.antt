@@ -12,14 +12,17 @@ use Rattle.deck.specs.Form.{singles}
 use Rattle.deck.specs.Deck.{follow, positions, isDeck, begins, misfitOf, laidOut, configurationOf}
 use Rattle.deck.specs.Reading.{ReadFigures, readFigures}
 
+-- a deck, and what reading it answers
 pub record Case : Type 0 where
   pub words : List ℕ
   pub figures : ReadFigures
 
 infix 68 _is_
+-- `words is figures`, as the cases are written
 abbrev pub _is_ : List ℕ → ReadFigures → Case
 words is figures = record { words = words; figures = figures }
 
+-- an answer with so many positions
 abbrev pub configuration : ℕ → ReadFigures
 configuration count = record { number = answered; count = count; place = Nowhere }
 
@@ -27,9 +30,11 @@ configuration count = record { number = answered; count = count; place = Nowhere
 abbrev pub fault : ℕ → ReadFigures
 fault place = record { number = numberOf BadDeck; count = 0; place = At place }
 
+-- so many words of strand 1
 abbrev pub strands : ℕ → List ℕ
 strands n = replicate n 0x2000_0001
 
+-- every kind of fault, at its first and its last place
 abbrev pub cases : List Case
 cases =
     [] is fault 0
@@ -55,9 +60,11 @@ cases =
     ∷ (0x1000_0080 ∷ strands 200) is fault 129
     ∷ []
 
+-- what the definitions answer to a case
 abbrev answerTo : Case → ReadFigures
 answerTo c = readFigures singles (c .words) (replicate 128 0)
 
+-- the definitions answer each case as it was worked out
 pub cases-right : map answerTo cases ≡ map (λ c. c .figures) cases
 unfolding readFigures isDeck begins follow positions misfitOf firstIndex beginnings configurationOf laidOut
 cases-right = refl

@@ -19,6 +19,7 @@ nothing = stretch 0 0
 abbrev pub something : Stretch → Bool
 something s = leb 1 (s .run)
 
+-- what words tell of, and the words for it
 pub record Form : Type 0 where
   -- what a word tells of, and nothing if it is no word of the form
   pub told : ℕ → Stretch

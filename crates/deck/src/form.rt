@@ -23,6 +23,7 @@ pub struct Stretch {
 }
 
 impl Stretch {
+    // No position at all.
     pub(crate) fn nothing() -> Self
         ensures { λ r. ⌜ r ≡ nothing ⌝ }
     {

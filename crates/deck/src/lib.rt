@@ -15,6 +15,7 @@ ghost use Rattle.deck.specs.Writing.{writeFiguresOf, writeFigures, write
 // A first word, and a word for each position at most.
 const WORDS: usize = 129;
 
+// What reading a deck answers.
 pub enum DeckRead {
     // The number of positions; the configuration stands in the first lent entries.
     Positions(usize),
@@ -22,6 +23,7 @@ pub enum DeckRead {
     Refused(Refusal, Place),
 }
 
+// What writing a deck answers.
 pub enum DeckWritten {
     // The number of words; the deck stands in the first lent words.
     Words(usize),

@@ -6,6 +6,7 @@ ghost use Rattle.deck.specs.Word.{kindOf, payloadOf, wordOf};
 // How many payloads there are: the low 28 bits.
 const PAYLOADS: u32 = 0x1000_0000;
 
+// A kind, the top 4 bits, and a payload, the low 28.
 pub struct Word {
     pub kind: u32,
     pub payload: u32,

@@ -20,6 +20,7 @@ pub record Figures (A : Type 0) : Type 0 where
   pub place : Place
   pub figure : A
 
+-- an answer, and no place
 abbrev pub given : {A : Type 0} → A → Figures A
 given figure = record { number = answered; place = Nowhere; figure = figure }
 
@@ -29,14 +30,17 @@ refused blank number = record { number = number; place = Nowhere; figure = blank
 
 -- ---- bonds
 
+-- the answer of `bond_between_strands`
 abbrev pub strandBondAnswer : Design → ℕ → ℕ → Figures Float
 strandBondAnswer d x y = answer (firstOf (strandBondChecks d x y)) (refused zero) (given (strandBondIn d x y))
 
+-- the answer of `bond_with_scaffold`
 abbrev pub scaffoldBondAnswer : Design → ℕ → ℕ → Figures Float
 scaffoldBondAnswer d i strand = answer (firstOf (scaffoldBondChecks d i strand)) (refused zero) (given (scaffoldBondIn d i strand))
 
 -- ---- friends
 
+-- the answer of `friends_btm`: how many there are
 abbrev pub friendsAnswer : Design → ℕ → List ℕ → Figures ℕ
 friendsAnswer d i entries = answer (firstOf (friendsChecks d i entries)) (refused 0) (given (length (friendsOf d i)))
 
@@ -47,9 +51,11 @@ friendsEntries d i entries =
 
 -- ---- states
 
+-- the answer of `number_of_states`
 abbrev pub countAnswer : Design → Figures ℕ
 countAnswer d = answer (firstOf (countChecks d)) (refused 0) (given (count (modelOf d)))
 
+-- the answer of `state_at_rank`: its number alone
 abbrev pub rankAnswer : Design → ℕ → List ℕ → Figures Unit
 rankAnswer d rank entries = answer (firstOf (rankChecks d rank entries)) (refused tt) (given tt)
 
@@ -59,6 +65,7 @@ rankEntries d rank entries = answer (firstOf (rankChecks d rank entries)) (λ _.
 
 -- ---- energies
 
+-- the answer of `g_system`
 abbrev pub stateEnergyAnswer : Design → List ℕ → Figures Float
 stateEnergyAnswer d s = answer (firstOf (energyChecks d s)) (refused zero) (given (stateEnergy (modelOf d) s))
 
@@ -67,9 +74,11 @@ pub record Chain : Type 0 where
   pub bare : Float
   pub timesRt : Float
 
+-- what a refusal carries in place of both
 abbrev pub noChain : Chain
 noChain = record { bare = zero; timesRt = zero }
 
+-- the answer of `chain_energy`
 abbrev pub chainEnergyAnswer : Design → List ℕ → Figures Chain
 chainEnergyAnswer d s =
     answer (firstOf (energyChecks d s)) (refused noChain)

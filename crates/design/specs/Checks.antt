@@ -31,23 +31,27 @@ wrongLengths glues dg ds potentials =
 abbrev pub highGlue : ℕ → Bool
 highGlue glue = ltb 63 glue
 
+-- the counts, the lengths or a glue is outside its limits
 unfoldable pub wrongSizes : List ℕ → List ℕ → List Float → List Float → List Float → Bool
 unfolding any
 wrongSizes scaffold glues dg ds potentials =
     wrongCounts scaffold potentials || (wrongLengths glues dg ds potentials || (any highGlue scaffold || any highGlue glues))
 
+-- document 01's refusal 1 of a design
 abbrev pub sizesOut : Design → Bool
 sizesOut d = wrongSizes (d .scaffold) (d .glues) (d .dg) (d .ds) (d .potentials)
 
--- a strand or a position asked for by number that the design lacks
+-- a strand asked for by number that the design lacks
 abbrev pub noStrand : Design → ℕ → Bool
 noStrand d strand = leb (strands d) strand
 
+-- a position asked for by number that the design lacks
 abbrev pub noPosition : Design → ℕ → Bool
 noPosition d i = leb (positions d) i
 
 -- ---- range: not finite, or outside its range, ends included
 
+-- outside low to high; a NaN is outside of any
 abbrev pub outside : Float → Float → Float → Bool
 outside low high x = not (within low high x)
 
@@ -67,10 +71,11 @@ ambientOut ambient =
     outside (nearest (plus 125 3)) (nearest (plus 8 0)) (ambient .rt .0)
     || (beyond 1024 (ambient .«strand_excess» .0) || beyond 1024 (ambient .«scaffold_excess» .0))
 
--- the strand is a friend at a position, and at some position
+-- the strand is a friend at a position
 abbrev pub friendAt : List ℕ → List ℕ → List Float → List Float → ℕ → ℕ → Bool
 friendAt scaffold glues dg ds strand i = befriends (getD scaffold i 0) glues dg ds strand
 
+-- the strand is a friend at some position
 unfoldable pub somewhere : List ℕ → List ℕ → List Float → List Float → ℕ → Bool
 unfolding any tabulate befriends
 somewhere scaffold glues dg ds strand = any (friendAt scaffold glues dg ds strand) (upTo (length scaffold))
@@ -79,30 +84,37 @@ somewhere scaffold glues dg ds strand = any (friendAt scaffold glues dg ds stran
 abbrev pub unfit : List ℕ → List ℕ → List Float → List Float → List Float → ℕ → Bool
 unfit scaffold glues dg ds potentials strand = somewhere scaffold glues dg ds strand && beyond 1024 (getD potentials strand zero)
 
+-- a potential that is read is out of its range
 unfoldable pub potentialsOut : Design → Bool
 unfolding any tabulate somewhere nearest
 potentialsOut d = any (unfit (d .scaffold) (d .glues) (d .dg) (d .ds) (d .potentials)) (upTo (strands d))
 
 -- ---- null: strand 0 has a nonzero glue, or row or column 0 of a glue table has a nonzero cell
 
+-- strand 0 has a nonzero glue
 abbrev pub nullGlued : List ℕ → Bool
 nullGlued glues = not (eqb (west glues 0) 0) || (not (eqb (bottom glues 0) 0) || not (eqb (east glues 0) 0))
 
+-- row 0 or column 0 has a nonzero cell at a glue
 abbrev pub nullCells : List Float → List Float → ℕ → Bool
 nullCells dg ds glue = binding dg ds 0 glue || binding dg ds glue 0
 
+-- document 01's refusal 10 of a design
 unfoldable pub nullBinds : List ℕ → List Float → List Float → Bool
 unfolding any tabulate
 nullBinds glues dg ds = nullGlued glues || any (nullCells dg ds) (upTo 64)
 
 -- ---- stranger: a configuration holds, at some position, neither 0 nor a friend; a number that is no strand is no friend
 
+-- an occupant of a place with this scaffold glue that is neither 0 nor a friend
 abbrev pub noFriend : ℕ → List ℕ → List Float → List Float → ℕ → ℕ → Bool
 noFriend glue glues dg ds strands occupant = not (eqb occupant 0) && not (ltb occupant strands && befriends glue glues dg ds occupant)
 
+-- the same of the occupant of position i
 abbrev pub stranger : List ℕ → List ℕ → List Float → List Float → ℕ → List ℕ → ℕ → Bool
 stranger scaffold glues dg ds strands s i = noFriend (getD scaffold i 0) glues dg ds strands (getD s i 0)
 
+-- document 01's refusal 11 of a configuration
 unfoldable pub strangers : Design → List ℕ → Bool
 unfolding any tabulate befriends
 strangers d s = any (stranger (d .scaffold) (d .glues) (d .dg) (d .ds) (strands d) s) (upTo (positions d))
@@ -119,6 +131,7 @@ rankTooHigh d rank = leb (count (modelOf d)) rank
 
 -- ---- a design is admitted if no condition on which the table refuses the search holds
 
+-- Document 01's admitted design: none of its own checks holds.
 pub record Admitted (d : Design) : Type 0 where
   pub sizes : sizesOut d ≡ false
   pub cells : cellsOut (d .dg) (d .ds) ≡ false
@@ -139,9 +152,11 @@ designChecks ownSize d own =
     ∷ NullBinds if nullBinds (d .glues) (d .dg) (d .ds)
     ∷ own
 
+-- what is refused of a strand bond
 abbrev pub strandBondChecks : Design → ℕ → ℕ → List Check
 strandBondChecks d x y = designChecks (noStrand d x || noStrand d y) d []
 
+-- what is refused of a scaffold bond
 abbrev pub scaffoldBondChecks : Design → ℕ → ℕ → List Check
 scaffoldBondChecks d i strand = designChecks (noPosition d i || noStrand d strand) d []
 
@@ -149,6 +164,7 @@ scaffoldBondChecks d i strand = designChecks (noPosition d i || noStrand d stran
 abbrev pub friendsChecks : Design → ℕ → List ℕ → List Check
 friendsChecks d i entries = designChecks (noPosition d i || not (eqb (length entries) 64)) d []
 
+-- what is refused of the count
 abbrev pub countChecks : Design → List Check
 countChecks d = designChecks false d (TooManyStates if tooManyStates d ∷ [])
 

@@ -10,6 +10,7 @@ use Rattle.doubles.specs.Decimal.{zero}
 use Rattle.units.specs.declared.Ambient.{Ambient}
 use Rattle.model.specs.Model.{Model}
 
+-- Document 01's design: what a call on one is lent.
 pub record Design : Type 0 where
   -- the scaffold glue of each position
   pub scaffold : List ℕ
@@ -18,10 +19,11 @@ pub record Design : Type 0 where
   -- the dG and the dS table, 64 by 64, row first
   pub dg : List Float
   pub ds : List Float
-  -- one for each strand: the logarithm of its concentration
+  -- document 01's potentials, one for each strand: the logarithm of its concentration
   pub potentials : List Float
   pub ambient : Ambient
 
+-- a design out of its parts, in the order in which calls take them
 abbrev pub design : List ℕ → List ℕ → List Float → List Float → List Float → Ambient → Design
 design scaffold glues dg ds potentials ambient =
     record { scaffold = scaffold; glues = glues; dg = dg; ds = ds; potentials = potentials; ambient = ambient }
@@ -30,6 +32,7 @@ design scaffold glues dg ds potentials ambient =
 abbrev pub lent : RefT (List ℕ) → RefT (List ℕ) → RefT (List Float) → RefT (List Float) → RefT (List Float) → Ambient → Design
 lent scaffold glues dg ds potentials ambient = design (now scaffold) (now glues) (now dg) (now ds) (now potentials) ambient
 
+-- how many positions the scaffold has
 abbrev pub positions : Design → ℕ
 positions d = length (d .scaffold)
 
@@ -47,18 +50,23 @@ cell table row column = getD table (row * 64 + column) zero
 abbrev pub side : List ℕ → ℕ → ℕ → ℕ
 side glues strand which = getD glues (3 * strand + which) 0
 
+-- the glue at a strand's west
 abbrev pub west : List ℕ → ℕ → ℕ
 west glues strand = side glues strand 0
 
+-- the glue at a strand's bottom, which holds the scaffold
 abbrev pub bottom : List ℕ → ℕ → ℕ
 bottom glues strand = side glues strand 1
 
+-- the glue at a strand's east
 abbrev pub east : List ℕ → ℕ → ℕ
 east glues strand = side glues strand 2
 
+-- the scaffold glue at a position
 abbrev pub scaffoldGlue : Design → ℕ → ℕ
 scaffoldGlue d i = getD (d .scaffold) i 0
 
+-- the potential of a strand
 abbrev pub potential : Design → ℕ → Float
 potential d strand = getD (d .potentials) strand zero
 
@@ -95,27 +103,33 @@ unfoldable pub friendsTo : ℕ → List ℕ → List Float → List Float → �
 unfolding keep tabulate befriends
 friendsTo glue glues dg ds strands = keep (befriends glue glues dg ds) (upTo strands)
 
--- those of a position, and of each
+-- the friends of a position
 abbrev pub friendsIn : List ℕ → List ℕ → List Float → List Float → ℕ → ℕ → List ℕ
 friendsIn scaffold glues dg ds strands i = friendsTo (getD scaffold i 0) glues dg ds strands
 
+-- the friends of each position
 abbrev pub friendLists : List ℕ → List ℕ → List Float → List Float → ℕ → List (List ℕ)
 friendLists scaffold glues dg ds strands = tabulate (length scaffold) (friendsIn scaffold glues dg ds strands)
 
 -- ---- of a design
 
+-- the strand bond of two strands of a design
 abbrev pub strandBondIn : Design → ℕ → ℕ → Float
 strandBondIn d = strandBond (d .glues) (d .dg) (d .ds) (d .ambient)
 
+-- the scaffold bond of a position and a strand of a design
 abbrev pub scaffoldBondIn : Design → ℕ → ℕ → Float
 scaffoldBondIn d i = scaffoldBond (scaffoldGlue d i) (d .glues) (d .dg) (d .ds) (d .ambient)
 
+-- a strand is a friend at a position of a design
 abbrev pub isFriend : Design → ℕ → ℕ → Bool
 isFriend d i = befriends (scaffoldGlue d i) (d .glues) (d .dg) (d .ds)
 
+-- the friends of a position of a design
 abbrev pub friendsOf : Design → ℕ → List ℕ
 friendsOf d = friendsIn (d .scaffold) (d .glues) (d .dg) (d .ds) (strands d)
 
+-- the model that a design gives
 unfoldable pub modelOf : Design → Model
 unfolding tabulate friendsTo scaffoldBond strandBond
 modelOf d =

@@ -21,6 +21,7 @@ pub record Bound (d : Design) (i strand : ℕ) : Type 0 where
   pub known : strand < strands d
   pub nonzero : (ne (cell (d .dg) (scaffoldGlue d i) (bottom (d .glues) strand)) zero ≡ true) ⊎ (ne (cell (d .ds) (scaffoldGlue d i) (bottom (d .glues) strand)) zero ≡ true)
 
+-- the friends of a design's model are document 01's, and its states those that no check refuses
 pub record FriendsRight (d : Design) : Type 0 where
   -- a strand is a friend at a position exactly if it is one of the design's and a cell is nonzero
   pub exactly : (i strand : ℕ) → Friend (modelOf d) i strand ↔ Bound d i strand

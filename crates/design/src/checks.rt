@@ -1,4 +1,4 @@
-// The conditions on which a design is refused. The searches for a number out of its range say where the first one stands.
+// The conditions on which a design is refused.
 use super::friends::binds;
 use super::friends::is_friend_somewhere;
 use super::reads::bottom_glue;
@@ -17,27 +17,37 @@ ghost use Rattle.reply.specs.First.{firstOf};
 ghost use Rattle.design.specs.Design.{lent};
 ghost use Rattle.design.specs.Checks.{highGlue, outside, wrongSizes, cellsOut, ambientOut, unfit, nullCells, nullBinds, designChecks};
 
+// The most positions of a scaffold.
 const POSITIONS: usize = 128;
 
+// The most strands, strand 0 included.
 const STRANDS: usize = 64;
 
+// The cells of a glue table: 64 rows of 64.
 const CELLS: usize = 4096;
 
+// The highest glue.
 const LAST_GLUE: u8 = 63;
 
+// The number of glues, 0 included.
 const GLUES: u8 = 64;
 
-// The limits of the ranges.
+// The largest dG of a cell in size, in kcal/mol.
 const DG: f64 = 1024.0;
 
+// The largest dS of a cell in size, in kcal/mol/K.
 const DS: f64 = 8.0;
 
+// The largest excess temperature in size, in K.
 const EXCESS: f64 = 1024.0;
 
+// The largest potential in size.
 const POTENTIAL: f64 = 1024.0;
 
+// The lowest RT, in kcal/mol.
 const LEAST_RT: f64 = 0.125;
 
+// The highest RT, in kcal/mol.
 const MOST_RT: f64 = 8.0;
 
 // Where the first glue above 63 stands; the number of glues where there is none.
@@ -54,7 +64,7 @@ fn first_high_glue(glues: &[u8]) -> usize
     i
 }
 
-// The sizes, the ambient aside, which has none.
+// Whether a count, a length or a glue is outside its limits.
 fn wrong_sizes(scaffold: &[u8], glues: &[u8], dg: &[f64], ds: &[f64], potentials: &[f64]) -> bool
     ensures { λ r. ⌜ r ≡ wrongSizes (now (scaffold .entry)) (now (glues .entry)) (now (dg .entry)) (now (ds .entry)) (now (potentials .entry)) ⌝ }
 {
@@ -82,29 +92,29 @@ fn wrong_sizes(scaffold: &[u8], glues: &[u8], dg: &[f64], ds: &[f64], potentials
     first_high_glue(glues) < glues.len()
 }
 
-// Where the first number outside low to high stands; how many there are where none is.
-fn first_outside(low: f64, high: f64, numbers: &[f64]) -> usize
-    ensures { λ r. ⌜ r ≡ firstIndex (outside low high) (now (numbers .entry)) ⌝ }
+// Whether some number is outside low to high. All are counted: a loop with one way out is one that the compiler takes several at a time.
+fn any_outside(low: f64, high: f64, numbers: &[f64]) -> bool
+    ensures { λ r. ⌜ r ≡ any (outside low high) (now (numbers .entry)) ⌝ }
 {
+    let mut count: usize = 0;
     let mut i = 0;
     while i < numbers.len() {
         if !doubles::in_range(low, high, numbers[i]) {
-            return i;
+            count += 1;
         }
         i += 1;
     }
-    i
+    0 < count
 }
 
+// Whether a cell of either table is out of its range.
 fn cells_out(dg: &[f64], ds: &[f64]) -> bool
     ensures { λ r. ⌜ r ≡ cellsOut (now (dg .entry)) (now (ds .entry)) ⌝ }
 {
-    if first_outside(-DG, DG, dg) < dg.len() {
-        return true;
-    }
-    first_outside(-DS, DS, ds) < ds.len()
+    any_outside(-DG, DG, dg) || any_outside(-DS, DS, ds)
 }
 
+// Whether RT or an excess is out of its range.
 fn ambient_out(ambient: Ambient) -> bool
     ensures { λ r. ⌜ r ≡ ambientOut ambient ⌝ }
 {
@@ -158,6 +168,7 @@ fn null_cells(dg: &[f64], ds: &[f64]) -> bool
     false
 }
 
+// Whether strand 0 has a glue, or row or column 0 a nonzero cell.
 fn null_binds(glues: &[u8], dg: &[f64], ds: &[f64]) -> bool
     ensures { λ r. ⌜ r ≡ nullBinds (now (glues .entry)) (now (dg .entry)) (now (ds .entry)) ⌝ }
 {

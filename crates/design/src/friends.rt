@@ -16,6 +16,7 @@ pub fn binds(dg: &[f64], ds: &[f64], row: u8, column: u8) -> bool
     cell_at(ds, row, column) != 0.0
 }
 
+// Whether the strand is a friend at a position with this scaffold glue.
 pub fn is_friend(scaffold_glue: u8, glues: &[u8], dg: &[f64], ds: &[f64], strand: u8) -> bool
     ensures { λ r. ⌜ r ≡ befriends «scaffold_glue» (now (glues .entry)) (now (dg .entry)) (now (ds .entry)) strand ⌝ }
 {

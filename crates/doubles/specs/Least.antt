@@ -19,8 +19,10 @@ unfolding foldl
 pick better [] = 0
 pick better (x ∷ xs) = foldl better x xs
 
+-- the element with the least key, the last of equals
 abbrev pub lastLeast : (ℕ → Float) → List ℕ → ℕ
 lastLeast key xs = pick (orLater key) xs
 
+-- the element with the least key, the first of equals
 abbrev pub firstLeast : (ℕ → Float) → List ℕ → ℕ
 firstLeast key xs = pick (orEarlier key) xs

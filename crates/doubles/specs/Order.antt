@@ -5,18 +5,21 @@ use Prim.Native.Nat.{ℕ, _≤_}
 use lib.Ieee.{Float, Format}
 use Rattle.doubles.specs.Size.{sgn, mag}
 
--- the two parts of ±a
+-- how far ±a lies over zero; `true` is minus
 abbrev pub overPart : Bool → ℕ → ℕ
 overPart false a = a
 overPart true a = 0
 
+-- how far ±a lies under zero
 abbrev pub underPart : Bool → ℕ → ℕ
 underPart false a = 0
 underPart true a = a
 
+-- how far x lies over zero
 unfoldable pub over : Format → Float → ℕ
 over f x = overPart (sgn x) (mag f x)
 
+-- how far x lies under zero
 unfoldable pub under : Format → Float → ℕ
 under f x = underPart (sgn x) (mag f x)
 

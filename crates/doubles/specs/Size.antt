@@ -5,6 +5,7 @@ use lib.Dec.{T, eqb}
 use lib.Ieee.{Float, nan, inf, fin, Format, low, up, down, fits}
 use lib.Ieee.Scale.{finite, overflow}
 
+-- whether the sign is minus; a NaN counts as plus
 unfoldable pub sgn : Float → Bool
 sgn nan = false
 sgn (inf s) = s

@@ -13,6 +13,7 @@ use sdc1d::EnergyAnswer;
 use sdc1d::FriendsAnswer;
 use sdc1d::StateAnswer;
 
+// The reply number of a bond.
 pub(crate) fn bond_reply(answer: BondAnswer) -> u32
     ensures { λ r. ⌜ r ≡ bondFigures answer .number ⌝ }
 {
@@ -22,6 +23,7 @@ pub(crate) fn bond_reply(answer: BondAnswer) -> u32
     }
 }
 
+// A bond.
 pub(crate) fn bond_bits(answer: BondAnswer) -> u64
     ensures { λ r. ⌜ r ≡ Ieee.toBits binary64 (bondFigures answer .figure) ⌝ }
 {
@@ -31,6 +33,7 @@ pub(crate) fn bond_bits(answer: BondAnswer) -> u64
     }
 }
 
+// The reply number of the friends of a position.
 pub(crate) fn friends_reply(answer: FriendsAnswer) -> u32
     ensures { λ r. ⌜ r ≡ friendsFigures answer .number ⌝ }
 {
@@ -40,6 +43,7 @@ pub(crate) fn friends_reply(answer: FriendsAnswer) -> u32
     }
 }
 
+// How many friends there are.
 pub(crate) fn friends_count(answer: FriendsAnswer) -> usize
     ensures { λ r. ⌜ r ≡ friendsFigures answer .figure ⌝ }
 {
@@ -49,6 +53,7 @@ pub(crate) fn friends_count(answer: FriendsAnswer) -> usize
     }
 }
 
+// The reply number of the count of states.
 pub(crate) fn count_reply(answer: CountAnswer) -> u32
     ensures { λ r. ⌜ r ≡ countFigures answer .number ⌝ }
 {
@@ -58,6 +63,7 @@ pub(crate) fn count_reply(answer: CountAnswer) -> u32
     }
 }
 
+// The number of states.
 pub(crate) fn count_count(answer: CountAnswer) -> u64
     ensures { λ r. ⌜ r ≡ countFigures answer .figure ⌝ }
 {
@@ -67,6 +73,7 @@ pub(crate) fn count_count(answer: CountAnswer) -> u64
     }
 }
 
+// The reply number of the state at a rank.
 pub(crate) fn state_reply(answer: StateAnswer) -> u32
     ensures { λ r. ⌜ r ≡ stateFigures answer .number ⌝ }
 {
@@ -76,6 +83,7 @@ pub(crate) fn state_reply(answer: StateAnswer) -> u32
     }
 }
 
+// The reply number of the state energy.
 pub(crate) fn energy_reply(answer: EnergyAnswer) -> u32
     ensures { λ r. ⌜ r ≡ energyFigures answer .number ⌝ }
 {
@@ -85,6 +93,7 @@ pub(crate) fn energy_reply(answer: EnergyAnswer) -> u32
     }
 }
 
+// The state energy.
 pub(crate) fn energy_bits(answer: EnergyAnswer) -> u64
     ensures { λ r. ⌜ r ≡ Ieee.toBits binary64 (energyFigures answer .figure) ⌝ }
 {
@@ -94,6 +103,7 @@ pub(crate) fn energy_bits(answer: EnergyAnswer) -> u64
     }
 }
 
+// The reply number of the chain energy.
 pub(crate) fn chain_reply(answer: ChainAnswer) -> u32
     ensures { λ r. ⌜ r ≡ chainFigures answer .number ⌝ }
 {
@@ -103,6 +113,7 @@ pub(crate) fn chain_reply(answer: ChainAnswer) -> u32
     }
 }
 
+// RT times the chain energy.
 pub(crate) fn chain_bits(answer: ChainAnswer) -> u64
     ensures { λ r. ⌜ r ≡ Ieee.toBits binary64 (chainFigures answer .figure .timesRt) ⌝ }
 {
@@ -112,6 +123,7 @@ pub(crate) fn chain_bits(answer: ChainAnswer) -> u64
     }
 }
 
+// The chain energy as it is.
 pub(crate) fn chain_sum(answer: ChainAnswer) -> u64
     ensures { λ r. ⌜ r ≡ Ieee.toBits binary64 (chainFigures answer .figure .bare) ⌝ }
 {

@@ -1,6 +1,5 @@
 // A design's calls as C functions. Each works out its whole call anew: the one that ends in `_reply` answers the reply number, the others a
 // figure of the answer, a double as its 64 bits, and 0 on a refusal. Those of one call leave the same in the lent entries.
-//
 // A design is lent as sdc1d takes it, the ambient as its three doubles.
 ghost use mathlib.Core.Path.{_≡_};
 ghost use lib.Ieee as Ieee;
@@ -12,6 +11,7 @@ use units::Ambient;
 use units::KcalPerMol;
 use units::Kelvin;
 
+// The ambient out of its three doubles.
 pub(crate) fn ambient(rt: f64, strand_excess: f64, scaffold_excess: f64) -> Ambient
     ensures { λ r. ⌜ r ≡ ambientOf rt «strand_excess» «scaffold_excess» ⌝ }
 {
@@ -50,6 +50,7 @@ pub extern "C" fn mj_strand_bond_reply(
     ))
 }
 
+// The bond itself, as its bits.
 #[no_mangle]
 pub extern "C" fn mj_strand_bond(
     scaffold: &[u8],
@@ -105,6 +106,7 @@ pub extern "C" fn mj_scaffold_bond_reply(
     ))
 }
 
+// The bond itself, as its bits.
 #[no_mangle]
 pub extern "C" fn mj_scaffold_bond(
     scaffold: &[u8],
@@ -161,6 +163,7 @@ pub extern "C" fn mj_friends_reply(
     ))
 }
 
+// How many friends there are.
 #[no_mangle]
 pub extern "C" fn mj_friends_count(
     scaffold: &[u8],
@@ -213,6 +216,7 @@ pub extern "C" fn mj_states_reply(
     ))
 }
 
+// The number of states itself.
 #[no_mangle]
 pub extern "C" fn mj_states_count(
     scaffold: &[u8],
@@ -291,6 +295,7 @@ pub extern "C" fn mj_state_energy_reply(
     ))
 }
 
+// The state energy itself, as its bits.
 #[no_mangle]
 pub extern "C" fn mj_state_energy(
     scaffold: &[u8],
@@ -342,6 +347,7 @@ pub extern "C" fn mj_chain_energy_reply(
     ))
 }
 
+// RT times the chain energy, as its bits.
 #[no_mangle]
 pub extern "C" fn mj_chain_energy(
     scaffold: &[u8],
@@ -367,6 +373,7 @@ pub extern "C" fn mj_chain_energy(
     ))
 }
 
+// The chain energy as it is, as its bits.
 #[no_mangle]
 pub extern "C" fn mj_chain_sum(
     scaffold: &[u8],

@@ -11,6 +11,7 @@ use units::AmbientAnswer;
 use utils::DgAnswer;
 use utils::DgDsAnswer;
 
+// The reply number of one or two sequences.
 pub(crate) fn dg_ds_reply(answer: DgDsAnswer) -> u32
     ensures { λ r. ⌜ r ≡ dgDsFigures answer .number ⌝ }
 {
@@ -20,6 +21,7 @@ pub(crate) fn dg_ds_reply(answer: DgDsAnswer) -> u32
     }
 }
 
+// Their dG.
 pub(crate) fn dg_ds_dg(answer: DgDsAnswer) -> u64
     ensures { λ r. ⌜ r ≡ Ieee.toBits binary64 (dgDsFigures answer .dg) ⌝ }
 {
@@ -29,6 +31,7 @@ pub(crate) fn dg_ds_dg(answer: DgDsAnswer) -> u64
     }
 }
 
+// Their dS.
 pub(crate) fn dg_ds_ds(answer: DgDsAnswer) -> u64
     ensures { λ r. ⌜ r ≡ Ieee.toBits binary64 (dgDsFigures answer .ds) ⌝ }
 {
@@ -38,6 +41,7 @@ pub(crate) fn dg_ds_ds(answer: DgDsAnswer) -> u64
     }
 }
 
+// The reply number of a loop or a strength.
 pub(crate) fn dg_reply(answer: DgAnswer) -> u32
     ensures { λ r. ⌜ r ≡ dgFigures answer .number ⌝ }
 {
@@ -47,6 +51,7 @@ pub(crate) fn dg_reply(answer: DgAnswer) -> u32
     }
 }
 
+// Its dG.
 pub(crate) fn dg_dg(answer: DgAnswer) -> u64
     ensures { λ r. ⌜ r ≡ Ieee.toBits binary64 (dgFigures answer .dg) ⌝ }
 {
@@ -56,6 +61,7 @@ pub(crate) fn dg_dg(answer: DgAnswer) -> u64
     }
 }
 
+// The reply number of the ambient.
 pub(crate) fn ambient_reply(answer: AmbientAnswer) -> u32
     ensures { λ r. ⌜ r ≡ ambientFigures answer .number ⌝ }
 {
@@ -65,6 +71,7 @@ pub(crate) fn ambient_reply(answer: AmbientAnswer) -> u32
     }
 }
 
+// Its RT.
 pub(crate) fn ambient_rt(answer: AmbientAnswer) -> u64
     ensures { λ r. ⌜ r ≡ Ieee.toBits binary64 (ambientFigures answer .rt) ⌝ }
 {
@@ -74,6 +81,7 @@ pub(crate) fn ambient_rt(answer: AmbientAnswer) -> u64
     }
 }
 
+// Its strand excess.
 pub(crate) fn ambient_strand_excess(answer: AmbientAnswer) -> u64
     ensures { λ r. ⌜ r ≡ Ieee.toBits binary64 (ambientFigures answer .strandExcess) ⌝ }
 {
@@ -83,6 +91,7 @@ pub(crate) fn ambient_strand_excess(answer: AmbientAnswer) -> u64
     }
 }
 
+// Its scaffold excess.
 pub(crate) fn ambient_scaffold_excess(answer: AmbientAnswer) -> u64
     ensures { λ r. ⌜ r ≡ Ieee.toBits binary64 (ambientFigures answer .scaffoldExcess) ⌝ }
 {

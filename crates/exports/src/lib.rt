@@ -26,6 +26,7 @@ pub extern "C" fn mj_sequence_reply(s: &[u8]) -> u32
     figures::dg_ds_reply(utils::string_dna_dg_ds(s))
 }
 
+// Its dG.
 #[no_mangle]
 pub extern "C" fn mj_sequence_dg(s: &[u8]) -> u64
     ensures { λ r. ⌜ r ≡ Ieee.toBits binary64 (stringDnaDgDs (now (s .entry)) .dg) ⌝ }
@@ -33,6 +34,7 @@ pub extern "C" fn mj_sequence_dg(s: &[u8]) -> u64
     figures::dg_ds_dg(utils::string_dna_dg_ds(s))
 }
 
+// Its dS.
 #[no_mangle]
 pub extern "C" fn mj_sequence_ds(s: &[u8]) -> u64
     ensures { λ r. ⌜ r ≡ Ieee.toBits binary64 (stringDnaDgDs (now (s .entry)) .ds) ⌝ }
@@ -48,6 +50,7 @@ pub extern "C" fn mj_pair_reply(a: &[u8], b: &[u8]) -> u32
     figures::dg_ds_reply(utils::sequence_pair_dg_ds(a, b))
 }
 
+// Their dG.
 #[no_mangle]
 pub extern "C" fn mj_pair_dg(a: &[u8], b: &[u8]) -> u64
     ensures { λ r. ⌜ r ≡ Ieee.toBits binary64 (sequencePairDgDs (now (a .entry)) (now (b .entry)) .dg) ⌝ }
@@ -55,6 +58,7 @@ pub extern "C" fn mj_pair_dg(a: &[u8], b: &[u8]) -> u64
     figures::dg_ds_dg(utils::sequence_pair_dg_ds(a, b))
 }
 
+// Their dS.
 #[no_mangle]
 pub extern "C" fn mj_pair_ds(a: &[u8], b: &[u8]) -> u64
     ensures { λ r. ⌜ r ≡ Ieee.toBits binary64 (sequencePairDgDs (now (a .entry)) (now (b .entry)) .ds) ⌝ }
@@ -70,6 +74,7 @@ pub extern "C" fn mj_loop_reply(length: usize, kind: u32) -> u32
     figures::dg_reply(utils::loop_penalty(length, kind))
 }
 
+// Its dG.
 #[no_mangle]
 pub extern "C" fn mj_loop_dg(length: usize, kind: u32) -> u64
     ensures { λ r. ⌜ r ≡ Ieee.toBits binary64 (loopPenalty length kind .dg) ⌝ }
@@ -85,6 +90,7 @@ pub extern "C" fn mj_sequence_strength_reply(s: &[u8], excess: f64) -> u32
     figures::dg_reply(utils::sequence_strength(s, Kelvin(excess)))
 }
 
+// The strength itself.
 #[no_mangle]
 pub extern "C" fn mj_sequence_strength(s: &[u8], excess: f64) -> u64
     ensures { λ r. ⌜ r ≡ Ieee.toBits binary64 (sequenceStrength (now (s .entry)) excess .dg) ⌝ }
@@ -92,6 +98,7 @@ pub extern "C" fn mj_sequence_strength(s: &[u8], excess: f64) -> u64
     figures::dg_dg(utils::sequence_strength(s, Kelvin(excess)))
 }
 
+// The strength of two sequences.
 #[no_mangle]
 pub extern "C" fn mj_pair_strength_reply(a: &[u8], b: &[u8], excess: f64) -> u32
     ensures { λ r. ⌜ r ≡ pairStrength (now (a .entry)) (now (b .entry)) excess .number ⌝ }
@@ -99,6 +106,7 @@ pub extern "C" fn mj_pair_strength_reply(a: &[u8], b: &[u8], excess: f64) -> u32
     figures::dg_reply(utils::pair_strength(a, b, Kelvin(excess)))
 }
 
+// The strength itself.
 #[no_mangle]
 pub extern "C" fn mj_pair_strength(a: &[u8], b: &[u8], excess: f64) -> u64
     ensures { λ r. ⌜ r ≡ Ieee.toBits binary64 (pairStrength (now (a .entry)) (now (b .entry)) excess .dg) ⌝ }
@@ -114,6 +122,7 @@ pub extern "C" fn mj_ambient_reply(kelvin: f64) -> u32
     figures::ambient_reply(units::ambient_at(Kelvin(kelvin)))
 }
 
+// Its RT.
 #[no_mangle]
 pub extern "C" fn mj_ambient_rt(kelvin: f64) -> u64
     ensures { λ r. ⌜ r ≡ Ieee.toBits binary64 (ambientAt kelvin .rt) ⌝ }
@@ -121,6 +130,7 @@ pub extern "C" fn mj_ambient_rt(kelvin: f64) -> u64
     figures::ambient_rt(units::ambient_at(Kelvin(kelvin)))
 }
 
+// Its strand excess.
 #[no_mangle]
 pub extern "C" fn mj_ambient_strand_excess(kelvin: f64) -> u64
     ensures { λ r. ⌜ r ≡ Ieee.toBits binary64 (ambientAt kelvin .strandExcess) ⌝ }
@@ -128,6 +138,7 @@ pub extern "C" fn mj_ambient_strand_excess(kelvin: f64) -> u64
     figures::ambient_strand_excess(units::ambient_at(Kelvin(kelvin)))
 }
 
+// Its scaffold excess.
 #[no_mangle]
 pub extern "C" fn mj_ambient_scaffold_excess(kelvin: f64) -> u64
     ensures { λ r. ⌜ r ≡ Ieee.toBits binary64 (ambientAt kelvin .scaffoldExcess) ⌝ }

@@ -8,6 +8,7 @@ ghost use Rattle.exports.specs.Flag.{flag};
 use reply::Reply;
 use sdc_common::NameAnswer;
 
+// The reply number of a name.
 fn name_reply(answer: NameAnswer) -> u32
     ensures { λ r. ⌜ r ≡ nameFigures answer .number ⌝ }
 {
@@ -17,6 +18,7 @@ fn name_reply(answer: NameAnswer) -> u32
     }
 }
 
+// The start of its base.
 fn base_start(answer: NameAnswer) -> usize
     ensures { λ r. ⌜ r ≡ nameFigures answer .start ⌝ }
 {
@@ -26,6 +28,7 @@ fn base_start(answer: NameAnswer) -> usize
     }
 }
 
+// The length of its base.
 fn base_length(answer: NameAnswer) -> usize
     ensures { λ r. ⌜ r ≡ nameFigures answer .size ⌝ }
 {
@@ -35,6 +38,7 @@ fn base_length(answer: NameAnswer) -> usize
     }
 }
 
+// 1 where the name stands for its base, 0 where it stands for base*.
 fn is_base(answer: NameAnswer) -> u32
     ensures { λ r. ⌜ r ≡ flag (nameFigures answer .from) ⌝ }
 {
@@ -52,6 +56,7 @@ pub extern "C" fn mj_name_reply(text: &[u8], start: usize, length: usize) -> u32
     name_reply(sdc_common::self_and_inverse(text, start, length))
 }
 
+// The start of its base in the text.
 #[no_mangle]
 pub extern "C" fn mj_name_start(text: &[u8], start: usize, length: usize) -> usize
     ensures { λ r. ⌜ r ≡ selfAndInverse (now (text .entry)) start length .start ⌝ }
@@ -59,6 +64,7 @@ pub extern "C" fn mj_name_start(text: &[u8], start: usize, length: usize) -> usi
     base_start(sdc_common::self_and_inverse(text, start, length))
 }
 
+// The length of its base.
 #[no_mangle]
 pub extern "C" fn mj_name_length(text: &[u8], start: usize, length: usize) -> usize
     ensures { λ r. ⌜ r ≡ selfAndInverse (now (text .entry)) start length .size ⌝ }
@@ -66,6 +72,7 @@ pub extern "C" fn mj_name_length(text: &[u8], start: usize, length: usize) -> us
     base_length(sdc_common::self_and_inverse(text, start, length))
 }
 
+// 1 where the name stands for its base, 0 where it stands for base*.
 #[no_mangle]
 pub extern "C" fn mj_name_is_base(text: &[u8], start: usize, length: usize) -> u32
     ensures { λ r. ⌜ r ≡ flag (selfAndInverse (now (text .entry)) start length .from) ⌝ }

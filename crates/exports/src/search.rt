@@ -9,6 +9,7 @@ use doubles::bits;
 use mfe::Settled;
 use reply::Reply;
 
+// The reply number of the search.
 fn settled_reply(answer: Settled) -> u32
     ensures { λ r. ⌜ r ≡ settledFigures answer .number ⌝ }
 {
@@ -18,6 +19,7 @@ fn settled_reply(answer: Settled) -> u32
     }
 }
 
+// The energy of the lowest configuration.
 fn settled_bits(answer: Settled) -> u64
     ensures { λ r. ⌜ r ≡ Ieee.toBits binary64 (settledFigures answer .figure) ⌝ }
 {
@@ -27,6 +29,7 @@ fn settled_bits(answer: Settled) -> u64
     }
 }
 
+// The reply number; the configuration stands in the lent entries.
 #[no_mangle]
 pub extern "C" fn mj_search_reply(
     scaffold: &[u8],
@@ -53,6 +56,7 @@ pub extern "C" fn mj_search_reply(
     ))
 }
 
+// The energy itself, as its bits; the configuration stands in the lent entries.
 #[no_mangle]
 pub extern "C" fn mj_search_energy(
     scaffold: &[u8],

@@ -1,11 +1,15 @@
 -- A test that some element of a list passes, or none. Assumes nothing.
-use mathlib.Core.Path.{_≡_, refl}
+use mathlib.Core.Path.{_≡_, refl, sym, _∙_}
 use mathlib.Core.Bool.{Bool, true, false}
 use mathlib.Core.List.{List, [], _∷_}
-use Prim.Native.Nat.{ℕ, zero, suc, _<_, _≤_}
+use Prim.Native.Nat.{ℕ, zero, suc, _+_, _<_, _≤_}
 use native.Mathlib.Nat.{le-of-suc-le-suc, not-suc-le-zero}
 use native.Mathlib.Omega.{arith}
-use lib.ListN.{length, getD}
+use native.Mathlib.Numerals.{add-one}
+use lib.Dec.{ltb}
+use lib.ListN.{length, getD, drop, drop-of-length-le}
+use lib.Seq.{drop-cons}
+use borrow.Author.Tests.{lt-ltb}
 use Rattle.lists.specs.Find.{any, firstIndex}
 use Rattle.lists.specs.Build.{upTo}
 use Rattle.lists.proofs.Tests.{neither}
@@ -41,3 +45,29 @@ module _ {A : Type 0} (p : A → Bool) (xs : List A) {r : ℕ} (e : r ≡ firstI
 
   pub not-found : length xs ≤ r → any p xs ≡ false
   not-found h = any-false p xs (rw e at h)
+
+-- a loop that counts those that pass, and compares the count with 0
+module _ {A : Type 0} (p : A → Bool) (xs : List A) (i count : ℕ) where
+  -- what is kept: some passes if one was counted or one that is left passes
+  abbrev pub CountedOrLeft : Type 0
+  CountedOrLeft = any p xs ≡ (ltb 0 count || any p (drop i xs))
+
+  some-now : (a b : Bool) → b ≡ true → (a || b) ≡ true
+  some-now true b e = refl
+  some-now false b e = e
+
+  pub here : (d : A) → i < length xs → p (getD xs i d) ≡ true → CountedOrLeft → any p xs ≡ (ltb 0 (count + 1) || any p (drop (i + 1) xs))
+  unfolding any
+  here d h e inv = inv ∙ some-now (ltb 0 count) (any p (drop i xs)) (rw (drop-cons xs i d) (simp e)) ∙ sym (simp (lt-ltb 0 (count + 1) (omega arith)))
+
+  pub later : (d : A) → i < length xs → p (getD xs i d) ≡ false → CountedOrLeft → any p xs ≡ (ltb 0 count || any p (drop (i + 1) xs))
+  unfolding any
+  later d h e inv = inv ∙ rw (add-one, drop-cons xs i d) (simp e)
+
+  or-nothing : (a : Bool) → (a || false) ≡ a
+  or-nothing true = refl
+  or-nothing false = refl
+
+  pub past : length xs ≤ i → CountedOrLeft → ltb 0 count ≡ any p xs
+  unfolding any
+  past h inv = sym (inv ∙ rw (drop-of-length-le xs h) (or-nothing (ltb 0 count)))

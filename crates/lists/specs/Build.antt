@@ -18,6 +18,7 @@ module _ {A : Type 0} where
 abbrev pub upTo : ℕ → List ℕ
 upTo n = tabulate n (λ k. k)
 
+-- the numbers multiplied, 1 where there is none
 unfoldable pub product : List ℕ → ℕ
 product [] = 1
 product (n ∷ ns) = n * product ns

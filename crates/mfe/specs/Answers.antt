@@ -20,10 +20,12 @@ use Rattle.mfe.specs.declared.Settled.{Settled}
 abbrev pub searchChecks : Design → List ℕ → List Check
 searchChecks d entries = designChecks (not (eqb (length entries) (positions d))) d []
 
+-- an answer of the code as its number and figures
 abbrev pub settledFigures : Settled → Figures Float
 settledFigures (Settled.Energy energy) = given (energy .0)
 settledFigures (Settled.Refused refusal place) = record { number = numberOf refusal; place = place; figure = zero }
 
+-- the answer of `mfe_configuration`
 abbrev pub searchAnswer : Design → List ℕ → Figures Float
 searchAnswer d entries = answer (firstOf (searchChecks d entries)) (refused zero) (given (search (modelOf d) .energy))
 

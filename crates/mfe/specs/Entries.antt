@@ -20,6 +20,7 @@ unfoldable pub keyOf : (ℕ → Float) → List ℕ → ℕ → Float
 keyOf key [] x = Decimal.zero
 keyOf key (_ ∷ _) x = key x
 
+-- the code's pair of a strand and an energy is x, and what x was compared as
 pub record Chosen (key : ℕ → Float) (strands : List ℕ) (x : ℕ) (r : Attached) : Type 0 where
   pub strand : r .strand ≡ x
   pub energy : r .energy ≡ keyOf key strands x
@@ -47,20 +48,24 @@ pub record FriendsHere (friends : List ℕ) (r : Friends) : Type 0 where
 
 -- ---- the entries to the left of a position; at position 0 there are none
 
+-- the options to the left of position i
 abbrev pub leftOptions : Model → ℕ → List ℕ
 leftOptions m zero = []
 leftOptions m (suc i) = optionsAt m i
 
+-- the energy of an entry to the left of position i
 abbrev pub leftEntry : Model → ℕ → ℕ → Float
 leftEntry m zero x = Decimal.zero
 leftEntry m (suc i) x = entry m (optionsAt m) i x
 
+-- the first `count` strands and energies of the lent rows are the entries to the left of position i
 pub record Left (m : Model) (i count : ℕ) (strands : List ℕ) (energies : List Float) : Type 0 where
   pub options : take count strands ≡ leftOptions m i
   pub entries : (k : ℕ) → k < count → getD energies k nan ≡ leftEntry m i (getD strands k 0)
 
 -- ---- the entries of a position
 
+-- the row of position i holds the energies and left choices of its entries
 pub record Values (m : Model) (i : ℕ) (here : Friends) (r : MfeValues) : Type 0 where
   pub entries : (k : ℕ) → k < here .count + 1 → getD (r .energies) k nan ≡ entry m (optionsAt m) i (getD (here .strands) k 0)
   pub friends : (k : ℕ) → k < here .count → getD (r .choice) (getD (here .strands) k 0) 0 ≡ leftChoice m (optionsAt m) i (getD (here .strands) k 0)
@@ -74,9 +79,11 @@ pub record LowValues (r : MfeValues) : Type 0 where
 
 -- ---- the left choices of all positions: a friend's by its strand, and the empty entry's beside them
 
+-- the left choice of a strand at position i
 abbrev pub choiceIn : List (List ℕ) → List ℕ → ℕ → ℕ → ℕ
 choiceIn choice empty i strand = cond (eqb strand 0) (getD empty i 0) (getD (getD choice i []) strand 0)
 
+-- each left choice is a strand number
 pub record Low (choice : List (List ℕ)) (empty : List ℕ) : Type 0 where
   pub friends : (i k : ℕ) → getD (getD choice i []) k 0 < 64
   pub empties : (i : ℕ) → getD empty i 0 < 64
@@ -89,6 +96,7 @@ tracedBack left (suc p) last = traced left p last []
 
 -- ---- what is found
 
+-- configuration and energy are the search's
 pub record Found (m : Model) (configuration : List ℕ) (energy : Float) : Type 0 where
   pub shown : configuration ≡ search m .configuration
   pub least : energy ≡ search m .energy

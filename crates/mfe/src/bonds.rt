@@ -1,4 +1,4 @@
-// The bonds of a design, each worked out once: strands by strands, and positions by strands, row first.
+// The bonds of a design, each worked out once, into lent cells: strands by strands, and positions by strands, row first.
 use design::bonds::scaffold_bond;
 use design::bonds::strand_bond;
 use units::Ambient;
@@ -32,23 +32,24 @@ fn fill_strand_row(
     }
 }
 
+// The bonds of each two strands, into lent cells.
 pub(crate) fn strand_bonds(
     glues: &[u8],
     dg: &[f64],
     ds: &[f64],
     ambient: Ambient,
     strands: usize,
-) -> [f64; 4096]
+    cells: &mut [f64],
+)
     requires { ⌜ strands ≤ 64 ⌝ }
-    ensures { λ r. ⌜ Grid (strandBond (now (glues .entry)) (now (dg .entry)) (now (ds .entry)) ambient) nan strands 4096 strands 0 r ⌝ }
+    requires { ⌜ length (now cells) ≡ 4096 ⌝ }
+    ensures { λ _. ⌜ Grid (strandBond (now (glues .entry)) (now (dg .entry)) (now (ds .entry)) ambient) nan strands 4096 strands 0 (now (cells .exit)) ⌝ }
 {
-    let mut cells = [0.0; 4096];
     let mut x = 0;
     while x < strands {
-        fill_strand_row(glues, dg, ds, ambient, strands, x, &mut cells);
+        fill_strand_row(glues, dg, ds, ambient, strands, x, cells);
         x += 1;
     }
-    cells
 }
 
 // One row for a position: its bonds with each strand.
@@ -83,6 +84,7 @@ fn fill_scaffold_row(
     }
 }
 
+// The bonds of each position and strand, into lent cells.
 pub(crate) fn scaffold_bonds(
     scaffold: &[u8],
     glues: &[u8],
@@ -90,25 +92,16 @@ pub(crate) fn scaffold_bonds(
     ds: &[f64],
     ambient: Ambient,
     strands: usize,
-) -> [f64; 8192]
+    cells: &mut [f64],
+)
     requires { ⌜ strands ≤ 64 ⌝ }
     requires { ⌜ length (now scaffold) ≤ 128 ⌝ }
-    ensures { λ r. ⌜ Grid (scaffoldBondsOf (now (scaffold .entry)) (now (glues .entry)) (now (dg .entry)) (now (ds .entry)) ambient) nan strands 8192 (length (now (scaffold .entry))) 0 r ⌝ }
+    requires { ⌜ length (now cells) ≡ 8192 ⌝ }
+    ensures { λ _. ⌜ Grid (scaffoldBondsOf (now (scaffold .entry)) (now (glues .entry)) (now (dg .entry)) (now (ds .entry)) ambient) nan strands 8192 (length (now (scaffold .entry))) 0 (now (cells .exit)) ⌝ }
 {
-    let mut cells = [0.0; 8192];
     let mut position = 0;
     while position < scaffold.len() {
-        fill_scaffold_row(
-            scaffold,
-            glues,
-            dg,
-            ds,
-            ambient,
-            strands,
-            position,
-            &mut cells,
-        );
+        fill_scaffold_row(scaffold, glues, dg, ds, ambient, strands, position, cells);
         position += 1;
     }
-    cells
 }

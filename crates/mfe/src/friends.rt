@@ -12,6 +12,7 @@ pub struct Friends {
     pub count: usize,
 }
 
+// A strand's number as an index. As a function of its own it asks the proofs for no bound on the byte.
 pub(crate) fn wide(number: u8) -> usize
     ensures { λ r. ⌜ r ≡ number ⌝ }
 {

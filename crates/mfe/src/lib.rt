@@ -12,6 +12,7 @@ ghost use mathlib.Core.Path.{_≡_};
 ghost use Rattle.design.specs.Design.{lent};
 ghost use Rattle.mfe.specs.Answers.{settledFigures, searchAnswer, searchEntries, LowestShown};
 
+// The energy of the lowest configuration, or why there is none.
 pub enum Settled {
     // The configuration stands in the lent entries.
     Energy(KcalPerMol),
@@ -39,8 +40,18 @@ pub fn mfe_configuration(
         Reply::Refused(refusal) => Settled::Refused(refusal, Place::Nowhere),
         Reply::Admitted => {
             let strands = potentials.len();
-            let strand_bonds = bonds::strand_bonds(glues, dg, ds, ambient, strands);
-            let scaffold_bonds = bonds::scaffold_bonds(scaffold, glues, dg, ds, ambient, strands);
+            let mut strand_bonds = [0.0; 4096];
+            bonds::strand_bonds(glues, dg, ds, ambient, strands, &mut strand_bonds);
+            let mut scaffold_bonds = [0.0; 8192];
+            bonds::scaffold_bonds(
+                scaffold,
+                glues,
+                dg,
+                ds,
+                ambient,
+                strands,
+                &mut scaffold_bonds,
+            );
             Settled::Energy(matrix::lowest(
                 scaffold,
                 glues,

@@ -209,6 +209,7 @@ module _ (m : Model) (n : ℕ) (b : Bounded m n) where
   over-positions zero e = unfold searchOver in of-none e
   over-positions (suc last) e = of-some last e
 
+-- the main theorem: demand 3, of every model within the bounds
 pub search-lowest : (m : Model) (n : ℕ) → Bounded m n → LowestConfiguration m (search m .configuration) (search m .energy)
 unfolding search
 search-lowest m n b = over-positions m n b (positions m) refl

@@ -20,6 +20,7 @@ ifOccupied strand terms = cond (eqb strand 0) [] terms
 -- ---- state energy: for each nonempty place the scaffold bond, the strand bond to the right neighbour if there is one (0 included),
 -- ---- and less the potential
 
+-- the strand bond to the right neighbour, where there is one
 abbrev pub toRight : Model → ℕ → List ℕ → List Float
 toRight m strand [] = []
 toRight m strand (right ∷ _) = m .pair strand right ∷ []
@@ -46,6 +47,7 @@ abbrev pub leftOf : List ℕ → ℕ → Option ℕ
 leftOf s zero = none
 leftOf s (suc i) = some (occupant s i)
 
+-- the strand bond from the left occupant, where there is one
 abbrev pub fromLeft : Model → Option ℕ → ℕ → List Float
 fromLeft m none strand = []
 fromLeft m (some left) strand = m .pair left strand ∷ []

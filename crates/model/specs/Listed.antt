@@ -12,6 +12,7 @@ pub record Ordered (m : Model) : Type 0 where
   pub rising : (i : ℕ) → Rising (friendsAt m i)
   pub not-null : (i : ℕ) → Friend m i 0 → ⊥
 
+-- the listing is complete, in order, and counted right
 pub record Listed (m : Model) : Type 0 where
   -- it has as many as the product of friends plus one
   pub size : length (states m) ≡ count m

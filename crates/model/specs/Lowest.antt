@@ -9,6 +9,7 @@ use Rattle.model.specs.Model.{Model, State, positions}
 use Rattle.model.specs.Energy as Energy
 use Rattle.model.specs.Energy.{chainProduct}
 
+-- Demand 3, of a configuration and an energy: the main theorem `search-lowest` is that the search's are such.
 pub record LowestConfiguration (m : Model) (s : List ℕ) (e : Float) : Type 0 where
   -- the energy is RT times the chain energy of the configuration shown, as data
   pub energy : e ≡ chainProduct m s

@@ -19,9 +19,11 @@ pub record Model : Type 0 where
   pub potential : ℕ → Float
   pub rt : Float
 
+-- how many positions there are
 abbrev pub positions : Model → ℕ
 positions m = length (m .friends)
 
+-- the friends of a position; none past the last
 abbrev pub friendsAt : Model → ℕ → List ℕ
 friendsAt m i = getD (m .friends) i []
 
@@ -33,9 +35,11 @@ Friend m i strand = List·Memᴰ strand (friendsAt m i)
 abbrev pub optionsOf : List ℕ → List ℕ
 optionsOf friends = friends ++ 0 ∷ []
 
+-- the options of each position
 abbrev pub options : Model → List (List ℕ)
 options m = map optionsOf (m .friends)
 
+-- what stands at a position; 0 past the end
 abbrev pub occupant : List ℕ → ℕ → ℕ
 occupant s i = getD s i 0
 

@@ -50,6 +50,7 @@ unfoldable pub traced : (ℕ → ℕ → ℕ) → ℕ → ℕ → List ℕ → L
 traced left zero strand right = strand ∷ right
 traced left (suc i) strand right = traced left i (left (suc i) strand) (strand ∷ right)
 
+-- what a search gives
 pub record Settled : Type 0 where
   pub configuration : List ℕ
   pub energy : Float
@@ -74,12 +75,15 @@ module _ (m : Model) (options : ℕ → List ℕ) (ending : ℕ → Float → Fl
 
 -- ---- of a model
 
+-- the options of a position of a model
 abbrev pub optionsAt : Model → ℕ → List ℕ
 optionsAt m i = optionsOf (friendsAt m i)
 
+-- the last step of a model's search: the product with RT
 abbrev pub timesRt : Model → ℕ → Float → Float
 timesRt m strand sum = mul binary64 sum (m .rt)
 
+-- document 01's search, over the friends and RT of a model
 unfoldable pub search : Model → Settled
 unfolding searchOver
 search m = searchOver m (optionsAt m) (timesRt m) (positions m)

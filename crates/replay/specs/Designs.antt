@@ -12,6 +12,7 @@ use Rattle.replay.specs.Says.{Says}
 use Rattle.replay.specs.Kinds.{word, later}
 use Rattle.replay.specs.Places.{Places, SaysPlaces}
 
+-- a number and a double
 abbrev pub SaysDouble : List ℕ → Figures Float → Type 0
 SaysDouble words f = Says words (f .number) (toBits binary64 (f .figure) ∷ [])
 
@@ -39,6 +40,7 @@ pub record FriendsLine (d : Design) (words spare entries : List ℕ) : Type 0 wh
       SaysPlaces (later words) (friendsAnswer d position spare .number)
       (take (friendsAnswer d position entries .figure) (friendsEntries d position entries))
 
+-- no words: the number of states
 abbrev pub CountLine : Design → List ℕ → Type 0
 CountLine d words = Says words (countAnswer d .number) (countAnswer d .figure ∷ [])
 
@@ -60,8 +62,10 @@ pub record ChainEnergyLine (d : Design) (words configuration : List ℕ) : Type 
       Says (later words) (chainEnergyAnswer d configuration .number)
       (toBits binary64 (chainEnergyAnswer d configuration .figure .bare) ∷ toBits binary64 (chainEnergyAnswer d configuration .figure .timesRt) ∷ [])
 
+-- no words: the energy of the search; the reply and the energy are of two calls, each lent a slice
 abbrev pub SearchLine : Design → List ℕ → List ℕ → List ℕ → Type 0
 SearchLine d words spare lent = Says words (searchAnswer d spare .number) (toBits binary64 (searchAnswer d lent .figure) ∷ [])
 
+-- no words: the configuration that the search settles on
 abbrev pub SettledLine : Design → List ℕ → List ℕ → Type 0
 SettledLine d words lent = SaysPlaces words (searchAnswer d lent .number) (searchEntries d lent)

@@ -17,9 +17,11 @@ use Rattle.exports.specs.Flag.{flag}
 use Rattle.replay.specs.Text.{upTo, past, hexText, Decimal}
 use Rattle.replay.specs.Says.{blank, Says}
 
+-- the first word
 abbrev pub word : List ℕ → List ℕ
 word words = upTo blank words
 
+-- the words after it
 abbrev pub later : List ℕ → List ℕ
 later words = past blank words
 
@@ -27,12 +29,15 @@ later words = past blank words
 unfoldable pub letters : List ℕ → List ℕ
 letters w = cond (eqb (length w) 1) (cond (eqb (getD w 0 0) 45) [] w) w
 
+-- a number, a dG and a dS
 abbrev pub SaysDgDs : List ℕ → DgDsFigures → Type 0
 SaysDgDs words f = Says words (f .number) (toBits binary64 (f .dg) ∷ toBits binary64 (f .ds) ∷ [])
 
+-- a number and a dG
 abbrev pub SaysDg : List ℕ → DgFigures → Type 0
 SaysDg words f = Says words (f .number) (toBits binary64 (f .dg) ∷ [])
 
+-- a number, RT and the two excesses
 abbrev pub SaysAmbient : List ℕ → Figures → Type 0
 SaysAmbient words f =
     Says words (f .number)
@@ -78,5 +83,6 @@ pub record AmbientLine (words : List ℕ) : Type 0 where
 abbrev pub SaysName : List ℕ → NameFigures → Type 0
 SaysName words f = Says words (f .number) (f .size ∷ flag (f .from) ∷ [])
 
+-- the base of a name
 abbrev pub NameLine : List ℕ → Type 0
 NameLine words = SaysName (later words) (selfAndInverse (letters (word words)) 0 (length (letters (word words))))

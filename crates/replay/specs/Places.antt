@@ -21,5 +21,6 @@ pub record SaysWritten (words : List ℕ) (number : ℕ) (places : List ℕ) : T
   pub first : upTo blank words ≡ ok
   pub second : Places (past blank words) places
 
+-- a call that writes a configuration: refused, or the places
 abbrev pub SaysPlaces : List ℕ → ℕ → List ℕ → Type 0
 SaysPlaces words number places = SaysRefused words number ⊎ SaysWritten words number places

@@ -23,6 +23,7 @@ unfoldable pub figuresText : List ℕ → List ℕ
 figuresText [] = []
 figuresText (bits ∷ figures) = (blank ∷ hexText bits) ++ figuresText figures
 
+-- a figure after a blank, at a place in the words
 pub record FigureAt (words : List ℕ) (place : ℕ) (bits : ℕ) : Type 0 where
   pub within : place + 17 ≤ length words
   pub text : take 17 (drop place words) ≡ blank ∷ hexText bits
@@ -37,5 +38,6 @@ pub record SaysGiven (words : List ℕ) (number : ℕ) (figures : List ℕ) : Ty
   pub answered : number ≡ 0
   pub text : words ≡ ok ++ figuresText figures
 
+-- a call: refused, or its figures
 abbrev pub Says : List ℕ → ℕ → List ℕ → Type 0
 Says words number figures = SaysRefused words number ⊎ SaysGiven words number figures

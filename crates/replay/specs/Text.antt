@@ -34,10 +34,12 @@ abbrev pub ReadHex : List ℕ → Number → Type 0
 ReadHex word (Is bits) = word ≡ hexText bits
 ReadHex word Malformed = Unit {0}
 
+-- the same of a number in decimal
 abbrev pub ReadDecimal : List ℕ → Number → Type 0
 ReadDecimal word (Is number) = Decimal word number
 ReadDecimal word Malformed = Unit {0}
 
+-- the same of a byte
 abbrev pub ReadByte : List ℕ → Byte → Type 0
 ReadByte word (byte.Is number) = Decimal word number
 ReadByte word byte.Malformed = Unit {0}

@@ -73,6 +73,7 @@ pub(crate) fn begun(words: &[u8]) -> Design {
     }
 }
 
+// `INDEX DOUBLE` of a table or of the potentials.
 fn set_doubles(mut design: Design, word: &[u8], words: &[u8]) -> Step {
     if check::same(word, b"potential") {
         let mut potentials = design.potentials;

@@ -15,6 +15,7 @@ use crate::places::says_first;
 use crate::places::says_places;
 use crate::says::says;
 
+// `X Y`: the bond of two strands.
 pub(crate) fn strand_bond(
     words: &[u8],
     scaffold: &[u8],
@@ -62,6 +63,7 @@ pub(crate) fn strand_bond(
     says(past(rest, b' '), reply, &figures)
 }
 
+// `POSITION STRAND`: the bond of the scaffold and a strand.
 pub(crate) fn scaffold_bond(
     words: &[u8],
     scaffold: &[u8],
@@ -109,6 +111,7 @@ pub(crate) fn scaffold_bond(
     says(past(rest, b' '), reply, &figures)
 }
 
+// `POSITION`: its friends.
 pub(crate) fn friends(
     words: &[u8],
     scaffold: &[u8],
@@ -154,6 +157,7 @@ pub(crate) fn friends(
     says_first(past(words, b' '), reply, entries, count)
 }
 
+// The number of states.
 pub(crate) fn count(
     words: &[u8],
     scaffold: &[u8],
@@ -190,6 +194,7 @@ pub(crate) fn count(
     says(words, reply, &figures)
 }
 
+// `RANK`: the state there.
 pub(crate) fn state(
     words: &[u8],
     scaffold: &[u8],
@@ -222,6 +227,7 @@ pub(crate) fn state(
     says_places(past(words, b' '), reply, places)
 }
 
+// `PLACES`: the state energy.
 pub(crate) fn state_energy(
     words: &[u8],
     scaffold: &[u8],
@@ -264,6 +270,7 @@ pub(crate) fn state_energy(
     says(past(words, b' '), reply, &figures)
 }
 
+// `PLACES`: the chain energy, as it is and times RT.
 pub(crate) fn chain_energy(
     words: &[u8],
     scaffold: &[u8],
@@ -320,6 +327,7 @@ pub(crate) fn chain_energy(
     says(past(words, b' '), reply, &figures)
 }
 
+// The energy of the search.
 pub(crate) fn search(
     words: &[u8],
     scaffold: &[u8],
@@ -360,6 +368,7 @@ pub(crate) fn search(
     says(words, reply, &figures)
 }
 
+// The configuration of the search.
 pub(crate) fn settled(
     words: &[u8],
     scaffold: &[u8],

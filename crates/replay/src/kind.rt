@@ -1,6 +1,7 @@
 // The kinds of lines that are compared.
 ghost use Prim.Native.Nat.{_<_};
 
+// A kind of line; each has a count of its own.
 pub(crate) enum Kind {
     Sequence,
     Pair,
@@ -22,6 +23,7 @@ pub(crate) enum Kind {
 }
 
 impl Kind {
+    // The place of the kind's count.
     pub(crate) fn index(self) -> usize
         ensures { λ r. ⌜ r < 17 ⌝ }
     {

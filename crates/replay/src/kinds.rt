@@ -23,6 +23,7 @@ pub(crate) fn letters(word: &[u8]) -> &[u8]
     word
 }
 
+// `S`: one sequence.
 pub(crate) fn sequence(words: &[u8]) -> bool
     ensures { λ r. ⌜ (r ≡ true → SequenceLine (now (words .entry))) ⌝ }
 {
@@ -32,6 +33,7 @@ pub(crate) fn sequence(words: &[u8]) -> bool
     says(past(words, b' '), reply, &figures)
 }
 
+// `A B`: two sequences.
 pub(crate) fn pair(words: &[u8]) -> bool
     ensures { λ r. ⌜ (r ≡ true → PairLine (now (words .entry))) ⌝ }
 {
@@ -43,6 +45,7 @@ pub(crate) fn pair(words: &[u8]) -> bool
     says(past(rest, b' '), reply, &figures)
 }
 
+// `LENGTH KIND`: a loop.
 pub(crate) fn loop_energy(words: &[u8]) -> bool
     ensures { λ r. ⌜ (r ≡ true → LoopLine (now (words .entry))) ⌝ }
 {
@@ -61,6 +64,7 @@ pub(crate) fn loop_energy(words: &[u8]) -> bool
     says(past(rest, b' '), reply, &figures)
 }
 
+// `E S`: the strength of one sequence at an excess.
 pub(crate) fn strength(words: &[u8]) -> bool
     ensures { λ r. ⌜ (r ≡ true → StrengthLine (now (words .entry))) ⌝ }
 {
@@ -75,6 +79,7 @@ pub(crate) fn strength(words: &[u8]) -> bool
     says(past(rest, b' '), reply, &figures)
 }
 
+// `E A B`: the strength of two sequences at an excess.
 pub(crate) fn strength2(words: &[u8]) -> bool
     ensures { λ r. ⌜ (r ≡ true → Strength2Line (now (words .entry))) ⌝ }
 {
@@ -91,6 +96,7 @@ pub(crate) fn strength2(words: &[u8]) -> bool
     says(past(last, b' '), reply, &figures)
 }
 
+// `KELVIN`: the ambient.
 pub(crate) fn ambient(words: &[u8]) -> bool
     ensures { λ r. ⌜ (r ≡ true → AmbientLine (now (words .entry))) ⌝ }
 {
@@ -107,6 +113,7 @@ pub(crate) fn ambient(words: &[u8]) -> bool
     says(past(words, b' '), reply, &figures)
 }
 
+// `NAME`: its base.
 pub(crate) fn name(words: &[u8]) -> bool
     ensures { λ r. ⌜ (r ≡ true → NameLine (now (words .entry))) ⌝ }
 {

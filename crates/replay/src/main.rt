@@ -34,6 +34,7 @@ struct Progress {
 // A block of a line and what follows it has 4,096 bytes, so that a longer line could be cut short.
 const LONGEST_LINE: usize = 4095;
 
+// The kind's own word.
 fn print_name(kind: Kind) {
     match kind {
         Kind::Sequence => print(b"seq"),
@@ -85,6 +86,7 @@ fn is_well_formed(line: &[u8]) -> bool {
     !after_blank
 }
 
+// Whether a line is a comment.
 fn is_comment(line: &[u8]) -> bool {
     if 0 < line.len() {
         return line[0] == b'#';
@@ -92,10 +94,12 @@ fn is_comment(line: &[u8]) -> bool {
     false
 }
 
+// Writes to standard output.
 fn print(text: &[u8]) {
     io::write_all(STDOUT_FILENO, text);
 }
 
+// A line that differs, by its number.
 fn print_difference(number: u64, line: &[u8]) {
     print(b"line ");
     io::print_decimal(STDOUT_FILENO, number);
@@ -104,6 +108,7 @@ fn print_difference(number: u64, line: &[u8]) {
     print(b"\n");
 }
 
+// The tally after one line more.
 fn counted(mut tally: Tally, kind: Kind, agreed: bool) -> Tally {
     let k = kind.index();
     tally.compared[k] = std::num::wrapping_add_u64(tally.compared[k], 1);
@@ -134,6 +139,7 @@ fn replay_setting(tally: Tally, design: Design, number: u64, line: &[u8]) -> Rep
     }
 }
 
+// A line of the list.
 fn replay_line(tally: Tally, design: Design, number: u64, line: &[u8]) -> Replayed {
     if is_comment(line) {
         return Replayed { tally, design };
@@ -161,6 +167,7 @@ fn offset(at: usize) -> i64 {
     -1
 }
 
+// The end of the list, with what is to be said of it.
 fn ended(progress: Progress, complaint: &[u8]) -> Progress {
     print(complaint);
     let tally = progress.tally;
@@ -223,6 +230,7 @@ fn replay(fd: i32) -> Tally {
     progress.tally
 }
 
+// How many lines were compared, and how many differ.
 fn print_counts(compared: u64, differ: u64) {
     print(b" ");
     io::print_decimal(STDOUT_FILENO, compared);
@@ -231,12 +239,14 @@ fn print_counts(compared: u64, differ: u64) {
     print(b" differ\n");
 }
 
+// The counts of one kind.
 fn print_kind(tally: Tally, kind: Kind) {
     let k = kind.index();
     print_name(kind);
     print_counts(tally.compared[k], tally.differ[k]);
 }
 
+// The counts of all kinds.
 fn summarize(tally: Tally) {
     print_kind(tally, Kind::Sequence);
     print_kind(tally, Kind::Pair);
@@ -257,6 +267,7 @@ fn summarize(tally: Tally) {
     print_kind(tally, Kind::Unknown);
 }
 
+// Replays the list of this name.
 fn replay_list(path: &[u8]) {
     let fd = os::open_read(path);
     if fd < 0 {
@@ -267,6 +278,7 @@ fn replay_list(path: &[u8]) {
     libc::close(fd);
 }
 
+// The Rust's answers, then the falsified ones.
 fn main() {
     replay_list(b"answers");
     print(b"of lines that are false:\n");

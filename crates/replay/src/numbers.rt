@@ -4,16 +4,19 @@ ghost use mathlib.Core.Path.{_≡_};
 ghost use mathlib.Core.Bool.{true};
 ghost use Rattle.replay.specs.Text.{hexText, Decimal, ReadHex, ReadDecimal, ReadByte};
 
+// A number of 64 bits, or a word that is none.
 pub(crate) enum Number {
     Is(u64),
     Malformed,
 }
 
+// A number of 8 bits, or a word that is none.
 pub(crate) enum Byte {
     Is(u8),
     Malformed,
 }
 
+// A byte as a number.
 fn wide(x: u8) -> u64 {
     x as u64
 }
@@ -44,6 +47,7 @@ fn hex_digit(letter: u8) -> u64 {
     std::num::wrapping_add_u64(wide(letter & 15), 9)
 }
 
+// 16 hex digits, read without care.
 fn hex_value(word: &[u8]) -> u64 {
     let mut x: u64 = 0;
     let mut i = 0;
@@ -54,6 +58,7 @@ fn hex_value(word: &[u8]) -> u64 {
     x
 }
 
+// Decimal digits, read without care.
 fn decimal_value(word: &[u8]) -> u64 {
     let mut x: u64 = 0;
     let mut i = 0;
@@ -65,6 +70,7 @@ fn decimal_value(word: &[u8]) -> u64 {
     x
 }
 
+// 64 bits as 16 hex digits.
 pub(crate) fn hex(word: &[u8]) -> Number
     ensures { λ r. ⌜ ReadHex (now (word .entry)) r ⌝ }
 {
@@ -75,6 +81,7 @@ pub(crate) fn hex(word: &[u8]) -> Number
     Number::Malformed
 }
 
+// A number in decimal.
 pub(crate) fn decimal(word: &[u8]) -> Number
     ensures { λ r. ⌜ ReadDecimal (now (word .entry)) r ⌝ }
 {
@@ -85,6 +92,7 @@ pub(crate) fn decimal(word: &[u8]) -> Number
     Number::Malformed
 }
 
+// A number up to 255 in decimal.
 pub(crate) fn small(word: &[u8]) -> Byte
     ensures { λ r. ⌜ ReadByte (now (word .entry)) r ⌝ }
 {

@@ -18,6 +18,7 @@ fn mark_place(text: &[u8], mark: u8) -> usize
     i
 }
 
+// What comes before the first mark.
 pub(crate) fn up_to(text: &[u8], mark: u8) -> &[u8]
     ensures { λ r. ⌜ now r ≡ upTo mark (now (text .entry)) ⌝ }
 {
@@ -25,6 +26,7 @@ pub(crate) fn up_to(text: &[u8], mark: u8) -> &[u8]
     &text[..n]
 }
 
+// What comes after the first mark.
 pub(crate) fn past(text: &[u8], mark: u8) -> &[u8]
     ensures { λ r. ⌜ now r ≡ past mark (now (text .entry)) ⌝ }
 {

@@ -38,6 +38,7 @@ pub(crate) fn is_places(word: &[u8], places: &[u8]) -> bool
     are_letters(letters(word), places)
 }
 
+// The smaller of two.
 fn least(a: usize, b: usize) -> usize
     ensures { λ r. ⌜ (r ≤ a) × (r ≤ b) ⌝ }
 {

@@ -16,9 +16,11 @@ pub record Check : Type 0 where
   pub refusal : Refusal
   pub holds : Bool
 
+-- `refusal if condition`, as the lists of checks are written
 abbrev pub _if_ : Refusal → Bool → Check
 refusal if holds = record { refusal = refusal; holds = holds }
 
+-- the refusal where its condition holds, and otherwise the reply of the checks after it
 abbrev pub orElse : Bool → Refusal → Reply → Reply
 orElse true refusal rest = Refused refusal
 orElse false refusal rest = rest

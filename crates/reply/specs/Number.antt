@@ -5,6 +5,7 @@ use Rattle.reply.specs.declared.Refusal.the-variants.{WrongSize, NotABas
 use Rattle.reply.specs.declared.Reply.{Reply}
 use Rattle.reply.specs.declared.Reply.the-variants.{Admitted, Refused}
 
+-- document 01's number of a refusal; src/lib.rt has its trade word beside each
 abbrev pub numberOf : Refusal → ℕ
 numberOf WrongSize = 1
 numberOf NotABase = 2
@@ -25,6 +26,7 @@ numberOf BadDeck = 14
 abbrev pub answered : ℕ
 answered = 0
 
+-- the number of a reply
 abbrev pub replyNumber : Reply → ℕ
 replyNumber Admitted = answered
 replyNumber (Refused refusal) = numberOf refusal

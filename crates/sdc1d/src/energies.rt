@@ -41,6 +41,7 @@ fn add_place(
     sumg + site - potential
 }
 
+// The sum of `g_system` over all places, before the product with RT.
 pub(crate) fn state_sum(
     scaffold: &[u8],
     glues: &[u8],
@@ -99,6 +100,7 @@ fn chain_place(
     sum + pair + site - potential
 }
 
+// The chain sum over all places, before the product with RT.
 pub(crate) fn chain_sum(
     scaffold: &[u8],
     glues: &[u8],

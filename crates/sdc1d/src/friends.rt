@@ -6,6 +6,7 @@ ghost use Prim.Native.Nat.{_≤_};
 ghost use lib.ListN.{length, getD, drop};
 ghost use Rattle.design.specs.Design.{friendsTo};
 
+// How many friends there are.
 pub(crate) fn friend_count(
     scaffold_glue: u8,
     glues: &[u8],

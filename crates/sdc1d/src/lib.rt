@@ -29,28 +29,33 @@ pub enum BondAnswer {
     Refused(Refusal, Place),
 }
 
+// The friends of a position, or why there are none.
 pub enum FriendsAnswer {
     // How many there are; they stand in the first lent entries.
     Friends(usize),
     Refused(Refusal, Place),
 }
 
+// The number of states, or why it is not given.
 pub enum CountAnswer {
     States(u64),
     Refused(Refusal, Place),
 }
 
+// The state at a rank, or why there is none.
 pub enum StateAnswer {
     // The state stands in the lent entries.
     Written,
     Refused(Refusal, Place),
 }
 
+// The state energy, or why there is none.
 pub enum EnergyAnswer {
     Energy(KcalPerMol),
     Refused(Refusal, Place),
 }
 
+// The chain energy, or why there is none.
 pub enum ChainAnswer {
     // The sum as it is, a plain number, and times RT.
     Energy(f64, KcalPerMol),

@@ -25,12 +25,15 @@ cellOfNames (Pair first second) = cell first second
 abbrev pub refOrPair : ℕ → ℕ → ℕ → RefOrPair
 refOrPair kind first second = cond (eqb kind 0) (Ref first) (Pair first second)
 
+-- the cell of entry i, from the numbers of its names
 unfoldable pub cellFrom : List ℕ → List ℕ → List ℕ → ℕ → Cell
 cellFrom kinds first second i = cellOfNames (refOrPair (getD kinds i 0) (getD first i 0) (getD second i 0))
 
+-- its row
 abbrev pub rowFrom : List ℕ → List ℕ → List ℕ → ℕ → ℕ
 rowFrom kinds first second i = cellFrom kinds first second i .row
 
+-- its column
 abbrev pub columnFrom : List ℕ → List ℕ → List ℕ → ℕ → ℕ
 columnFrom kinds first second i = cellFrom kinds first second i .column
 
@@ -45,9 +48,11 @@ pub record InTables (rows columns : List ℕ) (n : ℕ) : Type 0 where
   pub row : (k : ℕ) → k < n → getD rows k 0 < 64
   pub column : (k : ℕ) → k < n → getD columns k 0 < 64
 
+-- the cell at entry i of the rows and columns
 abbrev pub cellAt : List ℕ → List ℕ → ℕ → Cell
 cellAt rows columns i = cell (getD rows i 0) (getD columns i 0)
 
+-- the code's row and column as a cell
 abbrev pub placeCell : Place → Cell
 placeCell p = cell (p .0) (p .1)
 

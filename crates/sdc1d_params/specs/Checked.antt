@@ -8,6 +8,7 @@ use Rattle.sdc_common.specs.Spelled.{spelledNumber}
 use Rattle.sdc1d_params.specs.Cells.{cellAt, InTables}
 use Rattle.sdc1d_params.specs.Params.{Params, bases, entryCount, cellAtEntry}
 
+-- the numbers are those of the scaffold's names as spelled, the rows and columns those of the entries' cells, and all lie in the tables
 pub record Checked (p : Params) (numbers rows columns : List ℕ) : Type 0 where
   pub spelled : numbers ≡ map (spelledNumber (bases p)) (gluesOf (p .text) (p .scaffold))
   pub small : (k : ℕ) → k < length numbers → getD numbers k 0 < 64

@@ -32,18 +32,22 @@ abbrev pub unfitEntry : List ℕ → GsOrSeq → Bool
 unfitEntry text (Given dg ds) = false
 unfitEntry text (Sequence start size) = leaves text start size || tooLong (partOf text start size)
 
+-- a sequence with a byte that is no base: refusal 2
 abbrev pub hasBadBase : List ℕ → GsOrSeq → Bool
 hasBadBase text (Given dg ds) = false
 hasBadBase text (Sequence start size) = any notABase (partOf text start size)
 
+-- a sequence of fewer than 2 bases: refusal 3
 abbrev pub isShort : List ℕ → GsOrSeq → Bool
 isShort text (Given dg ds) = false
 isShort text (Sequence start size) = tooShort (partOf text start size)
 
+-- dG of an entry: as given, or of its sequence
 abbrev pub entryDg : List ℕ → GsOrSeq → Float
 entryDg text (Given dg ds) = dg
 entryDg text (Sequence start size) = stringDnaDgDs (partOf text start size) .dg
 
+-- dS of an entry: as given, or of its sequence
 abbrev pub entryDs : List ℕ → GsOrSeq → Float
 entryDs text (Given dg ds) = ds
 entryDs text (Sequence start size) = stringDnaDgDs (partOf text start size) .ds
@@ -56,12 +60,15 @@ pub record Energies : Type 0 where
   pub starts : List ℕ
   pub lengths : List ℕ
 
+-- entries out of the five slices
 abbrev pub energiesOf : List ℕ → List Float → List Float → List ℕ → List ℕ → Energies
 energiesOf forms dgs dss starts lengths = record { forms = forms; dgs = dgs; dss = dss; starts = starts; lengths = lengths }
 
+-- what entry i gives
 unfoldable pub entryAt : Energies → ℕ → GsOrSeq
 entryAt e i = entryOf (getD (e .forms) i 0) (getD (e .dgs) i nan) (getD (e .dss) i nan) (getD (e .starts) i 0) (getD (e .lengths) i 0)
 
+-- what the first n entries give
 abbrev pub entriesOf : Energies → ℕ → List GsOrSeq
 entriesOf e n = tabulate n (entryAt e)
 
@@ -88,6 +95,7 @@ pub record Cell : Type 0 where
   pub row : ℕ
   pub column : ℕ
 
+-- a cell out of its row and column
 abbrev pub cell : ℕ → ℕ → Cell
 cell row column = record { row = row; column = column }
 

@@ -61,6 +61,7 @@ paramsOf text users strandStarts strandLengths strandMarks scaffoldStarts scaffo
       reporter = reporter;
     }
 
+-- an outcome out of its number and the four slices
 abbrev pub outcomeOf : ℕ → List ℕ → List ℕ → List Float → List Float → Outcome
 outcomeOf number strandGlues scaffoldGlues dg ds = record { number = number; strandGlues = strandGlues; scaffoldGlues = scaffoldGlues; dg = dg; ds = ds }
 
@@ -70,6 +71,7 @@ lentOf strandGlues scaffoldGlues dg ds = outcomeOf answered strandGlues scaffold
 
 -- ---- what the names and entries are
 
+-- how many entries there are
 abbrev pub entryCount : Params → ℕ
 entryCount p = length (p .energies .forms)
 
@@ -77,15 +79,19 @@ entryCount p = length (p .energies .forms)
 abbrev pub firsts : Params → Names
 firsts p = namesOf (p .firstStarts) (p .firstLengths) (replicate (entryCount p) 1)
 
+-- the names of the strands' glues: west, bottom, east of each
 abbrev pub strandNames : Params → List Glue
 strandNames p = gluesOf (p .text) (p .strands)
 
+-- the base names that the strands use
 abbrev pub bases : Params → List Name
 bases p = basesOf (strandNames p)
 
+-- the first name of entry i
 abbrev pub firstAt : Params → ℕ → Name
 firstAt p i = partOf (p .text) (getD (p .firstStarts) i 0) (getD (p .firstLengths) i 0)
 
+-- the cell that entry i is for
 abbrev pub cellAtEntry : Params → ℕ → Cell
 cellAtEntry p i = cellOf (bases p) (firstAt p i) (glueAt (p .text) (p .seconds) i)
 
@@ -110,6 +116,7 @@ unfitEnergies text e =
     || not (eqb (length (e .lengths)) (length (e .forms)))
     || any (unfitAt text e) (upTo (length (e .forms)))
 
+-- the entries are too many or unfit
 abbrev pub unfitEntries : Params → Bool
 unfitEntries p = unfitEnergies (p .text) (p .energies)
 
@@ -121,9 +128,11 @@ unfitScaffold p lent = ltb 128 (length (lent .scaffoldGlues)) || unfitNames (len
 abbrev pub unfitLengths : ℕ → ℕ → ℕ → ℕ → Bool
 unfitLengths users glues dg ds = not (eqb glues (3 * (users + 3))) || not (eqb dg 4096) || not (eqb ds 4096)
 
+-- a lent slice is not as long as what is written
 abbrev pub unfitLent : Params → Outcome → Bool
 unfitLent p lent = unfitLengths (p .users) (length (lent .strandGlues)) (length (lent .dg)) (length (lent .ds))
 
+-- document 01's refusal 1 of a build
 unfoldable pub wrongSize : Params → Outcome → Bool
 wrongSize p lent =
     tooManyStrands (p .users)
@@ -138,6 +147,7 @@ wrongSize p lent =
 
 -- ---- the reply
 
+-- what is refused of a build
 abbrev pub paramChecks : Params → Outcome → List Check
 paramChecks p lent =
     WrongSize if wrongSize p lent
@@ -169,9 +179,11 @@ reporterGlues numbers (Strand k) = 0 ∷ glueOfStrand numbers k 1 ∷ glueOfStra
 abbrev pub withCopies : List ℕ → Copied → Copied → List ℕ
 withCopies numbers quencher reporter = (0 ∷ 0 ∷ 0 ∷ []) ++ numbers ++ quencherGlues numbers quencher ++ reporterGlues numbers reporter
 
+-- the glues of all strands, three for each
 unfoldable pub strandGluesOf : Params → List ℕ
 strandGluesOf p = withCopies (numbersAmong (strandNames p) (strandNames p)) (p .quencher) (p .reporter)
 
+-- all that a build writes
 abbrev pub builtFrom : Params → Outcome
 builtFrom p =
     record {
@@ -186,5 +198,6 @@ builtFrom p =
 abbrev pub leftAsLent : Outcome → ℕ → Outcome
 leftAsLent lent number = record { number = number; strandGlues = lent .strandGlues; scaffoldGlues = lent .scaffoldGlues; dg = lent .dg; ds = lent .ds }
 
+-- the call: the first check that fails refuses
 unfoldable pub fromParams : Params → Outcome → Outcome
 fromParams p lent = answer (firstOf (paramChecks p lent)) (leftAsLent lent) (builtFrom p)

@@ -13,5 +13,6 @@ unfoldable pub unknownBy : ℕ → Glue → Bool
 unknownBy number none = false
 unknownBy number (some name) = eqb number 0 || ltb 1 (starsOf name)
 
+-- scaffold name i is unknown as spelled
 abbrev pub unknownAt : List ℕ → Names → List ℕ → ℕ → Bool
 unknownAt text names numbers i = unknownBy (getD numbers i 0) (glueAt text names i)

@@ -17,6 +17,7 @@ pub record Write : Type 0 where
   pub dg : Float
   pub ds : Float
 
+-- what an entry writes to its cell
 unfoldable pub writeOf : List ℕ → Float → Float → Cell → GsOrSeq → Write
 writeOf text penaltyDg penaltyDs c entry =
     record { at = c; dg = add binary64 (entryDg text entry) penaltyDg; ds = add binary64 (entryDs text entry) penaltyDs }
@@ -33,6 +34,7 @@ dsInRange ds = inRange (minus 8 0) (plus 8 0) ds
 unfoldable pub outOfRange : Write → Bool
 outOfRange w = isWritten (w .at) && (not (dgInRange (w .dg)) || not (dsInRange (w .ds)))
 
+-- the cells that are written to
 abbrev pub cellsOf : List Write → List Cell
 cellsOf writes = map (λ (w : Write). w .at) writes
 
@@ -50,9 +52,11 @@ unfoldable pub setBoth : Cell → Float → List Float → List Float
 setBoth c v table =
     cond (isWritten c) (set (set table (placeOf (c .row) (c .column)) v) (placeOf (c .column) (c .row)) v) table
 
+-- the dG table after one entry more
 abbrev pub writeDg : List Float → Write → List Float
 writeDg table w = setBoth (w .at) (w .dg) table
 
+-- the dS table after one entry more
 abbrev pub writeDs : List Float → Write → List Float
 writeDs table w = setBoth (w .at) (w .ds) table
 
@@ -60,8 +64,10 @@ writeDs table w = setBoth (w .at) (w .ds) table
 unfoldable pub emptyTable : List Float
 emptyTable = replicate 4096 zero
 
+-- the dG table of all entries
 unfoldable pub dgTable : List Write → List Float
 dgTable writes = foldl writeDg emptyTable writes
 
+-- the dS table of all entries
 unfoldable pub dsTable : List Write → List Float
 dsTable writes = foldl writeDs emptyTable writes

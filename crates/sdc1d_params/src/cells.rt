@@ -19,6 +19,7 @@ pub(crate) enum RefOrPair {
 // A row and a column; 0 where a name is not known.
 pub(crate) struct Place(usize, usize);
 
+// What an entry is for, out of the mark of its second name and the numbers of both.
 fn ref_or_pair(kind: u8, first: usize, second: usize) -> RefOrPair
     ensures { λ r. ⌜ r ≡ refOrPair kind first second ⌝ }
 {

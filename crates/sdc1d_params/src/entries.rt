@@ -12,14 +12,16 @@ use units::KcalPerMol;
 use units::KcalPerMolKelvin;
 use utils::DgDsAnswer;
 
-// How an entry's energy is lent.
+// An entry's energy is lent as two doubles.
 const GIVEN: u8 = 0;
 
+// An entry's energy is lent as a sequence.
 const SEQUENCE: u8 = 1;
 
-// The longest sequence, and the shortest.
+// The longest sequence.
 const LONGEST: usize = 256;
 
+// The shortest sequence.
 const SHORTEST: usize = 2;
 
 // An entry's energy: two doubles, or a sequence by its start and length in the text.
@@ -112,6 +114,7 @@ fn has_bad_base(text: &[u8], entry: GsOrSeq) -> bool
     }
 }
 
+// Whether an entry's sequence has fewer than 2 bases.
 fn is_short(text: &[u8], entry: GsOrSeq) -> bool
     requires { ⌜ unfitEntry (now text) entry ≡ false ⌝ }
     ensures { λ r. ⌜ r ≡ isShort (now (text .entry)) entry ⌝ }

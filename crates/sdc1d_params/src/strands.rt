@@ -14,6 +14,7 @@ use sdc_common::strand_glues;
 // West, bottom and east of a strand.
 struct Sides(u8, u8, u8);
 
+// The three glues of one strand.
 fn write_sides(glues: &mut [u8], sides: Sides)
     requires { ⌜ length (now glues) ≡ 3 ⌝ }
     ensures { λ _. ⌜ now (glues .exit) ≡ sides .0 ∷ sides .1 ∷ sides .2 ∷ [] ⌝ }

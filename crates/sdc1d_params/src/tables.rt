@@ -20,13 +20,16 @@ use crate::entries::gsorseq_to_gs;
 use units::KcalPerMol;
 use units::KcalPerMolKelvin;
 
-// The largest dG and dS of a cell, in either direction.
+// The lowest dG of a cell.
 const LOWEST_DG: f64 = -1024.0;
 
+// The highest dG of a cell.
 const HIGHEST_DG: f64 = 1024.0;
 
+// The lowest dS of a cell.
 const LOWEST_DS: f64 = -8.0;
 
+// The highest dS of a cell.
 const HIGHEST_DS: f64 = 8.0;
 
 // What an entry writes: its numbers, the junction penalty added to both.

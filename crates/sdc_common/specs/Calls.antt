@@ -30,16 +30,20 @@ pub record NameFigures : Type 0 where
 abbrev pub refusedName : ℕ → NameFigures
 refusedName number = record { number = number; start = 0; size = 0; from = false }
 
+-- an answer
 abbrev pub givenName : ℕ → ℕ → Bool → NameFigures
 givenName start size from = record { number = answered; start = start; size = size; from = from }
 
+-- an answer of the code as its number and figures
 abbrev pub nameFigures : NameAnswer → NameFigures
 nameFigures (name.Given start size from) = givenName start size from
 nameFigures (name.Refused refusal) = refusedName (numberOf refusal)
 
+-- what is refused of a name
 abbrev pub nameChecks : List ℕ → ℕ → ℕ → List Check
 nameChecks text start size = WrongSize if unfitName text start size ∷ []
 
+-- the answer of `self_and_inverse`
 unfoldable pub selfAndInverse : List ℕ → ℕ → ℕ → NameFigures
 selfAndInverse text start size =
     let spelled = partOf text start size in
@@ -52,12 +56,15 @@ pub record NumbersFigures : Type 0 where
   pub number : ℕ
   pub bases : ℕ
 
+-- a refusal carries no other figure
 abbrev pub refusedNumbers : ℕ → NumbersFigures
 refusedNumbers number = record { number = number; bases = 0 }
 
+-- an answer
 abbrev pub givenNumbers : ℕ → NumbersFigures
 givenNumbers bases = record { number = answered; bases = bases }
 
+-- an answer of the code as its number and figures
 abbrev pub numbersFigures : NumbersAnswer → NumbersFigures
 numbersFigures (numbers.Given bases) = givenNumbers bases
 numbersFigures (numbers.Refused refusal) = refusedNumbers (numberOf refusal)
@@ -76,6 +83,7 @@ numbersChecks users text strands names lent =
     WrongSize if (unfitStrands users text strands || unfitNames lent text names)
     ∷ []
 
+-- the answer of `name_numbers`
 unfoldable pub nameNumbers : ℕ → List ℕ → Names → Names → ℕ → NumbersFigures
 nameNumbers users text strands names lent =
     answer (firstOf (numbersChecks users text strands names lent)) refusedNumbers (givenNumbers (length (basesOf (gluesOf text strands))))
@@ -91,15 +99,18 @@ numbersAfter users text strands names lent =
 abbrev pub tooManyBases : List Glue → Bool
 tooManyBases strands = ltb 31 (length (basesOf strands))
 
+-- what is refused of the strands' glues, with a slice lent for their numbers
 abbrev pub glueChecks : ℕ → List ℕ → Names → ℕ → List Check
 glueChecks users text strands lent =
     WrongSize if (unfitStrands users text strands || not (eqb lent (3 * users)))
     ∷ TooManyGlues if tooManyBases (gluesOf text strands)
     ∷ []
 
+-- the reply of `strand_glues`
 unfoldable pub strandGlues : ℕ → List ℕ → Names → ℕ → Reply
 strandGlues users text strands lent = firstOf (glueChecks users text strands lent)
 
+-- what `strand_glues` leaves in the lent slice: on a refusal, what it held
 unfoldable pub gluesAfter : ℕ → List ℕ → Names → List ℕ → List ℕ
 gluesAfter users text strands lent =
     answer (strandGlues users text strands (length lent)) (λ number. lent) (numbersAmong (gluesOf text strands) (gluesOf text strands))

@@ -28,12 +28,15 @@ pub record Names : Type 0 where
   pub lengths : List ℕ
   pub marks : List ℕ
 
+-- names out of the three slices
 abbrev pub namesOf : List ℕ → List ℕ → List ℕ → Names
 namesOf starts lengths marks = record { starts = starts; lengths = lengths; marks = marks }
 
+-- the mark of a name that is absent
 abbrev pub isAbsent : ℕ → Bool
 isAbsent mark = eqb mark 0
 
+-- the mark of a name that is there
 abbrev pub isPresent : ℕ → Bool
 isPresent mark = eqb mark 1
 
@@ -41,12 +44,15 @@ isPresent mark = eqb mark 1
 abbrev pub Glue : Type 0
 Glue = Option Name
 
+-- the glue that a mark, a start and a length stand for
 unfoldable pub glueOf : List ℕ → ℕ → ℕ → ℕ → Glue
 glueOf text mark start size = cond (isAbsent mark) none (some (partOf text start size))
 
+-- glue i of some names
 abbrev pub glueAt : List ℕ → Names → ℕ → Glue
 glueAt text names i = glueOf text (getD (names .marks) i 0) (getD (names .starts) i 0) (getD (names .lengths) i 0)
 
+-- the glues of some names, in order
 unfoldable pub gluesOf : List ℕ → Names → List Glue
 gluesOf text names = tabulate (length (names .marks)) (glueAt text names)
 
@@ -54,6 +60,7 @@ gluesOf text names = tabulate (length (names .marks)) (glueAt text names)
 unfoldable pub unfitGlue : List ℕ → ℕ → ℕ → ℕ → Bool
 unfitGlue text mark start size = not (isAbsent mark) && (not (isPresent mark) || unfitName text start size)
 
+-- glue i of some names is unfit
 abbrev pub unfitAt : List ℕ → Names → ℕ → Bool
 unfitAt text names i = unfitGlue text (getD (names .marks) i 0) (getD (names .starts) i 0) (getD (names .lengths) i 0)
 
@@ -71,6 +78,7 @@ unfitNames n text names = notAsMany n names || any (unfitAt text names) (upTo n)
 abbrev pub Fit : List ℕ → ℕ → ℕ → ℕ → Type 0
 Fit text mark start size = unfitGlue text mark start size ≡ false
 
+-- as many starts, lengths and marks, and each glue fit
 pub record FitNames (text : List ℕ) (names : Names) : Type 0 where
   pub starts : length (names .starts) ≡ length (names .marks)
   pub lengths : length (names .lengths) ≡ length (names .marks)

@@ -5,6 +5,7 @@ use Prim.Native.Nat.{ℕ, suc, _-_, _%_}
 use lib.Dec.{eqb}
 use lib.ListN.{length, take}
 
+-- a name, as its bytes
 abbrev pub Name : Type 0
 Name = List ℕ
 

@@ -7,6 +7,7 @@ use Rattle.lists.specs.Build.{tabulate}
 use Rattle.sdc_common.specs.Names.{Name}
 use Rattle.sdc_common.specs.Lent.{partOf}
 
+-- the base that entry k stands for
 abbrev pub heldAt : List ℕ → List ℕ → List ℕ → ℕ → Name
 heldAt text starts lengths k = partOf text (getD starts k 0) (getD lengths k 0)
 

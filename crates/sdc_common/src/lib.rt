@@ -15,9 +15,10 @@ use table::base_names;
 use table::fill_glues;
 use table::fill_numbers;
 
-// The most user strands of a build, and the most base names that the tables have numbers for.
+// The most user strands of a build.
 const MOST_STRANDS: usize = 61;
 
+// The most base names that the glue tables have numbers for.
 pub const MOST_BASES: usize = 31;
 
 // A name's base, by its start and length, and whether the name stands for the base or for base*; or why there is none.

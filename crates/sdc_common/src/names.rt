@@ -5,9 +5,10 @@ ghost use lib.ListN.{length};
 ghost use Rattle.sdc_common.specs.Names.{baseLength, sameName};
 ghost use Rattle.sdc_common.specs.Lent.{unfitName, unfitGlue, namesOf, unfitNames};
 
-// A mark beside a name.
+// The mark of a name that is absent.
 pub const ABSENT: u8 = 0;
 
+// The mark of a name that is there.
 pub const PRESENT: u8 = 1;
 
 // The longest name, its stars counted.

@@ -1,8 +1,8 @@
 // The design of a file's rows, and of beginnings of them.
-use crate::reads;
-use crate::reads::first_bytes;
-use crate::reads::first_numbers;
-use crate::reads::first_places;
+use answers::reads;
+use answers::reads::first_bytes;
+use answers::reads::first_numbers;
+use answers::reads::first_places;
 use reply::Refusal;
 use reply::Reply;
 use sdc_common::strand_glues;
@@ -20,11 +20,15 @@ use statements::grammar::STRAND;
 use units::KcalPerMol;
 use units::KcalPerMolKelvin;
 
-// Document 01's limits, for which there is room here.
+// ---- document 01's limits, for which there is room here
+
+// The most user strands.
 pub(crate) const MOST_USERS: usize = 61;
 
+// The most positions.
 pub(crate) const MOST_POSITIONS: usize = 128;
 
+// The most energy entries.
 pub(crate) const MOST_ENTRIES: usize = 1024;
 
 // The first so many strands, positions and entries of the rows, as `from_params` builds them into the lent slices. What it takes is gathered
@@ -80,6 +84,7 @@ pub(crate) fn build(
     )
 }
 
+// The second step: the names of the positions.
 fn with_scaffold(
     text: &[u8],
     kinds: &[u8],
@@ -133,6 +138,7 @@ fn with_scaffold(
     )
 }
 
+// The third step: the names of the entries.
 fn with_names(
     text: &[u8],
     kinds: &[u8],
@@ -198,6 +204,7 @@ fn with_names(
     )
 }
 
+// The last step: the entries' energies, and the call.
 fn with_energies(
     text: &[u8],
     kinds: &[u8],

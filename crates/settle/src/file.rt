@@ -1,13 +1,15 @@
 // A file's bytes, or why they can't be had.
-use crate::reads::tail;
-use crate::reasons::Why;
+use answers::reads::tail;
+use answers::reasons::Why;
 
+// What became of a file that was to be read.
 pub(crate) enum FileRead {
     // How many; they stand first in the lent bytes.
     Bytes(usize),
     Failed(Why),
 }
 
+// What one call of read gave.
 enum Step {
     More(usize),
     End,

@@ -40,6 +40,7 @@ fn step(walk: Walk, byte: u8, i: usize) -> Walk {
     }
 }
 
+// The word from one place to another.
 fn word_up_to(start: usize, end: usize) -> Word {
     Word {
         start,

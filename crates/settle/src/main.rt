@@ -2,29 +2,22 @@
 //
 // The first argument is --people or --json, the rest are names of files. A program has no exit status: whether all files were answered goes
 // to descriptor 3, as 0 or 1, where the script `settle` reads it.
-mod answers;
 mod build;
-mod draw;
 mod file;
 mod lines;
-mod names;
 mod place;
-mod print;
-mod reads;
-mod reasons;
 mod report;
 mod settle;
 mod unfit;
-mod words;
 
 ghost use mathlib.Core.Path.{_≡_};
 ghost use lib.ListN.{length};
 use answers::Spot;
+use answers::print::Style;
+use answers::reads::first_bytes;
+use answers::reasons::Why;
 use answers::unreadable;
 use file::FileRead;
-use print::Style;
-use reads::first_bytes;
-use reasons::Why;
 
 // Where the script waits for the status.
 const STATUS: i32 = 3;
@@ -36,6 +29,7 @@ fn room() -> [u8; 1048577]
     [0; 1048577]
 }
 
+// A file that can't be had. Answers that it was not settled.
 fn failed(style: Style, path: &[u8], why: Why) -> bool {
     let nowhere = Spot {
         line: 0,
@@ -75,6 +69,7 @@ fn settle_all(style: Style, text: &mut [u8]) -> bool {
     all
 }
 
+// The first argument, which the script gives.
 fn style() -> Style {
     let mut word = io::buffer();
     let size = os::arg(1, &mut word);
@@ -84,6 +79,7 @@ fn style() -> Style {
     Style::People
 }
 
+// Settles the files, and writes 0 to the script if each was settled, 1 if not.
 fn main() {
     let mut text = room();
     if settle_all(style(), &mut text) {

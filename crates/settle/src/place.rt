@@ -1,10 +1,10 @@
 // Where in a file the reason of a refusal lies. Each is found by asking the calls again, of parts of the design.
-use crate::answers::Spot;
 use crate::build::glues_reply;
 use crate::build::reply_to;
 use crate::lines::word_on_line;
-use crate::reads::part;
-use crate::reasons::Why;
+use answers::Spot;
+use answers::reads::part;
+use answers::reasons::Why;
 use design::reads::byte_at;
 use reply::Refusal;
 use reply::Reply;
@@ -12,7 +12,6 @@ use sdc_common::NameAnswer;
 use sdc_common::self_and_inverse;
 use sdc1d_params::Copied;
 use sheet::once::copied;
-use sheet::rows::place_at;
 use sheet::rows::rows_of;
 use sheet::rows::word_of;
 use statements::grammar::ENERGY_GIVEN;
@@ -24,6 +23,7 @@ use statements::grammar::QUENCHER;
 use statements::grammar::REPORTER;
 use statements::grammar::STRAND;
 use statements::words::Word;
+use statements::words::place_at;
 use utils::DgDsAnswer;
 use utils::string_dna_dg_ds;
 
@@ -33,6 +33,7 @@ pub(crate) struct Found {
     pub(crate) why: Why,
 }
 
+// A reason that lies nowhere in particular.
 pub(crate) fn nowhere(why: Why) -> Found {
     Found {
         spot: Spot {
@@ -97,6 +98,7 @@ fn sequence_row(text: &[u8], kinds: &[u8], words: &[usize], number: u32) -> usiz
     kinds.len()
 }
 
+// The first sequence that is refused so.
 fn in_sequence(
     text: &[u8],
     kinds: &[u8],
@@ -132,6 +134,7 @@ fn member_row(kinds: &[u8], group: u8, member: usize) -> usize {
 // The words of a row that are names of glues, from one up to before another.
 struct Slots(usize, usize);
 
+// Which words of a row of this kind are names of glues.
 fn glue_slots(kind: u8) -> Slots {
     match kind {
         STRAND => Slots(1, 4),
@@ -142,6 +145,7 @@ fn glue_slots(kind: u8) -> Slots {
     }
 }
 
+// Whether a name is refused by itself.
 fn is_refused(text: &[u8], name: Word) -> bool {
     match self_and_inverse(text, name.start, name.size) {
         NameAnswer::Given(_, _, _) => false,
@@ -197,6 +201,7 @@ fn size_of_row(
     nowhere(Why::Refused)
 }
 
+// The first row in which something is too large or not there.
 fn in_size(
     text: &[u8],
     kinds: &[u8],

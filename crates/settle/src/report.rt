@@ -1,14 +1,23 @@
 // What is printed of a settled design, gathered from its rows.
-use crate::answers::settled;
-use crate::print::Style;
-use crate::reads;
-use crate::reads::first_places;
-use crate::reads::first_words;
+use answers::States;
+use answers::print::Style;
+use answers::reads;
+use answers::reads::first_places;
+use answers::reads::first_words;
+use answers::settled;
 use deck::DeckWritten;
 use sdc1d::CountAnswer;
 use sheet::parts;
 use sheet::rows::rows_of;
 use statements::grammar::POSITION;
+
+// A design that the search has answered is refused its count only where it has too many states.
+fn states_of(count: CountAnswer) -> States {
+    match count {
+        CountAnswer::States(n) => States::Number(n),
+        CountAnswer::Refused(_, _) => States::TooMany,
+    }
+}
 
 // The glues of the positions, then the names of the strands.
 pub(crate) fn report(
@@ -93,7 +102,7 @@ fn report_names(
         first_places(&starts, users),
         first_places(&sizes, users),
         entries,
-        states,
+        states_of(states),
         configuration,
         energy,
         first_words(&deck, size),

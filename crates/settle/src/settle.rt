@@ -1,21 +1,21 @@
 // From a file's bytes to what is printed of it.
-use crate::answers::Spot;
-use crate::answers::refused;
-use crate::answers::unreadable;
 use crate::build::MOST_ENTRIES;
 use crate::build::MOST_POSITIONS;
 use crate::build::MOST_USERS;
 use crate::build::build;
 use crate::place;
 use crate::place::Found;
-use crate::print::Style;
-use crate::reads;
-use crate::reads::first_bytes;
-use crate::reads::first_numbers;
-use crate::reads::first_places;
-use crate::reasons::Why;
 use crate::report::report;
 use crate::unfit;
+use answers::Spot;
+use answers::print::Style;
+use answers::reads;
+use answers::reads::first_bytes;
+use answers::reads::first_numbers;
+use answers::reads::first_places;
+use answers::reasons::Why;
+use answers::refused;
+use answers::unreadable;
 use mfe::Settled;
 use mfe::mfe_configuration;
 use reply::Refusal;
@@ -55,6 +55,7 @@ fn refuse(style: Style, path: &[u8], text: &[u8], refusal: Refusal, found: Found
     false
 }
 
+// A reason that lies in a line.
 fn at_line(line: usize, why: Why) -> Found {
     Found {
         spot: Spot {
@@ -66,6 +67,7 @@ fn at_line(line: usize, why: Why) -> Found {
     }
 }
 
+// A file that can't be read. Answers that it was not settled.
 fn complain(style: Style, path: &[u8], text: &[u8], found: Found) -> bool {
     let spot = found.spot;
     let why = found.why;
@@ -265,6 +267,7 @@ fn ambient_of(kinds: &[u8], numbers: &[f64]) -> AmbientAnswer {
     }
 }
 
+// The ambient, then the search.
 fn settle_design(
     style: Style,
     path: &[u8],
@@ -309,6 +312,7 @@ fn settle_design(
     }
 }
 
+// The search, and what is printed of it.
 fn search(
     style: Style,
     path: &[u8],

@@ -3,20 +3,21 @@ use crate::place::Found;
 use crate::place::at_row;
 use crate::place::on_line;
 use crate::place::row_of;
-use crate::reads::first_numbers;
-use crate::reasons::Why;
+use answers::reads::first_numbers;
+use answers::reasons::Why;
 use design::checks::design_reply;
 use design::reads::number_at;
 use reply::Reply;
-use sheet::rows::place_at;
 use sheet::rows::word_of;
 use statements::grammar::AMBIENT;
 use statements::grammar::KELVIN;
 use statements::grammar::QUENCHER;
 use statements::grammar::REPORTER;
+use statements::words::place_at;
 use units::Ambient;
 use units::Kelvin;
 
+// The temperature of `kelvin`.
 pub(crate) fn of_kelvin(text: &[u8], kinds: &[u8], lines: &[usize]) -> Found {
     let line = place_at(lines, row_of(kinds, KELVIN));
     on_line(text, line, 2, Why::KelvinRange)

@@ -29,12 +29,15 @@ pub record Row : Type 0 where
   pub at : ℕ
 
 infix 69 _at_
+-- `kind at place`, as the rows are written
 abbrev pub _at_ : ℕ → ℕ → Row
 kind at place = record { kind = kind; at = place }
 
+-- the rows' kinds, as they are lent
 abbrev pub kindsOf : List Row → List ℕ
 kindsOf rows = map (λ (r : Row). r .kind) rows
 
+-- the rows' words, as they are lent
 unfoldable pub wordsOf : List Row → List ℕ
 wordsOf [] = []
 wordsOf (r ∷ rows) = r .at ∷ 1 ∷ 0 ∷ 0 ∷ 0 ∷ 0 ∷ 0 ∷ 0 ∷ wordsOf rows
@@ -43,14 +46,17 @@ wordsOf (r ∷ rows) = r .at ∷ 1 ∷ 0 ∷ 0 ∷ 0 ∷ 0 ∷ 0 ∷ 0 ∷ words
 abbrev pub text : List ℕ
 text = upTo 100 ++ 0 ∷ []
 
+-- what the definitions say of a sheet
 abbrev pub answerTo : List Row → SheetAnswer
 answerTo rows = sheetAnswer text (kindsOf rows) (tabulate (length rows) (λ k. suc k)) (wordsOf rows)
 
+-- a sheet, and what is said of it
 pub record Case : Type 0 where
   pub rows : List Row
   pub answer : SheetAnswer
 
 infix 68 _is_
+-- `rows is answer`, as the cases are written
 abbrev pub _is_ : List Row → SheetAnswer → Case
 rows is answer = record { rows = rows; answer = answer }
 
@@ -58,6 +64,7 @@ rows is answer = record { rows = rows; answer = answer }
 abbrev pub strands : ℕ → List Row
 strands n = tabulate n (λ k. strand at k)
 
+-- each fault, and each limit from both sides
 abbrev pub cases : List Case
 cases =
     [] is NoAmbient
@@ -83,6 +90,7 @@ cases =
     ∷ (replicate 129 (position at 0)) is TooMany 129 position
     ∷ []
 
+-- the definitions say of each case what was worked out
 pub as-worked-out : map (λ (c : Case). answerTo (c .rows)) cases ≡ map (λ (c : Case). c .answer) cases
 unfolding sheetAnswer firstFaulty faultAt isOver isNameTwice hasName limitOf groupOf rowsBefore firstOf wordsOf firstIndex any keep tabulate sameName spelled
 as-worked-out = refl
@@ -93,9 +101,11 @@ as-worked-out = refl
 abbrev pub sampleText : List ℕ
 sampleText = 97 ∷ replicate 8 32 ++ 97 ∷ []
 
+-- the kinds of the sample's rows
 abbrev pub sampleKinds : List ℕ
 sampleKinds = kelvin ∷ strand ∷ quencher ∷ energySequence ∷ pairSequence ∷ []
 
+-- the words of the sample's rows
 abbrev pub sampleWords : List ℕ
 sampleWords =
     (0 ∷ 0 ∷ 0 ∷ 0 ∷ 0 ∷ 0 ∷ 0 ∷ 0 ∷ [])
@@ -104,9 +114,11 @@ sampleWords =
     ++ (2 ∷ 3 ∷ 20 ∷ 4 ∷ 0 ∷ 0 ∷ 0 ∷ 0 ∷ [])
     ++ (2 ∷ 3 ∷ 6 ∷ 2 ∷ 30 ∷ 5 ∷ 0 ∷ 0 ∷ [])
 
+-- a whole number as a double
 abbrev pub whole : ℕ → Float
 whole n = fin false n (pos 0)
 
+-- the numbers of the sample's rows
 abbrev pub sampleNumbers : List Float
 sampleNumbers =
     (whole 323 ∷ zero ∷ zero ∷ [])
@@ -115,12 +127,15 @@ sampleNumbers =
     ++ (zero ∷ zero ∷ zero ∷ [])
     ++ (zero ∷ zero ∷ zero ∷ [])
 
+-- which rows are strands
 abbrev pub sampleStrands : List ℕ
 sampleStrands = rowsOf strand sampleKinds
 
+-- which rows are entries
 abbrev pub sampleEntries : List ℕ
 sampleEntries = rowsOf energyGiven sampleKinds
 
+-- what is gathered of the sample
 pub record Gathered : Type 0 where
   pub strands : sampleStrands ≡ 1 ∷ []
   pub entries : sampleEntries ≡ 3 ∷ 4 ∷ []
@@ -133,6 +148,7 @@ pub record Gathered : Type 0 where
   pub copied : copiedOf quencher sampleText sampleKinds sampleWords sampleStrands ≡ Strand 1
   pub nothing : copiedOf reporter sampleText sampleKinds sampleWords sampleStrands ≡ Nothing
 
+-- the definitions gather what was worked out
 pub gathered : Gathered
 unfolding groupOf rowsBefore firstOf firstIndex keep tabulate sameName spelled wordAmong numberAmong kindAmong partAt potentialAt numberOnce strandNamed copiedOf
 gathered =

@@ -41,6 +41,7 @@ isNameTwice text kinds words i = isOf strand kinds i && any (hasName text kinds 
 
 -- ---- the answer
 
+-- row i is at fault
 abbrev pub isFaulty : List ℕ → List ℕ → List ℕ → ℕ → Bool
 isFaulty text kinds words i = isNameTwice text kinds words i || isOver kinds i
 
@@ -55,6 +56,7 @@ faultAt text kinds lines words i =
     (cond (eqb (limitOf (groupOf (getD kinds i 0))) 1) (GivenTwice (getD lines i 0) (groupOf (getD kinds i 0)))
     (TooMany (getD lines i 0) (groupOf (getD kinds i 0))))
 
+-- what is wrong with a file's rows, or how many strands, positions and entries there are
 unfoldable pub sheetAnswer : List ℕ → List ℕ → List ℕ → List ℕ → SheetAnswer
 sheetAnswer text kinds lines words =
     cond (ltb (firstFaulty text kinds words) (length kinds)) (faultAt text kinds lines words (firstFaulty text kinds words))

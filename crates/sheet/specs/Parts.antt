@@ -15,9 +15,11 @@ use Rattle.sheet.specs.declared.parts.Part.the-variants.{Glues, First, S
 
 -- ---- words
 
+-- the kind is an entry's for a pair of names
 abbrev pub isPair : ℕ → Bool
 isPair kind = eqb kind pairGiven || eqb kind pairSequence
 
+-- the kind is an entry's with a sequence
 abbrev pub isSequence : ℕ → Bool
 isSequence kind = eqb kind energySequence || eqb kind pairSequence
 
@@ -28,14 +30,17 @@ partAt kinds words rows First m = wordAmong words rows m 0
 partAt kinds words rows Second m = wordAmong words rows m 1
 partAt kinds words rows Sequence m = wordAmong words rows m (cond (isPair (kindAmong kinds rows m)) 2 1)
 
+-- the start of the word at entry m
 abbrev pub startAt : List ℕ → List ℕ → List ℕ → Part → ℕ → ℕ
 startAt kinds words rows part m = partAt kinds words rows part m .start
 
+-- the size of the word at entry m
 abbrev pub sizeAt : List ℕ → List ℕ → List ℕ → Part → ℕ → ℕ
 sizeAt kinds words rows part m = partAt kinds words rows part m .size
 
 -- ---- marks
 
+-- the mark of what is there, and of what is not
 abbrev pub markOf : Bool → ℕ
 markOf holds = cond holds 1 0
 
@@ -53,6 +58,7 @@ formAt kinds rows m = markOf (isSequence (kindAmong kinds rows m))
 
 -- ---- numbers
 
+-- number j at entry m
 abbrev pub numberAt : List Float → List ℕ → ℕ → ℕ → Float
 numberAt numbers rows j m = numberAmong numbers rows m j
 

@@ -20,6 +20,7 @@ pub record Sound (text kinds words : List ℕ) (users sites terms : ℕ) : Type 
   pub names : (i j : ℕ) → j < i → i < length kinds → isOf strand kinds i ≡ true → isOf strand kinds j ≡ true
       → sameWord text (wordOf words i 0) (wordOf words j 0) ≡ false
 
+-- what is shown
 pub record Sheets : Type 0 where
   -- words and numbers of a row are where crate `statements` lays them
   pub words : (room : Room) (row j : ℕ) → wordOf (room .words) row j ≡ wordIn room row j

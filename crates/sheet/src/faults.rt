@@ -7,7 +7,6 @@ ghost use Rattle.sheet.specs.Faults.{limitOf, isOver, sameWord, hasName,
 use crate::rows::count_before;
 use crate::rows::first_of;
 use crate::rows::group_of;
-use crate::rows::place_at;
 use crate::rows::word_of;
 use sdc_common::names::same_bytes;
 use statements::grammar::ENERGY_GIVEN;
@@ -15,14 +14,18 @@ use statements::grammar::KELVIN;
 use statements::grammar::POSITION;
 use statements::grammar::STRAND;
 use statements::words::Word;
+use statements::words::place_at;
 
-// The most user strands, positions and energy entries.
+// The most user strands.
 const MOST_STRANDS: usize = 61;
 
+// The most positions.
 const MOST_POSITIONS: usize = 128;
 
+// The most energy entries.
 const MOST_ENTRIES: usize = 1024;
 
+// What is wrong with a file's rows, or how many strands, positions and entries there are.
 pub enum SheetAnswer {
     // Nothing is wrong: how many strands, positions and entries there are.
     Whole(usize, usize, usize),

@@ -12,6 +12,7 @@ use statements::grammar::KELVIN;
 use statements::grammar::PENALTY;
 use statements::words::Word;
 
+// The ambient as a file gives it.
 pub enum Ambient {
     Kelvin(f64),
     // RT, strand excess and scaffold excess.

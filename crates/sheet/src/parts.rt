@@ -75,6 +75,7 @@ fn part_at(kinds: &[u8], words: &[usize], rows: &[usize], part: Part, m: usize) 
     }
 }
 
+// The start of each word.
 fn fill_starts(kinds: &[u8], words: &[usize], rows: &[usize], part: Part, starts: &mut [usize])
     ensures { λ _. ⌜ now (starts .exit) ≡ tabulate (length (now (starts .entry))) (startAt (now (kinds .entry)) (now (words .entry)) (now (rows .entry)) part) ⌝ }
 {
@@ -86,6 +87,7 @@ fn fill_starts(kinds: &[u8], words: &[usize], rows: &[usize], part: Part, starts
     }
 }
 
+// The size of each word.
 fn fill_sizes(kinds: &[u8], words: &[usize], rows: &[usize], part: Part, sizes: &mut [usize])
     ensures { λ _. ⌜ now (sizes .exit) ≡ tabulate (length (now (sizes .entry))) (sizeAt (now (kinds .entry)) (now (words .entry)) (now (rows .entry)) part) ⌝ }
 {
@@ -131,6 +133,7 @@ fn fill_forms(kinds: &[u8], rows: &[usize], forms: &mut [u8])
     }
 }
 
+// Number j of each row.
 fn fill_numbers(numbers: &[f64], rows: &[usize], j: usize, out: &mut [f64])
     requires { ⌜ j < 3 ⌝ }
     ensures { λ _. ⌜ now (out .exit) ≡ tabulate (length (now (out .entry))) (numberAt (now (numbers .entry)) (now (rows .entry)) j) ⌝ }
@@ -142,6 +145,7 @@ fn fill_numbers(numbers: &[f64], rows: &[usize], j: usize, out: &mut [f64])
     }
 }
 
+// The potential of strand m: 0.0 of strand 0, then those of the rows, the quencher and the reporter.
 fn potential_at(kinds: &[u8], numbers: &[f64], rows: &[usize], m: usize) -> f64
     ensures { λ r. ⌜ r ≡ potentialAt (now (kinds .entry)) (now (numbers .entry)) (now (rows .entry)) m ⌝ }
 {

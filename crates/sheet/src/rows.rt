@@ -1,13 +1,14 @@
 // Rows by their kind, and what stands in a row.
 ghost use mathlib.Core.Path.{_≡_};
 ghost use Prim.Native.Nat.{_<_, _≤_};
-ghost use lib.ListN.{length, getD};
+ghost use lib.ListN.{length};
 ghost use Rattle.sheet.specs.Rows.{groupOf, rowsBefore, firstOf, laid, wordOf, numberOf, wordAmong, numberAmong, kindAmong};
 use statements::grammar::AMBIENT;
 use statements::grammar::ENERGY_GIVEN;
 use statements::grammar::KELVIN;
 use statements::grammar::PENALTY;
 use statements::words::Word;
+use statements::words::place_at;
 
 // The lowest kind that stands for the same thing: the ambient, or an entry.
 pub(crate) fn group_of(kind: u8) -> u8
@@ -68,16 +69,6 @@ pub fn rows_of(kinds: &[u8], group: u8, rows: &mut [usize])
         }
         i += 1;
     }
-}
-
-// An entry, 0 past the last.
-pub fn place_at(places: &[usize], i: usize) -> usize
-    ensures { λ r. ⌜ r ≡ getD (now (places .entry)) i 0 ⌝ }
-{
-    if i < places.len() {
-        return places[i];
-    }
-    0
 }
 
 // Word j of a row; a size of 0 where there is none.

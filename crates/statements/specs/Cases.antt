@@ -25,6 +25,7 @@ two-words = refl
 
 -- ---- answers, with room for two rows
 
+-- what a text is read as
 abbrev pub answerTo : List ℕ → ReadAnswer
 answerTo text = answerFrom text 2 1 0 (linesOf text)
 

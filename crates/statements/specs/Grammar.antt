@@ -22,36 +22,47 @@ use Rattle.statements.specs.declared.grammar.Item.the-variants.{Number, 
 
 -- ---- kinds of rows: a row for each statement, and for `scaffold` one for each position
 
+-- `kelvin`
 abbrev pub kelvin : ℕ
 kelvin = 0
 
+-- `ambient`
 abbrev pub ambient : ℕ
 ambient = 1
 
+-- `strand`
 abbrev pub strand : ℕ
 strand = 2
 
+-- `quencher`
 abbrev pub quencher : ℕ
 quencher = 3
 
+-- `reporter`
 abbrev pub reporter : ℕ
 reporter = 4
 
+-- a position of `scaffold`
 abbrev pub position : ℕ
 position = 5
 
+-- `energy` with dg and ds
 abbrev pub energyGiven : ℕ
 energyGiven = 6
 
+-- `energy` with seq
 abbrev pub energySequence : ℕ
 energySequence = 7
 
+-- `pair` with dg and ds
 abbrev pub pairGiven : ℕ
 pairGiven = 8
 
+-- `pair` with seq
 abbrev pub pairSequence : ℕ
 pairSequence = 9
 
+-- `penalty`
 abbrev pub penalty : ℕ
 penalty = 10
 
@@ -135,21 +146,27 @@ kindOf word =
 abbrev pub end : ℕ
 end = 0
 
+-- a number, for one of the number slots
 abbrev pub number : ℕ → ℕ
 number slot = 1 + slot
 
+-- a name, for one of the word slots
 abbrev pub name : ℕ → ℕ
 name slot = 4 + slot
 
+-- a name or `-`, for one of the word slots
 abbrev pub glue : ℕ → ℕ
 glue slot = 8 + slot
 
+-- the bases of a sequence, for one of the word slots
 abbrev pub bases : ℕ → ℕ
 bases slot = 12 + slot
 
+-- the word `dg` or `seq`
 abbrev pub dgOrSeq : ℕ
 dgOrSeq = 16
 
+-- the word `ds`
 abbrev pub ds : ℕ
 ds = 17
 

@@ -30,6 +30,7 @@ pub record Room : Type 0 where
   pub words : List ℕ
   pub numbers : List Float
 
+-- the four slices as one
 abbrev pub roomOf : List ℕ → List ℕ → List ℕ → List Float → Room
 roomOf kinds lines words numbers = record { kinds = kinds; lines = lines; words = words; numbers = numbers }
 
@@ -55,8 +56,10 @@ pub record Equal (room : Room) : Type 0 where
   pub words : length (room .words) ≡ 8 * length (room .kinds)
   pub numbers : length (room .numbers) ≡ 3 * length (room .kinds)
 
+-- the four lengths are not for the same number of rows
 abbrev pub unequalLengths : ℕ → ℕ → ℕ → ℕ → Bool
 unequalLengths kinds lines words numbers = not (eqb lines kinds) || not (eqb words (8 * kinds)) || not (eqb numbers (3 * kinds))
 
+-- the slices are not for the same number of rows
 abbrev pub unequal : Room → Bool
 unequal room = unequalLengths (length (room .kinds)) (length (room .lines)) (length (room .words)) (length (room .numbers))

@@ -29,6 +29,7 @@ pub record Row : Type 0 where
   pub words : List ℕ
   pub numbers : List Float
 
+-- the row of a statement in a line
 abbrev pub rowOf : ℕ → Statement → Row
 rowOf number statement = record { kind = statement .kind; line = number; words = statement .words; numbers = statement .numbers }
 
@@ -69,6 +70,7 @@ countBy Whole line = rows.Rows 1
 countBy (Positions at) line = rows.Rows (length (wordsIn line at))
 countBy (Fault word reason) line = rows.Fault word reason
 
+-- the same of the line that begins at a place
 unfoldable pub countOf : List ℕ → ℕ → Count
 countOf line at = countBy (statementOf line at .outcome) line
 

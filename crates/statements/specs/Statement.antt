@@ -31,6 +31,7 @@ blank kind = record { outcome = Whole; kind = kind; words = replicate 8 0; numbe
 abbrev pub without : Outcome → Statement
 without outcome = record { outcome = outcome; kind = 0; words = replicate 8 0; numbers = replicate 3 zero }
 
+-- no row, for a word at fault
 abbrev pub faulty : Word → Reason → Statement
 faulty word reason = without (Fault word reason)
 

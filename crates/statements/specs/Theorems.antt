@@ -31,5 +31,6 @@ pub record Answered (text : List ℕ) (room : Room) (n : ℕ) : Type 0 where
   pub count : n ≡ length (rowsOf text)
   pub filled : Filled (rowsOf text) room (roomAfter text room)
 
+-- reading that answers with rows has read the text's
 pub record Reading : Type 0 where
   pub answered : (text : List ℕ) (room : Room) (n : ℕ) → readAnswer text room ≡ Rows n → Answered text room n

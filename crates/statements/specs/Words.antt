@@ -10,12 +10,15 @@ use lib.ListN.{length, take, drop}
 use Rattle.sdc_common.specs.Names.{sameName}
 use Rattle.statements.specs.declared.words.Word.{Word}
 
+-- the byte that ends a line
 abbrev pub isNewline : ℕ → Bool
 isNewline byte = eqb byte 10
 
+-- a byte between words
 abbrev pub isBlank : ℕ → Bool
 isBlank byte = eqb byte 32 || eqb byte 9 || eqb byte 13
 
+-- the byte `#`
 abbrev pub isHash : ℕ → Bool
 isHash byte = eqb byte 35
 
@@ -26,6 +29,7 @@ pub record Line : Type 0 where
   pub start : ℕ
   pub end : ℕ
 
+-- a line out of its start and end
 abbrev pub lineOf : ℕ → ℕ → Line
 lineOf start end = record { start = start; end = end }
 
@@ -47,6 +51,7 @@ upToEnd text line = take (line .end) text
 
 -- ---- words
 
+-- a word out of its start and size
 abbrev pub wordAt : ℕ → ℕ → Word
 wordAt start size = record { start = start; size = size }
 

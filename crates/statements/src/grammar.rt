@@ -4,27 +4,39 @@ ghost use Prim.Native.Nat.{_<_};
 ghost use Rattle.statements.specs.Grammar.{kindOf, sequenceKind, InRow, decoded, itemOf};
 use sdc_common::names::same_bytes;
 
-// The kinds of rows. `scaffold` gives a row for each position.
+// ---- the kinds of rows, each by its keyword; `scaffold` gives a row for each position
+
+// `kelvin`.
 pub const KELVIN: u8 = 0;
 
+// `ambient`.
 pub const AMBIENT: u8 = 1;
 
+// `strand`.
 pub const STRAND: u8 = 2;
 
+// `quencher`.
 pub const QUENCHER: u8 = 3;
 
+// `reporter`.
 pub const REPORTER: u8 = 4;
 
+// A position of `scaffold`.
 pub const POSITION: u8 = 5;
 
+// `energy` with dg and ds.
 pub const ENERGY_GIVEN: u8 = 6;
 
+// `energy` with seq.
 pub const ENERGY_SEQUENCE: u8 = 7;
 
+// `pair` with dg and ds.
 pub const PAIR_GIVEN: u8 = 8;
 
+// `pair` with seq.
 pub const PAIR_SEQUENCE: u8 = 9;
 
+// `penalty`.
 pub const PENALTY: u8 = 10;
 
 // A word that is no keyword.
@@ -44,19 +56,27 @@ pub enum Item {
     End,
 }
 
-// Items as bytes, to which the slot is added.
+// ---- items as bytes, to which the slot is added
+
+// No word.
 const END: u8 = 0;
 
+// A number.
 const NUMBER: u8 = 1;
 
+// A name.
 const NAME: u8 = 4;
 
+// A name or `-`.
 const GLUE: u8 = 8;
 
+// The bases of a sequence.
 const BASES: u8 = 12;
 
+// The word `dg` or `seq`.
 const DG_OR_SEQ: u8 = 16;
 
+// The word `ds`.
 const DS: u8 = 17;
 
 // What stands after the keyword, in the order of the kinds.
@@ -155,6 +175,7 @@ fn decoded(code: u8) -> Item
     Item::Ds
 }
 
+// A byte as an index.
 fn wide(code: u8) -> usize
     ensures { λ r. ⌜ r ≡ code ⌝ }
 {

@@ -14,6 +14,7 @@ use words::Word;
 // The longest text: 1 MiB.
 const LONGEST: usize = 1048576;
 
+// What reading a text answers.
 pub enum ReadAnswer {
     // The number of rows; they stand first in the lent slices.
     Rows(usize),

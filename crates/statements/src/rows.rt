@@ -42,6 +42,7 @@ pub enum Count {
     Fault(Word, Reason),
 }
 
+// The rows of the line that begins at a place.
 fn count_rows(line: &[u8], at: usize) -> Count
     ensures { λ r. ⌜ r ≡ countOf (now (line .entry)) at ⌝ }
 {

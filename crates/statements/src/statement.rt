@@ -33,6 +33,7 @@ pub enum Reason {
     NotAName,
 }
 
+// What a line turned out to be.
 pub enum Outcome {
     // A line without words.
     Nothing,

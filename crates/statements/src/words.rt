@@ -94,3 +94,13 @@ pub(crate) fn bytes(line: &[u8], word: Word) -> &[u8]
     let end = start + word.size;
     &line[start..end]
 }
+
+// A place among places, 0 past the last.
+pub fn place_at(places: &[usize], i: usize) -> usize
+    ensures { λ r. ⌜ r ≡ getD (now (places .entry)) i 0 ⌝ }
+{
+    if i < places.len() {
+        return places[i];
+    }
+    0
+}

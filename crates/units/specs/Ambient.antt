@@ -22,6 +22,7 @@ pub record Figures : Type 0 where
 abbrev pub refused : ℕ → Figures
 refused number = record { number = number; rt = zero; strandExcess = zero; scaffoldExcess = zero }
 
+-- an answer of the code as its number and figures
 abbrev pub ambientFigures : AmbientAnswer → Figures
 ambientFigures (Given a) =
     record { number = answered; rt = a .rt .0; strandExcess = a .«strand_excess» .0; scaffoldExcess = a .«scaffold_excess» .0 }
@@ -39,6 +40,7 @@ excessOver37C kelvin = sub binary64 kelvin (nearest (plus 31015 2))
 abbrev pub ambientChecks : Float → List Check
 ambientChecks kelvin = OutOfRange if not (inRange (plus 200 0) (plus 500 0) kelvin) ∷ []
 
+-- the call's answer at a temperature
 unfoldable pub ambientAt : Float → Figures
 ambientAt kelvin =
     answer (firstOf (ambientChecks kelvin)) refused

@@ -15,18 +15,21 @@ pub struct KcalPerMol(pub f64);
 pub struct KcalPerMolKelvin(pub f64);
 
 impl Kelvin {
+    // The sum of two temperatures.
     pub fn add(self, other: Kelvin) -> Kelvin
         ensures { λ r. ⌜ r .0 ≡ Ieee.add binary64 (self .0) (other .0) ⌝ }
     {
         Kelvin(self.0 + other.0)
     }
 
+    // The difference of two temperatures: an excess.
     pub fn sub(self, other: Kelvin) -> Kelvin
         ensures { λ r. ⌜ r .0 ≡ Ieee.sub binary64 (self .0) (other .0) ⌝ }
     {
         Kelvin(self.0 - other.0)
     }
 
+    // A temperature times an entropy: an energy.
     pub fn times(self, entropy: KcalPerMolKelvin) -> KcalPerMol
         ensures { λ r. ⌜ r .0 ≡ Ieee.mul binary64 (self .0) (entropy .0) ⌝ }
     {
@@ -35,12 +38,14 @@ impl Kelvin {
 }
 
 impl KcalPerMol {
+    // The sum of two energies.
     pub fn add(self, other: KcalPerMol) -> KcalPerMol
         ensures { λ r. ⌜ r .0 ≡ Ieee.add binary64 (self .0) (other .0) ⌝ }
     {
         KcalPerMol(self.0 + other.0)
     }
 
+    // The difference of two energies.
     pub fn sub(self, other: KcalPerMol) -> KcalPerMol
         ensures { λ r. ⌜ r .0 ≡ Ieee.sub binary64 (self .0) (other .0) ⌝ }
     {
@@ -63,18 +68,21 @@ impl KcalPerMol {
 }
 
 impl KcalPerMolKelvin {
+    // The sum of two entropies.
     pub fn add(self, other: KcalPerMolKelvin) -> KcalPerMolKelvin
         ensures { λ r. ⌜ r .0 ≡ Ieee.add binary64 (self .0) (other .0) ⌝ }
     {
         KcalPerMolKelvin(self.0 + other.0)
     }
 
+    // The difference of two entropies.
     pub fn sub(self, other: KcalPerMolKelvin) -> KcalPerMolKelvin
         ensures { λ r. ⌜ r .0 ≡ Ieee.sub binary64 (self .0) (other .0) ⌝ }
     {
         KcalPerMolKelvin(self.0 - other.0)
     }
 
+    // An entropy times a temperature: an energy.
     pub fn times(self, temperature: Kelvin) -> KcalPerMol
         ensures { λ r. ⌜ r .0 ≡ Ieee.mul binary64 (self .0) (temperature .0) ⌝ }
     {
@@ -88,17 +96,20 @@ pub const R_VAL: KcalPerMolKelvin = KcalPerMolKelvin(1.98720425864083 / 1000.0);
 // 37 °C, at which energies are given; an excess temperature is counted from here.
 pub const T37C: Kelvin = Kelvin(310.15);
 
+// The lowest temperature that `ambient_at` takes, in kelvin.
 const LOWEST_KELVIN: f64 = 200.0;
 
+// The highest temperature that `ambient_at` takes, in kelvin.
 const HIGHEST_KELVIN: f64 = 500.0;
 
-// What a design is judged in: RT, and the excess over 37 °C between strands and between strand and scaffold.
+// Document 01's ambient, in which a design is judged: RT, and the excess over 37 °C between strands and between strand and scaffold.
 pub struct Ambient {
     pub rt: KcalPerMol,
     pub strand_excess: Kelvin,
     pub scaffold_excess: Kelvin,
 }
 
+// An ambient, or why there is none.
 pub enum AmbientAnswer {
     Given(Ambient),
     Refused(Refusal),

@@ -6,6 +6,7 @@ use lib.Dec.{eqb}
 use Rattle.utils.specs.declared.bases.DnaNucleotideBase.{DnaNucleotideBase}
 use Rattle.utils.specs.declared.bases.DnaNucleotideBase.the-variants.{A, T, G, C}
 
+-- a base, under the name that the Rust has for it
 abbrev pub Base : Type 0
 Base = DnaNucleotideBase
 
@@ -17,6 +18,7 @@ isLetter lower upper byte = eqb byte lower || eqb byte upper
 unfoldable pub isBase : ℕ → Bool
 isBase byte = isLetter 97 65 byte || isLetter 99 67 byte || isLetter 103 71 byte || isLetter 116 84 byte
 
+-- a byte that stands for no base: refusal 2
 abbrev pub notABase : ℕ → Bool
 notABase byte = not (isBase byte)
 
@@ -24,6 +26,7 @@ notABase byte = not (isBase byte)
 unfoldable pub baseOf : ℕ → Base
 baseOf byte = cond (isLetter 97 65 byte) A (cond (isLetter 116 84 byte) T (cond (isLetter 103 71 byte) G C))
 
+-- the bases of a sequence
 unfoldable pub bases : List ℕ → List Base
 bases sequence = map baseOf sequence
 
@@ -41,6 +44,7 @@ indexOf T = 1
 indexOf G = 2
 indexOf C = 3
 
+-- one base, told by its number
 abbrev pub same : Base → Base → Bool
 same a b = eqb (indexOf a) (indexOf b)
 

@@ -20,9 +20,11 @@ unfoldable pub entropyOf : Base → Base → Decimal
 entropyOf a b =
     cond (same a T && same b A) (minus 213 1) (cond (same a G && same b G || same a C && same b C) (minus 199 1) (stackOf a b .ds))
 
+-- dS of a good window, in kcal/mol/K
 unfoldable pub stackDs : Base → Base → Float
 stackDs a b = nearest (kilo (entropyOf a b))
 
+-- dG of the initiation
 unfoldable pub startDg : Float
 startDg = nearest initiationDg
 
@@ -30,6 +32,7 @@ startDg = nearest initiationDg
 unfoldable pub startDs : Float
 startDs = nearest (plus 57 4)
 
+-- dG of a mismatch, 5'-PX-3' over 3'-P*Y-5'
 unfoldable pub penalty : Base → Base → Base → Float
 penalty p x y = nearest (mismatchOf p x y)
 
@@ -40,6 +43,7 @@ mismatchDg a1 a2 b1 b2 =
 
 -- ---- loops
 
+-- a loop of this length
 abbrev pub isLength : ℕ → Loop → Bool
 isLength n l = eqb (l .length) n
 

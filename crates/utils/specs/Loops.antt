@@ -20,8 +20,10 @@ kindIndex Internal = 0
 kindIndex Bulge = 1
 kindIndex HairPin = 2
 
+-- what the loop call refuses
 abbrev pub loopChecks : ℕ → ℕ → List Check
 loopChecks length kind = NoSuchLoop if (ltb 2 kind || not (hasLength length)) ∷ []
 
+-- the loop call's answer
 unfoldable pub loopPenalty : ℕ → ℕ → DgFigures
 loopPenalty length kind = answer (firstOf (loopChecks length kind)) refusedDg (givenDg (loopDg (kindOf kind) length))

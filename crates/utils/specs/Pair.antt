@@ -24,9 +24,11 @@ pub record Window : Type 0 where
   pub b1 : Base
   pub b2 : Base
 
+-- a window out of its four bases
 abbrev pub window : Base → Base → Base → Base → Window
 window a1 a2 b1 b2 = record { a1 = a1; a2 = a2; b1 = b1; b2 = b2 }
 
+-- the windows of two strands, left to right; none where a strand has fewer than 2 places
 unfoldable pub windows : List Base → List Base → List Window
 windows [] b = []
 windows (a1 ∷ []) b = []
@@ -45,6 +47,7 @@ pub record Sums : Type 0 where
   pub bad : ℕ
   pub missing : Bool
 
+-- the code's sums as these
 abbrev pub sumsOf : Code.Sums → Sums
 sumsOf s = record { dg = s .dg .0; ds = s .ds .0; bad = s .bad; missing = s .missing }
 
@@ -78,9 +81,11 @@ module _ (loopEnergy : ℕ → Float) (admitted : ℕ → Bool) where
         missing = s .missing;
       }
 
+  -- the sums after one window more
   abbrev pub afterWindow : Sums → Window → Sums
   afterWindow s w = cond (good w) (afterGood s (w .a1) (w .a2)) (afterBad s w)
 
+-- the sums before the first window
 abbrev pub noSums : Sums
 noSums = record { dg = zero; ds = zero; bad = 0; missing = false }
 
@@ -88,6 +93,7 @@ noSums = record { dg = zero; ds = zero; bad = 0; missing = false }
 unfoldable pub step : Sums → Window → Sums
 step = afterWindow (loopDg Internal) hasLength
 
+-- the sums over all windows of two strands
 unfoldable pub pairSums : List Base → List Base → Sums
 pairSums a b = foldl step noSums (windows a b)
 
@@ -95,6 +101,7 @@ pairSums a b = foldl step noSums (windows a b)
 abbrev pub lacksLoop : List ℕ → List ℕ → Bool
 lacksLoop a b = pairSums (bases a) (bases b) .missing
 
+-- what is refused of two strands before their loops are looked at
 abbrev pub strandChecks : List ℕ → List ℕ → List Check
 strandChecks a b =
     WrongSize if (tooLong a || tooLong b)
@@ -102,9 +109,11 @@ strandChecks a b =
     ∷ UnequalLengths if not (eqb (length a) (length b))
     ∷ []
 
+-- what is refused of two strands, refusal 5 included
 abbrev pub pairChecks : List ℕ → List ℕ → List Check
 pairChecks a b = strandChecks a b ++ (NoSuchLoop if lacksLoop a b ∷ [])
 
+-- the answer of `sequence_pair_dg_ds`; no initiation is added
 unfoldable pub sequencePairDgDs : List ℕ → List ℕ → DgDsFigures
 sequencePairDgDs a b =
     let sums = pairSums (bases a) (bases b) in

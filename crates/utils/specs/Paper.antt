@@ -18,6 +18,7 @@ pub record Stack : Type 0 where
   pub dg : Decimal
   pub ds : Decimal
 
+-- a stack out of its two bases, dG and dS
 abbrev pub stack : Base → Base → Decimal → Decimal → Stack
 stack first second dg ds = record { first = first; second = second; dg = dg; ds = ds }
 
@@ -40,9 +41,11 @@ table1 =
 abbrev pub isFor : Base → Base → Stack → Bool
 isFor a b s = same a (s .first) && same b (s .second) || same (complement b) (s .first) && same (complement a) (s .second)
 
+-- what stands for a stack that is not there; `AsPublished` shows that none of the sixteen is missing
 abbrev pub absent : Stack
 absent = stack A A (plus 0 0) (plus 0 0)
 
+-- the first entry for a window
 unfoldable pub find : Base → Base → List Stack → Stack
 find a b [] = absent
 find a b (s ∷ rest) = cond (isFor a b s) s (find a b rest)
@@ -51,9 +54,11 @@ find a b (s ∷ rest) = cond (isFor a b s) s (find a b rest)
 unfoldable pub stackOf : Base → Base → Stack
 stackOf a b = find a b table1
 
+-- dG of initiation
 unfoldable pub initiationDg : Decimal
 initiationDg = plus 196 2
 
+-- dS of initiation
 unfoldable pub initiationDs : Decimal
 initiationDs = minus 57 1
 
@@ -70,6 +75,7 @@ pub record Row : Type 0 where
   pub yG : Decimal
   pub yT : Decimal
 
+-- a row out of its four figures, in the paper's order A, C, G, T
 abbrev row : Decimal → Decimal → Decimal → Decimal → Row
 row a c g t = record { yA = a; yC = c; yG = g; yT = t }
 
@@ -77,6 +83,7 @@ row a c g t = record { yA = a; yC = c; yG = g; yT = t }
 abbrev pair : Decimal
 pair = plus 0 0
 
+-- the rows of the table, by P and X
 unfoldable pub table2 : Base → Base → Row
 table2 G A = row (plus 17 2) (plus 81 2) (minus 25 2) pair
 table2 G C = row (plus 47 2) (plus 79 2) pair (plus 62 2)
@@ -95,6 +102,7 @@ table2 T C = row (plus 133 2) (plus 105 2) pair (plus 97 2)
 table2 T G = row (plus 74 2) pair (plus 44 2) (plus 43 2)
 table2 T T = row pair (plus 75 2) (plus 34 2) (plus 68 2)
 
+-- the figure of a row under Y
 abbrev column : Base → Row → Decimal
 column A r = r .yA
 column C r = r .yC
@@ -107,12 +115,14 @@ mismatchOf p x y = column y (table2 p x)
 
 -- ---- Table 4: loops, in tenths
 
+-- a row of the table: a length, and the dG of each kind of loop
 pub record Loop : Type 0 where
   pub length : ℕ
   pub internal : ℕ
   pub bulge : ℕ
   pub hairpin : ℕ
 
+-- a row out of its length and three figures
 abbrev loop : ℕ → ℕ → ℕ → ℕ → Loop
 loop length internal bulge hairpin = record { length = length; internal = internal; bulge = bulge; hairpin = hairpin }
 
@@ -140,6 +150,7 @@ table4 =
 abbrev pub noLoop : Loop
 noLoop = loop 0 0 0 0
 
+-- the decimal of a row under a kind
 abbrev pub figure : LoopKind → Loop → Decimal
 figure Internal l = plus (l .internal) 1
 figure Bulge l = plus (l .bulge) 1

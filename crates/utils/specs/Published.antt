@@ -15,6 +15,7 @@ use Rattle.utils.specs.declared.tables.LoopKind.{LoopKind}
 abbrev pub parts : Base → Base → Bool
 parts a b = same a T && same b A || same a G && same b G || same a C && same b C
 
+-- each figure against the paper's: equal, but for the entries that are named
 pub record AsPublished : Type 0 where
   -- each printed stack is found for its own two bases, and turned by 180°
   pub printed : (i : ℕ) → i < length table1 → stackOf (getD table1 i absent .first) (getD table1 i absent .second) ≡ getD table1 i absent

@@ -19,11 +19,13 @@ pub record Neighbours : Type 0 where
   pub first : Base
   pub second : Base
 
+-- each base with the next one
 unfoldable pub neighbours : List Base → List Neighbours
 neighbours [] = []
 neighbours (a ∷ []) = []
 neighbours (a ∷ b ∷ s) = record { first = a; second = b } ∷ neighbours (b ∷ s)
 
+-- a figure of two neighbours
 abbrev pub figureOf : (Base → Base → Float) → Neighbours → Float
 figureOf f n = f (n .first) (n .second)
 
@@ -35,9 +37,11 @@ stackSum f s = sumFrom zero (map (figureOf f) (neighbours s))
 abbrev pub tooLong : List ℕ → Bool
 tooLong sequence = ltb 256 (length sequence)
 
+-- fewer than 2 bases: refusal 3
 abbrev pub tooShort : List ℕ → Bool
 tooShort sequence = ltb (length sequence) 2
 
+-- what is refused of one sequence
 abbrev pub sequenceChecks : List ℕ → List Check
 sequenceChecks sequence =
     WrongSize if tooLong sequence
@@ -45,6 +49,7 @@ sequenceChecks sequence =
     ∷ TooShort if tooShort sequence
     ∷ []
 
+-- the answer of `string_dna_dg_ds`
 unfoldable pub stringDnaDgDs : List ℕ → DgDsFigures
 stringDnaDgDs sequence =
     answer (firstOf (sequenceChecks sequence)) refusedDgDs

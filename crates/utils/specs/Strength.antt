@@ -13,6 +13,7 @@ use Rattle.utils.specs.Figures.{stackDg, stackDs, startDg, startDs}
 use Rattle.utils.specs.Single.{stackSum, sequenceChecks}
 use Rattle.utils.specs.Pair.{pairSums, pairChecks}
 
+-- (dG + 1.96) − (excess × (dS + 0.0057))
 unfoldable pub strengthAt : Float → Float → Float → Float
 strengthAt excess dg ds = sub binary64 (add binary64 dg startDg) (mul binary64 excess (add binary64 ds startDs))
 
@@ -20,14 +21,17 @@ strengthAt excess dg ds = sub binary64 (add binary64 dg startDg) (mul binary64 e
 unfoldable pub excessInRange : Float → Bool
 excessInRange excess = inRange (minus 1024 0) (plus 1024 0) excess
 
+-- what is refused of an excess
 abbrev pub excessChecks : Float → List Check
 excessChecks excess = OutOfRange if not (excessInRange excess) ∷ []
 
+-- the strength of one sequence, or its refusal
 unfoldable pub sequenceStrength : List ℕ → Float → DgFigures
 sequenceStrength sequence excess =
     answer (firstOf (sequenceChecks sequence ++ excessChecks excess)) refusedDg
     (givenDg (strengthAt excess (stackSum stackDg (bases sequence)) (stackSum stackDs (bases sequence))))
 
+-- the strength of two sequences, or their refusal
 unfoldable pub pairStrength : List ℕ → List ℕ → Float → DgFigures
 pairStrength a b excess =
     let sums = pairSums (bases a) (bases b) in

@@ -4,6 +4,7 @@ ghost use Prim.Native.Nat.{_<_};
 ghost use Rattle.lists.specs.Find.{firstIndex};
 ghost use Rattle.utils.specs.Bases.{isBase, notABase, baseOf, complement, complementary, indexOf};
 
+// The bases in the Rust's order, in which its tables stand.
 pub(crate) enum DnaNucleotideBase {
     A,
     T,
@@ -12,6 +13,7 @@ pub(crate) enum DnaNucleotideBase {
 }
 
 impl DnaNucleotideBase {
+    // The base that pairs with this one.
     pub(crate) fn connects_to(self) -> DnaNucleotideBase
         ensures { λ r. ⌜ r ≡ complement self ⌝ }
     {
@@ -23,6 +25,7 @@ impl DnaNucleotideBase {
         }
     }
 
+    // The number of the base, by which the tables are indexed.
     pub(crate) fn index(self) -> usize
         ensures { λ r. ⌜ (r ≡ indexOf self) × (r < 4) ⌝ }
     {
@@ -47,6 +50,7 @@ pub(crate) fn base(letter: u8) -> DnaNucleotideBase
     }
 }
 
+// Whether a byte is a, c, g or t in either case.
 pub(crate) fn is_base(letter: u8) -> bool
     ensures { λ r. ⌜ r ≡ isBase letter ⌝ }
 {
@@ -59,6 +63,7 @@ pub(crate) fn is_base(letter: u8) -> bool
     }
 }
 
+// Whether two bases pair.
 pub(crate) fn good_match(a: DnaNucleotideBase, b: DnaNucleotideBase) -> bool
     ensures { λ r. ⌜ r ≡ complementary a b ⌝ }
 {

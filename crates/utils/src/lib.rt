@@ -31,15 +31,19 @@ use units::KcalPerMol;
 use units::KcalPerMolKelvin;
 use units::Kelvin;
 
+// What initiation adds to the energy of a duplex.
 const INITIATION_DG: KcalPerMol = KcalPerMol(1.96);
 
+// What initiation adds to its entropy: the Rust's sign, where the paper has the opposite.
 const INITIATION_DS: KcalPerMolKelvin = KcalPerMolKelvin(0.0057);
 
-// The longest sequence, and the largest excess in either direction.
+// The longest sequence.
 const LONGEST: usize = 256;
 
+// The lowest excess.
 const LOWEST_EXCESS: f64 = -1024.0;
 
+// The highest excess.
 const HIGHEST_EXCESS: f64 = 1024.0;
 
 // dG and dS, or why there are none.
@@ -62,6 +66,7 @@ struct Sums {
     missing: bool,
 }
 
+// The kind with this number; a number above 2 is refused before.
 fn loop_kind(kind: u32) -> LoopKind
     ensures { λ r. ⌜ r ≡ kindOf kind ⌝ }
 {
@@ -268,6 +273,7 @@ fn strength(excess: Kelvin, dg: KcalPerMol, ds: KcalPerMolKelvin) -> KcalPerMol
         .sub(excess.times(ds.add(INITIATION_DS)))
 }
 
+// Whether an excess is finite and in its range.
 fn excess_in_range(excess: Kelvin) -> bool
     ensures { λ r. ⌜ r ≡ excessInRange (excess .0) ⌝ }
 {

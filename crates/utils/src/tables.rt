@@ -18,6 +18,7 @@ const NEIGHBOUR_DG: [[f64; 4]; 4] = [
     [-1.45, -1.28, -2.17, -1.84],
 ];
 
+// Their entropies, in the same order.
 const NEIGHBOUR_DS: [[f64; 4]; 4] = [
     [-0.0213, -0.0204, -0.0210, -0.0224],
     [-0.0213, -0.0213, -0.0227, -0.0222],
@@ -108,8 +109,10 @@ const LOOP_TABLE: [[f64; 15]; 3] = [
     ],
 ];
 
+// The lengths that LOOP_TABLE has.
 const LENGTHS: [usize; 15] = [3, 4, 5, 6, 7, 8, 9, 10, 12, 14, 16, 18, 20, 25, 30];
 
+// The kinds of loop, in the order of LOOP_TABLE's rows.
 pub(crate) enum LoopKind {
     Internal,
     Bulge,
@@ -120,6 +123,7 @@ pub(crate) enum LoopKind {
 pub(crate) struct DgDs(pub(crate) KcalPerMol, pub(crate) KcalPerMolKelvin);
 
 impl LoopKind {
+    // The row of the kind in LOOP_TABLE.
     pub(crate) fn index(self) -> usize
         ensures { λ r. ⌜ (r ≡ kindIndex self) × (r < 3) ⌝ }
     {
@@ -143,6 +147,7 @@ pub(crate) fn dg_ds(a: DnaNucleotideBase, b: DnaNucleotideBase) -> DgDs
     )
 }
 
+// The energy of a mismatch: x over y, next to the pair of `prior`.
 pub(crate) fn calc_penalty(
     prior: DnaNucleotideBase,
     x: DnaNucleotideBase,
@@ -188,6 +193,7 @@ pub(crate) fn length_position(length: usize) -> usize
     i
 }
 
+// The energy of a loop, by its kind and the place of its length.
 pub(crate) fn loop_entry(kind: LoopKind, at: usize) -> KcalPerMol
     requires { ⌜ at < 15 ⌝ }
     ensures { λ r. ⌜ r .0 ≡ loopEntry kind at ⌝ }

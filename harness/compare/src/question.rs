@@ -20,7 +20,7 @@ pub struct Question {
 pub enum Expected {
     /// The judge's word: the refusal, or the oracle's figures where it admits the call.
     Judged(Verdict),
-    /// Figures of a second program of ours, for a call that the Rust lacks.
+    /// Figures that the judge works out, for a call that the Rust lacks.
     Figures(String),
 }
 

@@ -61,7 +61,7 @@ fn lines_under(folder: &Path, ending: &str) -> usize {
         .sum()
 }
 
-/// The edits that the gate tries; a folder beside them holds those that it leaves out.
+/// The edits in one folder.
 fn edits_in(folder: &Path) -> usize {
     let Ok(entries) = fs::read_dir(folder) else {
         return 0;
@@ -105,7 +105,7 @@ fn prove(name: &str) -> Crate {
         code: lines_under(&folder.join("src"), "rt"),
         definitions: lines_under(&folder.join("specs"), "antt"),
         proofs: lines_under(&folder.join("proofs"), "antt"),
-        edits: edits_in(&folder.join("must-fail")),
+        edits: edits_in(&folder.join("must-fail")) + edits_in(&folder.join("must-fail/more")),
     }
 }
 

@@ -22,7 +22,7 @@ impl Reply {
         }
     }
 
-    /// Reads a line as `Display` writes it; `None` if no program of ours writes such a line.
+    /// Reads a line as `Display` writes it; `None` if neither program writes such a line.
     pub fn parse(line: &str) -> Option<Self> {
         let (word, rest) = line.split_once(' ').unwrap_or((line, ""));
         match word {

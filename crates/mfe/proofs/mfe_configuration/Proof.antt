@@ -5,8 +5,8 @@ use mathlib.Core.Bool.{Bool, true, not}
 use mathlib.Core.List.{List, []}
 use Prim.Native.Nat.{ℕ}
 use lib.Dec.{eqb}
-use lib.ListN.{length}
-use lib.Ieee.{binary64, fits}
+use lib.ListN.{length, length-replicate}
+use lib.Ieee.{Float, binary64, fits, ofBits}
 use borrow.Author.Needs.{needs}
 use borrow.Author.Tests.{eq-eqb, ne-eqb}
 use Rattle.doubles.specs.Decimal.{zero}
@@ -45,18 +45,24 @@ enum-known-refusal c = search needs
 enum-told : tie.Need-enum-told
 enum-told c = search needs
 
+slice-aggregate-strand-bonds : tie.Need-slice-aggregate-strand-bonds
+slice-aggregate-strand-bonds c = search needs
+
 strand-bonds-requires : tie.Need-strand-bonds-requires
 strand-bonds-requires c κs =
-    let a = c .before .before .before .before .before .before .before .before .before .before .args in
+    let a = c .before .before .before .before .before .before .before .before .before .before .before .args in
     let d : Design = lent (a .scaffold) (a .glues) (a .dg) (a .ds) (a .potentials) (a .ambient) in
-    few d (admitted d (sym (c .before .before .design-reply .ensures) ∙ c .enum-told .given .1))
+    (few d (admitted d (sym (c .before .before .before .design-reply .ensures) ∙ c .before .enum-told .given .1)), length-replicate {A = Float} 4096 (ofBits binary64 0))
+
+slice-aggregate-scaffold-bonds : tie.Need-slice-aggregate-scaffold-bonds
+slice-aggregate-scaffold-bonds c = search needs
 
 scaffold-bonds-requires : tie.Need-scaffold-bonds-requires
 scaffold-bonds-requires c κs =
-    let a = c .before .before .before .before .before .before .before .before .before .before .before .args in
+    let a = c .before .before .before .before .before .before .before .before .before .before .before .before .before .before .args in
     let d : Design = lent (a .scaffold) (a .glues) (a .dg) (a .ds) (a .potentials) (a .ambient) in
-    let w = admitted d (sym (c .before .before .before .design-reply .ensures) ∙ c .before .enum-told .given .1) in
-    (few d w, short d w)
+    let w = admitted d (sym (c .before .before .before .before .before .before .design-reply .ensures) ∙ c .before .before .before .before .enum-told .given .1) in
+    (few d w, (short d w, length-replicate {A = Float} 8192 (ofBits binary64 0)))
 
 slice-aggregate-lowest : tie.Need-slice-aggregate-lowest
 slice-aggregate-lowest c = search needs
@@ -66,10 +72,10 @@ slice-aggregate-lowest-2 c = search needs
 
 lowest-requires : tie.Need-lowest-requires
 lowest-requires c κs =
-    let a = c .before .before .before .before .before .before .before .before .before .before .before .before .before .before .before .args in
+    let a = c .before .before .before .before .before .before .before .before .before .before .before .before .before .before .before .before .before .before .before .args in
     let d : Design = lent (a .scaffold) (a .glues) (a .dg) (a .ds) (a .potentials) (a .ambient) in
-    let w = admitted d (sym (c .before .before .before .before .before .before .before .design-reply .ensures) ∙ c .before .before .before .before .before .enum-told .given .1) in
-    (searchable d w, (roomy d w (c .before .before .before .before .strand-bonds .ensures) (c .before .before .before .scaffold-bonds .ensures), c .before .before .before .before .before .before .before .before .if1 .left))
+    let w = admitted d (sym (c .before .before .before .before .before .before .before .before .before .before .before .design-reply .ensures) ∙ c .before .before .before .before .before .before .before .before .before .enum-told .given .1) in
+    (searchable d w, (roomy d w (c .before .before .before .before .before .before .before .strand-bonds2 .ensures) (c .before .before .before .before .scaffold-bonds2 .ensures), c .before .before .before .before .before .before .before .before .before .before .before .before .if1 .left))
 
 returns-2 : tie.Need-returns-2
 returns-2 c =
@@ -87,11 +93,11 @@ same-length c = search needs
 
 returns-3 : tie.Need-returns-3
 returns-3 c =
-    let a = c .before .before .before .before .before .before .before .before .before .before .before .before .before .before .before .before .before .before .args in
+    let a = c .before .before .before .before .before .before .before .before .before .before .before .before .before .before .before .before .before .before .before .before .before .before .args in
     let d : Design = lent (a .scaffold) (a .glues) (a .dg) (a .ds) (a .potentials) (a .ambient) in
     let e = a .configuration .now in
-    let known = c .before .before .before .before .before .before .before .before .before .before .before .before .before in
-    let field = c .before .before .before .before .before .before .before .before .before .before .before .before .before .before .before .before .before .before .good .1 .1 .1 .1 .1 .0 .1 .1 in
+    let known = c .before .before .before .before .before .before .before .before .before .before .before .before .before .before .before .before .before in
+    let field = c .before .before .before .before .before .before .before .before .before .before .before .before .before .before .before .before .before .before .before .before .before .before .good .1 .1 .1 .1 .1 .0 .1 .1 in
     let rt : fits binary64 (a .ambient .rt .0) ≡ true = field .0 .1 .1 .0 .1 in
     let strand : fits binary64 (a .ambient .«strand_excess» .0) ≡ true = field .1 .0 .1 .1 .0 .1 in
     let scaffold : fits binary64 (a .ambient .«scaffold_excess» .0) ≡ true = field .1 .1 .0 .1 .1 .0 .1 in
@@ -104,9 +110,9 @@ returns-3 c =
       strand-excess = rw strand tt;
       scaffold-excess = rw scaffold tt;
     } in
-    let w : Admitted d = admitted d (sym (c .before .before .before .before .before .before .before .before .before .before .design-reply .ensures) ∙ c .before .before .before .before .before .before .before .before .enum-told .given .1) in
-    let reply = design-admitted d (ownSize d e) [] (ap not (eq-eqb _ _ (c .before .before .before .before .before .before .before .before .before .before .before .if1 .left))) w in
-    let found = c .before .before .lowest .ensures (modelOf d) (tabled d w (c .before .before .before .before .before .before .before .strand-bonds .ensures) (c .before .before .before .before .before .before .scaffold-bonds .ensures)) in (
+    let w : Admitted d = admitted d (sym (c .before .before .before .before .before .before .before .before .before .before .before .before .before .before .design-reply .ensures) ∙ c .before .before .before .before .before .before .before .before .before .before .before .before .enum-told .given .1) in
+    let reply = design-admitted d (ownSize d e) [] (ap not (eq-eqb _ _ (c .before .before .before .before .before .before .before .before .before .before .before .before .before .before .before .if1 .left))) w in
+    let found = c .before .before .lowest .ensures (modelOf d) (tabled d w (c .before .before .before .before .before .before .before .before .before .before .strand-bonds2 .ensures) (c .before .before .before .before .before .before .before .scaffold-bonds2 .ensures)) in (
       ap given (found .least) ∙ answered zero (Search.search (modelOf d) .energy) reply,
       (found .shown ∙ entries-written e (Search.search (modelOf d) .configuration) reply, λ _ _. lowest-shown d w doubles found),
     )
@@ -119,7 +125,9 @@ mfe-configuration-spec =
     design-reply-requires
     enum-known-refusal
     enum-told
+    slice-aggregate-strand-bonds
     strand-bonds-requires
+    slice-aggregate-scaffold-bonds
     scaffold-bonds-requires
     slice-aggregate-lowest
     slice-aggregate-lowest-2

@@ -1,5 +1,5 @@
 //! Document 01, "Stored configurations", read once more: a reader and a writer of decks that know
-//! the document and CALLS.md alone, never the port.
+//! the document and docs/DECISIONS.md alone, never the port.
 
 use super::Verdict;
 
@@ -130,7 +130,7 @@ mod tests {
         words
     }
 
-    /// The table of CALLS.md, "The deck's place, worked out".
+    /// Places worked out by hand from "the first word with which no valid deck can begin so".
     #[test]
     fn the_places_are_those_of_the_table() {
         let place = |words: &[u32]| read(words).expect_err("this deck has a fault");

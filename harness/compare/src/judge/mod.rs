@@ -1,8 +1,8 @@
 //! The judge: which number document 01 refuses a call with, or none.
 //!
-//! Written from documents 01 and CALLS.md alone, never from the port or from rgrow: where port
-//! and judge agree, two readings of the document agree. Of decks, names,
-//! parameters and designs it has the answers too, for what the Rust lacks or cannot be asked.
+//! Written from document 01 and docs/DECISIONS.md alone, never from the port or from rgrow: where
+//! port and judge agree, two readings of the document agree. Of decks, names, parameters and designs
+//! it has the answers too, for what the Rust lacks or cannot be asked.
 
 pub mod deck;
 pub mod design;

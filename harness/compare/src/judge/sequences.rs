@@ -1,5 +1,4 @@
-//! Document 01, "Sequence energies", with the rows of CALLS.md for one sequence, two sequences,
-//! loop and strength.
+//! Document 01, "Sequence energies", with docs/DECISIONS.md, "Sequences".
 
 use super::{out_of_range, Verdict};
 
@@ -19,7 +18,7 @@ pub fn pair(a: &[u8], b: &[u8]) -> Verdict {
     Verdict::lowest(&two_sequences(a, b))
 }
 
-/// The length is of any size; CALLS.md: "however large".
+/// The length is of any size; docs/DECISIONS.md: "however large".
 pub fn loop_penalty(length: u64, kind: u32) -> Verdict {
     let entry = LENGTHS.iter().any(|known| *known as u64 == length);
     Verdict::lowest(&[(5, kind > 2 || !entry)])

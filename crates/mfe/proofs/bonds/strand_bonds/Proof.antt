@@ -2,8 +2,7 @@
 use mathlib.Core.Path.{_≡_}
 use Prim.Native.Nat.{_≤_, _-_}
 use native.Mathlib.Omega.{arith}
-use lib.ListN.{length-replicate}
-use lib.Ieee.{Float, binary64, nan, ofBits}
+use lib.Ieee.{nan}
 use borrow.Author.Needs.{needs}
 use Rattle.lists.specs.Grid.{Grid}
 use Rattle.lists.proofs.Grid.{grid-none}
@@ -19,13 +18,10 @@ abbrev μ-loop : tie.MeasureT-loop
 μ-loop glues dg ds ambient strands cells₀ x₀ cells x = strands - x
 
 loop-holds : tie.Need-loop-holds Inv-loop μ-loop
-loop-holds c = (omega arith, grid-none (length-replicate {A = Float} 4096 (ofBits binary64 0)))
-
-slice-aggregate-fill-strand-row : tie.Need-slice-aggregate-fill-strand-row Inv-loop μ-loop
-slice-aggregate-fill-strand-row c = search needs
+loop-holds c = (omega arith, grid-none (c .before .before .before .before .pre .1))
 
 fill-strand-row-requires : tie.Need-fill-strand-row-requires Inv-loop μ-loop
-fill-strand-row-requires c κs = (c .before .before .before .before .before .before .pre, (c .before .loop-test .taken, c .before .before .loop .inv .1))
+fill-strand-row-requires c κs = (c .before .before .before .before .before .before .before .pre .0, (c .before .loop-test .taken, c .before .before .loop .inv .1))
 
 add-x : tie.Need-add-x Inv-loop μ-loop
 add-x c = search needs
@@ -34,12 +30,15 @@ loop-less : tie.Need-loop-less Inv-loop μ-loop
 loop-less c = search needs
 
 loop-again : tie.Need-loop-again Inv-loop μ-loop
-loop-again c = (omega arith, c .before .fill-strand-row .ensures)
+loop-again c = (omega arith, c .before .before .fill-strand-row .ensures)
+
+same-length : tie.Need-same-length Inv-loop μ-loop
+same-length c = search needs
 
 returns : tie.Need-returns Inv-loop μ-loop
 returns c =
     let l = c .before in
-    let end : l .loop .x ≡ c .before .before .before .before .before .args .strands = omega arith in
+    let end : l .loop .x ≡ c .before .before .before .before .before .before .args .strands = omega arith in
     rw end at (l .loop .inv .1)
 
 pub strand-bonds-spec : {M : Type 1} → statement M
@@ -49,9 +48,9 @@ strand-bonds-spec =
     Inv-loop
     μ-loop
     loop-holds
-    slice-aggregate-fill-strand-row
     fill-strand-row-requires
     add-x
     loop-less
     loop-again
+    same-length
     returns)

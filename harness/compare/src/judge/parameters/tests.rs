@@ -1,4 +1,4 @@
-//! The judge of parameters on cases that document 01 and CALLS.md tell.
+//! The judge of parameters on cases that document 01 and docs/DECISIONS.md tell.
 
 use super::*;
 use crate::parameters::{Energy, Key, Parameters};
