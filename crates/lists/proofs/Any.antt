@@ -1,6 +1,6 @@
 -- A test that some element of a list passes, or none. Assumes nothing.
-use mathlib.Core.Path.{_≡_, refl, sym, _∙_}
-use mathlib.Core.Bool.{Bool, true, false}
+use mathlib.Core.Path.{_≡_, refl, ap, sym, _∙_}
+use mathlib.Core.Bool.{Bool, true, false, _||_, or-true, or-false}
 use mathlib.Core.List.{List, [], _∷_}
 use Prim.Native.Nat.{ℕ, zero, suc, _+_, _<_, _≤_}
 use native.Mathlib.Nat.{le-of-suc-le-suc, not-suc-le-zero}
@@ -52,22 +52,14 @@ module _ {A : Type 0} (p : A → Bool) (xs : List A) (i count : ℕ) where
   abbrev pub CountedOrLeft : Type 0
   CountedOrLeft = any p xs ≡ (ltb 0 count || any p (drop i xs))
 
-  some-now : (a b : Bool) → b ≡ true → (a || b) ≡ true
-  some-now true b e = refl
-  some-now false b e = e
-
   pub here : (d : A) → i < length xs → p (getD xs i d) ≡ true → CountedOrLeft → any p xs ≡ (ltb 0 (count + 1) || any p (drop (i + 1) xs))
   unfolding any
-  here d h e inv = inv ∙ some-now (ltb 0 count) (any p (drop i xs)) (rw (drop-cons xs i d) (simp e)) ∙ sym (simp (lt-ltb 0 (count + 1) (omega arith)))
+  here d h e inv = inv ∙ ap (λ (t : Bool). ltb 0 count || t) (rw (drop-cons xs i d) (simp e)) ∙ or-true (ltb 0 count) ∙ sym (simp (lt-ltb 0 (count + 1) (omega arith)))
 
   pub later : (d : A) → i < length xs → p (getD xs i d) ≡ false → CountedOrLeft → any p xs ≡ (ltb 0 count || any p (drop (i + 1) xs))
   unfolding any
   later d h e inv = inv ∙ rw (add-one, drop-cons xs i d) (simp e)
 
-  or-nothing : (a : Bool) → (a || false) ≡ a
-  or-nothing true = refl
-  or-nothing false = refl
-
   pub past : length xs ≤ i → CountedOrLeft → ltb 0 count ≡ any p xs
   unfolding any
-  past h inv = sym (inv ∙ rw (drop-of-length-le xs h) (or-nothing (ltb 0 count)))
+  past h inv = sym (inv ∙ rw (drop-of-length-le xs h) (or-false (ltb 0 count)))
