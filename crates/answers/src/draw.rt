@@ -9,8 +9,8 @@ use crate::print::print_bytes;
 use crate::print::print_count;
 use crate::print::width;
 use crate::reads::part;
-use crate::reads::place_at;
 use design::reads::byte_at;
+use statements::words::place_at;
 
 // What a line of a stretch holds beside its head.
 const LINE: usize = 66;

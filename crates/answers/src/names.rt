@@ -4,7 +4,7 @@ use crate::print::print;
 use crate::print::print_bytes;
 use crate::print::width;
 use crate::reads::part;
-use crate::reads::place_at;
+use statements::words::place_at;
 
 // Who sits at a place.
 pub(crate) enum Occupant {

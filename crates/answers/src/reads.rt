@@ -1,4 +1,4 @@
-// Parts of slices and their entries, for every place: what is not there is nothing, or 0.
+// Parts of slices, for every place: what is not there is nothing.
 
 // The part of a text from a place on; nothing where it would leave the text.
 pub fn part(text: &[u8], start: usize, size: usize) -> &[u8] {
@@ -19,14 +19,6 @@ pub fn tail(bytes: &mut [u8], start: usize) -> &mut [u8] {
     }
     let end = bytes.len();
     &mut bytes[start..end]
-}
-
-// An entry, 0 past the last.
-pub fn place_at(places: &[usize], i: usize) -> usize {
-    if i < places.len() {
-        return places[i];
-    }
-    0
 }
 
 // The first n entries, or all where there are fewer.

@@ -12,21 +12,15 @@ use borrow.Author.Tests.{eq-eqb}
 use Rattle.lists.specs.Find.{any}
 use Rattle.lists.specs.Fold.{foldl}
 use Rattle.lists.specs.Each.{Each}
-use Rattle.lists.proofs.Any.{neither}
+use Rattle.lists.proofs.Tests.{clash, neither, or-exchange}
 use Rattle.lists.proofs.Permuted.{any-permuted, each-permuted, map-permuted}
 use Rattle.sdc1d_params.specs.Entries.{Cell, isWritten, samePair}
 use Rattle.sdc1d_params.specs.Tables.{Write, cellsOf, duplicated, setBoth}
 use Rattle.sdc1d_params.proofs.Pairs.{same-pair-comm}
 use Rattle.built.proofs.Numbers.{Small}
-use Rattle.built.proofs.Tables.{clash, there, back, twice}
+use Rattle.built.proofs.Tables.{there, back, twice}
 
 -- ---- pairs
-
-shuffled : (a b c d : Bool) → ((a || b) || (c || d)) ≡ ((a || c) || (b || d))
-shuffled true b c d = refl
-shuffled false true true d = refl
-shuffled false true false d = refl
-shuffled false false c d = refl
 
 pub duplicated-permuted : {cs ds : List Cell} → List·Permᴰ cs ds → duplicated cs ≡ duplicated ds
 unfolding duplicated any
@@ -34,7 +28,7 @@ duplicated-permuted List·Permᴰ·nil = refl
 duplicated-permuted (List·Permᴰ·cons {a = a} {b = b} {l₁ = cs} {l₂ = ds} e p) =
     ap₂ (λ (s t : Bool). s || t) (any-permuted (samePair a) p ∙ ap (λ (c : Cell). any (samePair c) ds) e) (duplicated-permuted p)
 duplicated-permuted (List·Permᴰ·swap {a = a} {b = b} {l = l} e f) =
-    shuffled (samePair a b) (any (samePair a) l) (any (samePair b) l) (duplicated l)
+    or-exchange (samePair a b) (any (samePair a) l) (any (samePair b) l) (duplicated l)
     ∙ ap (λ (t : Bool). (t || any (samePair b) l) || (any (samePair a) l || duplicated l)) (same-pair-comm a b)
     ∙ ap₂ (λ (x y : Cell). (samePair x y || any (samePair x) l) || (any (samePair y) l || duplicated l)) f e
 duplicated-permuted (List·Permᴰ·trans p q) = duplicated-permuted p ∙ duplicated-permuted q

@@ -15,12 +15,12 @@ use Rattle.reply.specs.First.{firstOf, orElse}
 use Rattle.reply.specs.declared.Refusal.the-variants.{WrongSize, OutOfRange, NullBinds}
 use Rattle.reply.specs.declared.Reply.{Reply}
 use Rattle.units.specs.declared.Ambient.{Ambient}
-use Rattle.sdc1d_params.specs.Params.{Params, Outcome, writesOf, strandGluesOf}
+use Rattle.sdc1d_params.specs.Params.{Params, Outcome, writesOf, strandGluesOf, builtFrom}
 use Rattle.design.specs.Design as Design
 use Rattle.design.specs.Design.{Design}
 use Rattle.design.specs.Checks.{highGlue, beyond, wrongSizes, sizesOut, cellsOut, ambientOut, potentialsOut, nullGlued, nullCells, nullBinds}
 use Rattle.built.specs.Fits.{Fits, designOf, WrittenFits, Symmetric, WrittenSymmetric}
-use Rattle.built.proofs.Passed.{Passed, outcomeOf, answered-as, few-users, strand-marks, scaffold-short, writes-small}
+use Rattle.built.proofs.Passed.{Passed, answered-as, few-users, strand-marks, scaffold-short, writes-small}
 use Rattle.built.proofs.Written.{strand-glues-many, scaffold-many, strand-glues-low, scaffold-low, dg-mirrored, ds-mirrored, NullZero, dg-null, ds-null, dg-ranged, ds-ranged}
 
 left-of :
@@ -78,22 +78,22 @@ module _ (p : Params) (lent : Outcome) (passed : Passed p lent) where
   unfolding strandGluesOf
   null-glued = refl
 
-  outcome-fits : (potentials : List Float) (ambient : Ambient) → length potentials ≡ p .users + 3 → Fits (designOf (outcomeOf p) potentials ambient)
+  outcome-fits : (potentials : List Float) (ambient : Ambient) → length potentials ≡ p .users + 3 → Fits (designOf (builtFrom p) potentials ambient)
   outcome-fits potentials ambient many =
       let small = writes-small p (passed .few) in
       let users = few-users p lent (passed .size) in
-      fits (designOf (outcomeOf p) potentials ambient)
-      (sizes-in (outcomeOf p .scaffoldGlues) (outcomeOf p .strandGlues) (outcomeOf p .dg) (outcomeOf p .ds) potentials
+      fits (designOf (builtFrom p) potentials ambient)
+      (sizes-in (builtFrom p .scaffoldGlues) (builtFrom p .strandGlues) (builtFrom p .dg) (builtFrom p .ds) potentials
       (rw (scaffold-many p) (scaffold-short p lent (passed .size)))
       (omega arith)
       (omega arith)
       (strand-glues-many p (strand-marks p lent (passed .size)) ∙ omega arith)
       (dg-mirrored (writesOf p) small .many)
       (ds-mirrored (writesOf p) small .many)
-      (each-none highGlue (outcomeOf p .scaffoldGlues) (scaffold-low p (passed .few) (passed .known)))
-      (each-none highGlue (outcomeOf p .strandGlues) (strand-glues-low p (passed .few))))
-      (cells-in (outcomeOf p .dg) (outcomeOf p .ds) (dg-ranged (writesOf p) (passed .ranged)) (ds-ranged (writesOf p) (passed .ranged)))
-      (null-in (outcomeOf p .strandGlues) (outcomeOf p .dg) (outcomeOf p .ds) null-glued (dg-null (writesOf p) small) (ds-null (writesOf p) small))
+      (each-none highGlue (builtFrom p .scaffoldGlues) (scaffold-low p (passed .few) (passed .known)))
+      (each-none highGlue (builtFrom p .strandGlues) (strand-glues-low p (passed .few))))
+      (cells-in (builtFrom p .dg) (builtFrom p .ds) (dg-ranged (writesOf p) (passed .ranged)) (ds-ranged (writesOf p) (passed .ranged)))
+      (null-in (builtFrom p .strandGlues) (builtFrom p .dg) (builtFrom p .ds) null-glued (dg-null (writesOf p) small) (ds-null (writesOf p) small))
 
 pub written-fits : (p : Params) (lent : Outcome) → WrittenFits p lent
 written-fits p lent e potentials ambient many =

@@ -10,7 +10,7 @@ use borrow.Author.Tests.{eqb-true, not-false}
 use Rattle.lists.specs.Find.{any}
 use Rattle.lists.specs.Each.{Each}
 use Rattle.lists.specs.Build.{tabulate, upTo}
-use Rattle.lists.proofs.Any.{neither}
+use Rattle.lists.proofs.Tests.{neither}
 use Rattle.lists.proofs.Counted.{map-tabulate}
 use Rattle.lists.proofs.Places.{tabulate-getD}
 use Rattle.lists.proofs.Permuted.{length-permuted, any-permuted, map-permuted}
@@ -24,11 +24,11 @@ use Rattle.sdc_common.specs.Calls.{tooManyStrands, tooManyBases}
 use Rattle.sdc_common.proofs.Fit.{as-many, fit-names}
 use Rattle.sdc1d_params.specs.Entries.{unfitAt}
 use Rattle.sdc1d_params.specs.Tables.{Write, cellsOf, duplicated, outOfRange, emptyTable, dgTable, dsTable}
-use Rattle.sdc1d_params.specs.Params.{Params, Outcome, entryCount, bases, strandNames, firsts, writesOf, unfitCopied, unfitEntries, unfitScaffold, unfitLent, wrongSize, paramChecks, strandGluesOf, fromParams}
+use Rattle.sdc1d_params.specs.Params.{Params, Outcome, entryCount, bases, strandNames, firsts, writesOf, unfitCopied, unfitEntries, unfitScaffold, unfitLent, wrongSize, paramChecks, strandGluesOf, builtFrom, leftAsLent, fromParams}
 use Rattle.built.specs.Order.{Entry, withEntries, entryIn, entriesIn, AsMany, refusedWith, OrderFree}
 use Rattle.built.proofs.Numbers.{Small}
 use Rattle.built.proofs.Exchanged.{duplicated-permuted, table-permuted}
-use Rattle.built.proofs.Passed.{Passed, outcomeOf, kept, checks-pass, sizes, writes-small}
+use Rattle.built.proofs.Passed.{Passed, checks-pass, sizes, writes-small}
 use Rattle.built.proofs.Entries.{entryWrite, writes-as, bases-as, short-as, entries-as, seconds-as, firsts-as}
 
 -- ---- the reply
@@ -118,15 +118,15 @@ module _ (p : Params) (lent : Outcome) {entries others : List Entry} (permuted :
     unfolding dsTable
     ds-same = ap dsTable (writes-as p entries) ∙ table-permuted (λ (w : Write). w .ds) writes small once emptyTable ∙ ap dsTable (sym (writes-as p others))
 
-    outcome-same : outcomeOf one ≡ outcomeOf two
+    outcome-same : builtFrom one ≡ builtFrom two
     unfolding withEntries strandGluesOf
     outcome-same = rw (dg-same, ds-same)
 
   same : fromParams one lent ≡ fromParams two lent
   unfolding fromParams
   same =
-      same-answer (firstOf (paramChecks one lent)) (kept lent) (outcomeOf one) (outcomeOf two) (λ e. outcome-same (checks-pass one lent e))
-      ∙ ap (λ (r : Reply). answer r (kept lent) (outcomeOf two)) reply-same
+      same-answer (firstOf (paramChecks one lent)) (leftAsLent lent) (builtFrom one) (builtFrom two) (λ e. outcome-same (checks-pass one lent e))
+      ∙ ap (λ (r : Reply). answer r (leftAsLent lent) (builtFrom two)) reply-same
 
 -- ---- every parameter set with as many of each number is made of its own entries
 
@@ -187,7 +187,7 @@ module _ (p : Params) (lent : Outcome) where
   unfolding fromParams
   uneven not-many = go (wrongSize p lent) refl
     where
-      go : (t : Bool) → wrongSize p lent ≡ t → answer (firstOf (paramChecks p lent)) (kept lent) (outcomeOf p) ≡ refusedWith WrongSize lent
+      go : (t : Bool) → wrongSize p lent ≡ t → answer (firstOf (paramChecks p lent)) (leftAsLent lent) (builtFrom p) ≡ refusedWith WrongSize lent
       go true e = rw e
       go false e = absurd (not-many (all-many e))
 

@@ -1,14 +1,14 @@
 -- What the checks of `from_params` leave of a parameter set that is answered. Assumes nothing.
 use mathlib.Core.Path.{_≡_, refl}
 use mathlib.Core.Bool.{Bool, false, _||_}
-use mathlib.Core.List.{List, [], _∷_, map}
+use mathlib.Core.List.{List, [], _∷_}
 use Prim.Native.Nat.{ℕ, _*_, _≤_}
 use lib.Dec.{ltb}
 use lib.ListN.{length}
 use borrow.Author.Tests.{ltb-false}
 use Rattle.lists.specs.Find.{any}
 use Rattle.lists.specs.Each.{Each}
-use Rattle.lists.proofs.Any.{neither}
+use Rattle.lists.proofs.Tests.{neither}
 use Rattle.lists.proofs.Each.{each-tabulate}
 use Rattle.reply.specs.Number.{answered}
 use Rattle.reply.specs.First.{Check, firstOf}
@@ -16,30 +16,15 @@ use Rattle.reply.specs.declared.Reply.the-variants.{Admitted}
 use Rattle.reply.proofs.First.{passes}
 use Rattle.reply.proofs.Answer.{is-admitted}
 use Rattle.sdc_common.specs.Lent.{gluesOf, glueAt, unfitNames}
-use Rattle.sdc_common.specs.Spelled.{isUnknown, spelledNumber}
+use Rattle.sdc_common.specs.Spelled.{isUnknown}
 use Rattle.sdc_common.specs.Calls.{tooManyStrands}
 use Rattle.sdc_common.proofs.Fit.{as-many}
 use Rattle.sdc1d_params.specs.Entries.{entryAt}
-use Rattle.sdc1d_params.specs.Tables.{Write, writeOf, cellsOf, duplicated, outOfRange, dgTable, dsTable}
-use Rattle.sdc1d_params.specs.Params.{Params, Outcome, entryCount, firsts, firstAt, bases, cellAtEntry, writesOf, unfitCopied, unfitEntries, unfitScaffold, unfitLent, wrongSize, paramChecks, strandGluesOf, fromParams}
+use Rattle.sdc1d_params.specs.Tables.{Write, writeOf, cellsOf, duplicated, outOfRange}
+use Rattle.sdc1d_params.specs.Params.{Params, Outcome, entryCount, firsts, firstAt, bases, cellAtEntry, writesOf, unfitCopied, unfitEntries, unfitScaffold, unfitLent, wrongSize, paramChecks, builtFrom, leftAsLent, fromParams}
 use Rattle.built.proofs.Numbers.{Small, cell-small}
 
--- what is written
-abbrev pub outcomeOf : Params → Outcome
-outcomeOf p =
-    record {
-      number = answered;
-      strandGlues = strandGluesOf p;
-      scaffoldGlues = map (spelledNumber (bases p)) (gluesOf (p .text) (p .scaffold));
-      dg = dgTable (writesOf p);
-      ds = dsTable (writesOf p);
-    }
-
--- what is left where there is a refusal
-abbrev pub kept : Outcome → ℕ → Outcome
-kept lent number = record { number = number; strandGlues = lent .strandGlues; scaffoldGlues = lent .scaffoldGlues; dg = lent .dg; ds = lent .ds }
-
-numbered : (lent : Outcome) (n : ℕ) → kept lent n .number ≡ n
+numbered : (lent : Outcome) (n : ℕ) → leftAsLent lent n .number ≡ n
 numbered lent n = refl
 
 -- nine conditions none of which holds
@@ -78,10 +63,10 @@ module _ (p : Params) (lent : Outcome) where
       let none = all-pass (paramChecks p lent) e in
       record { size = none .0; known = none .1 .1 .1 .0; few = ltb-false _ _ (none .1 .1 .1 .1 .0); once = none .1 .1 .1 .1 .1 .0; ranged = none .1 .1 .1 .1 .1 .1 .0 }
 
-  pub answered-as : fromParams p lent .number ≡ answered → Passed p lent × (fromParams p lent ≡ outcomeOf p)
+  pub answered-as : fromParams p lent .number ≡ answered → Passed p lent × (fromParams p lent ≡ builtFrom p)
   unfolding fromParams
   answered-as e =
-      let a = is-admitted (λ (o : Outcome). o .number) (kept lent) (numbered lent) (outcomeOf p) (firstOf (paramChecks p lent)) (fromParams p lent) e refl in
+      let a = is-admitted (λ (o : Outcome). o .number) (leftAsLent lent) (numbered lent) (builtFrom p) (firstOf (paramChecks p lent)) (fromParams p lent) e refl in
       (checks-pass (a .0), a .1)
 
 -- ---- the sizes, one by one

@@ -1,6 +1,6 @@
 -- A cell and its mirror set in a table, and what is kept: what no cell passes, row and column 0, symmetry. Assumes nothing.
 use mathlib.Core.Path.{_≡_, refl, ap, sym, _∙_}
-use mathlib.Core.Bool.{Bool, true, false, cond, not, _&&_}
+use mathlib.Core.Bool.{Bool, true, false, cond, not}
 use mathlib.Core.List.{List}
 use Prim.Native.Nat.{ℕ, _+_, _*_, _<_}
 use native.Mathlib.Decide.{ℕ-discrete}
@@ -12,6 +12,7 @@ use lib.Ieee.{Float}
 use borrow.Author.Tests.{eqb-false, eq-eqb, ne-eqb}
 use Rattle.doubles.specs.Decimal.{zero}
 use Rattle.lists.specs.Find.{any}
+use Rattle.lists.proofs.Tests.{clash, both}
 use Rattle.lists.proofs.Places.{any-set}
 use Rattle.sdc1d_params.specs.Entries.{Cell, isWritten}
 use Rattle.sdc1d_params.specs.Tables.{placeOf, setBoth}
@@ -19,13 +20,6 @@ use Rattle.sdc1d_params.proofs.Writes.{set-length}
 use Rattle.design.specs.Design as Design
 use Rattle.built.specs.Fits.{Symmetric}
 use Rattle.built.proofs.Numbers.{Small}
-
-pub clash : {t : Bool} → t ≡ false → t ≡ true → ⊥
-clash p q = let z : _≡_ {A = ℕ} 0 1 = cc in omega arith
-
-both : (a b : Bool) → (a && b) ≡ true → (a ≡ true) × (b ≡ true)
-both true b e = (refl, e)
-both false b e = absurd (clash refl e)
 
 nonzero : (n : ℕ) → not (eqb n 0) ≡ true → 0 < n
 nonzero n e = go (eqb n 0) refl e

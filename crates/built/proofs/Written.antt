@@ -11,6 +11,7 @@ use Rattle.doubles.specs.Decimal.{nearest, zero}
 use Rattle.doubles.specs.Range.{inRange}
 use Rattle.lists.specs.Find.{any}
 use Rattle.lists.specs.Each.{Each}
+use Rattle.lists.proofs.Tests.{clash}
 use Rattle.lists.proofs.Build.{length-tabulate}
 use Rattle.lists.proofs.Each.{each-append, each-all, each-getD, each-map, fold-keeps, none-each}
 use Rattle.lists.proofs.Find.{any-replicate}
@@ -25,7 +26,7 @@ use Rattle.sdc1d_params.specs.declared.Copied.the-variants.{Nothing, Strand}
 use Rattle.design.specs.Design as Design
 use Rattle.design.specs.Checks.{highGlue, beyond}
 use Rattle.built.proofs.Numbers.{Small, glue-small, spelled-small}
-use Rattle.built.proofs.Tables.{Mirrored, clash, set-none, set-null-row, set-null-column, set-mirrored}
+use Rattle.built.proofs.Tables.{Mirrored, set-none, set-null-row, set-null-column, set-mirrored}
 
 -- ---- glues
 

@@ -10,7 +10,7 @@ use Rattle.reply.specs.declared.Refusal.{Refusal}
 use Rattle.reply.specs.declared.Refusal.the-variants.{WrongSize}
 use Rattle.sdc_common.specs.Lent.{namesOf}
 use Rattle.sdc1d_params.specs.Entries.{energiesOf}
-use Rattle.sdc1d_params.specs.Params.{Params, Outcome, entryCount, fromParams}
+use Rattle.sdc1d_params.specs.Params.{Params, Outcome, entryCount, leftAsLent, fromParams}
 
 -- an entry: all that is lent of it, at the same place of ten slices
 pub record Entry : Type 0 where
@@ -79,7 +79,7 @@ entriesIn p = tabulate (entryCount p) (entryIn p)
 
 -- what a refusal leaves: its number, and what was lent as it was
 abbrev pub refusedWith : Refusal → Outcome → Outcome
-refusedWith refusal lent = record { number = numberOf refusal; strandGlues = lent .strandGlues; scaffoldGlues = lent .scaffoldGlues; dg = lent .dg; ds = lent .ds }
+refusedWith refusal lent = leftAsLent lent (numberOf refusal)
 
 -- the answer does not hang on the order of the entries
 pub record OrderFree : Type 0 where

@@ -3,12 +3,11 @@ use super::NumberAnswer;
 use super::digits::digit_run;
 use super::digits::read_digits;
 use super::rounding::decimal_bits;
+use doubles::double;
 ghost use mathlib.Core.Path.{_≡_};
 ghost use Prim.Native.Nat.{_+_, _^_, _≤_, _<_};
 ghost use mathlib.Core.Bool.{cond};
 ghost use lib.ListN.{length, take, drop};
-ghost use lib.Ieee as Ieee;
-ghost use lib.Ieee.{binary64};
 ghost use Rattle.decimals.specs.Number.{beginsWith, signLength, pointLength, allDigits, exponentAfter, exponentOf, placed, noDigits, valued, isPattern, partsOf, decimalOf};
 
 // One more than the digits of a decimal may stand for.
@@ -112,16 +111,6 @@ fn exponent_of(rest: &[u8]) -> Exponent
         return exponent_after(past(rest, 1));
     }
     Exponent::Malformed
-}
-
-// The double with these bits, every pattern of a NaN being the one NaN.
-pub(crate) fn double(bits: u64) -> f64
-    ensures { λ r. ⌜ r ≡ Ieee.ofBits binary64 bits ⌝ }
-{
-    if 0x7ff0_0000_0000_0000 < bits % 0x8000_0000_0000_0000 {
-        return 0.0 / 0.0;
-    }
-    f64::from_bits(bits)
 }
 
 // Digits whose last stands for 10 ^ up / 10 ^ down.

@@ -11,13 +11,13 @@ use lib.ListN.{length, take, getD, replicate, length-replicate}
 use borrow.Author.Tests.{leb-true, eqb-true, eq-eqb, le-leb, not-true, not-false}
 use Rattle.lists.specs.Find.{any}
 use Rattle.lists.specs.Beginnings.{beginnings}
+use Rattle.lists.proofs.Tests.{both, and-both}
 use Rattle.lists.proofs.Find.{any-replicate, first-le, fails-before, passes-first}
 use Rattle.lists.proofs.Beginnings.{length-beginnings, getD-beginnings}
 use Rattle.deck.specs.Word.{payloadOf}
 use Rattle.deck.specs.Form.{Form, Rules, nothing, together}
 use Rattle.deck.specs.Deck.{follow, positions, isDeck, CanBegin, begins, doesNotBegin, misfitOf, FirstMisfit, stretchesOf, deckOf, tooHigh}
 use Rattle.deck.specs.declared.form.Stretch.{Stretch}
-use Rattle.deck.proofs.Tests.{both, and-both}
 use Rattle.deck.proofs.Stretches.{lastOf, positions-append, laid-length, laid-stretches, follow-append, follow-first, tell-stretches}
 use Rattle.deck.proofs.Decks.{Parts, fit-parts, parts-fit, deck-parts, told-words, deck-valid}
 

@@ -8,11 +8,11 @@ use lib.Dec.{leb, eqb}
 use lib.ListN.{length, length-map}
 use borrow.Author.Tests.{leb-true, eqb-true, eq-eqb, le-leb}
 use Rattle.lists.specs.Find.{any}
+use Rattle.lists.proofs.Tests.{both, and-both}
 use Rattle.deck.specs.Word.{kindOf, payloadOf, wordOf}
 use Rattle.deck.specs.Form.{Form, Rules, Tellable, nothing, mayFollow}
 use Rattle.deck.specs.Deck.{isFirst, follow, positions, wordsFit, isDeck, configurationOf, stretchesOf, deckOf, tooHigh}
 use Rattle.deck.specs.declared.form.Stretch.{Stretch}
-use Rattle.deck.proofs.Tests.{both, and-both}
 use Rattle.deck.proofs.Split.{kind-word, payload-word, word-split}
 use Rattle.deck.proofs.Stretches.{Each, may-apart, laid-length, laid-stretches, follow-stretches, tell-stretches, fewer-stretches, stretches-laid, strands-laid}
 

@@ -1,4 +1,3 @@
-pub mod Tests
 pub mod Split
 pub mod Stretches
 pub mod Singles

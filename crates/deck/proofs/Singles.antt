@@ -5,10 +5,10 @@ use Prim.Native.Nat.{ℕ, _≤_, _<_, _^_}
 use native.Mathlib.Omega.{arith}
 use lib.Dec.{leb, eqb}
 use borrow.Author.Tests.{leb-true, eqb-true, eqb-false, ne-eqb, le-leb}
+use Rattle.lists.proofs.Tests.{both}
 use Rattle.deck.specs.Word.{kindOf, payloadOf, wordOf}
 use Rattle.deck.specs.Form.{Tellable, Rules, singles, stretch, nothing, together, oneStrand, empties}
 use Rattle.deck.specs.declared.form.Stretch.{Stretch}
-use Rattle.deck.proofs.Tests.{both}
 use Rattle.deck.proofs.Split.{kind-word, payload-word, word-split}
 
 -- only empties are told of together

@@ -10,11 +10,11 @@ use lib.Dec.{eqb}
 use lib.ListN.{length, replicate, length-append, length-replicate}
 use borrow.Author.Tests.{ltb-false, eqb-true, eq-eqb, le-leb, le-ltb, not-true}
 use Rattle.lists.specs.Find.{any}
+use Rattle.lists.proofs.Tests.{both, and-both, neither}
 use Rattle.lists.proofs.Find.{any-append, any-replicate}
 use Rattle.deck.specs.Form.{Form, Tellable, stretch, nothing, something, together, mayFollow}
 use Rattle.deck.specs.Deck.{follow, positions, laidOut, inFront, stretchesOf, tooHigh}
 use Rattle.deck.specs.declared.form.Stretch.{Stretch}
-use Rattle.deck.proofs.Tests.{both, and-both, neither}
 
 pub positions-append : (ss ts : List Stretch) → positions (ss ++ ts) ≡ positions ss + positions ts
 unfolding positions

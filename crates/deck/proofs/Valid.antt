@@ -7,12 +7,12 @@ use Prim.Native.Nat.{ℕ, _≤_, _<_, _^_}
 use native.Mathlib.Omega.{arith}
 use lib.Dec.{eqb}
 use borrow.Author.Tests.{leb-true, le-leb, eqb-true, eq-eqb, ne-eqb}
+use Rattle.lists.proofs.Tests.{both, and-both}
 use Rattle.deck.specs.Word.{kindOf, payloadOf}
 use Rattle.deck.specs.Form.{singles, nothing, something, together, mayFollow}
 use Rattle.deck.specs.Deck.{follow, positions, isDeck}
 use Rattle.deck.specs.Valid.{StrandOrEmpties, strand, empties, positionsOf, total, ValidDeck}
 use Rattle.deck.specs.declared.form.Stretch.{Stretch}
-use Rattle.deck.proofs.Tests.{both, and-both}
 use Rattle.deck.proofs.Split.{kind-word, payload-word}
 use Rattle.deck.proofs.Stretches.{may, may-apart}
 use Rattle.deck.proofs.Singles.{told-cases, together-empties}

@@ -10,7 +10,8 @@ use lib.Ieee.{Float, nan, binary64, fits, sub, mul}
 use borrow.Author.Tests.{not-false}
 use Rattle.lists.specs.Find.{any}
 use Rattle.lists.proofs.Default.{getD-default}
-use Rattle.lists.proofs.Any.{neither, none-passes, none-below}
+use Rattle.lists.proofs.Tests.{neither}
+use Rattle.lists.proofs.Any.{none-passes, none-below}
 use Rattle.lists.proofs.Build.{length-tabulate}
 use Rattle.doubles.specs.Decimal.{plus, minus, nearest, zero}
 use Rattle.doubles.specs.Range.{within, inRange}

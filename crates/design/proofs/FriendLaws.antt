@@ -16,7 +16,8 @@ use Rattle.lists.specs.Build.{tabulate, upTo}
 use Rattle.lists.specs.Find.{any}
 use Rattle.lists.specs.Order.{Rising}
 use Rattle.lists.proofs.Build.{length-tabulate, getD-tabulate}
-use Rattle.lists.proofs.Any.{neither, none-below, all-below}
+use Rattle.lists.proofs.Tests.{neither, clash}
+use Rattle.lists.proofs.Any.{none-below, all-below}
 use Rattle.lists.proofs.Keep.{kept, kept-below, kept-passes, kept-rise}
 use Rattle.model.specs.Model.{Friend, State, friendsAt}
 use Rattle.design.specs.Design.{Design, positions, strands, scaffoldGlue, west, bottom, east, cell, binding, befriends, friendsTo, isFriend, friendsOf, modelOf}
@@ -90,9 +91,6 @@ module _ (d : Design) where
       let column = neither (binding (d .dg) (d .ds) 0 (scaffoldGlue d i)) (binding (d .dg) (d .ds) (scaffoldGlue d i) 0) cells .1 in
       let bound : binding (d .dg) (d .ds) (scaffoldGlue d i) 0 ≡ true = subst (λ (k : ℕ). binding (d .dg) (d .ds) (scaffoldGlue d i) k ≡ true) bottom-null (w .2) in
       clash column bound
-    where
-      clash : {t : Bool} → t ≡ false → t ≡ true → ⊥
-      clash p q = let z : _≡_ {A = ℕ} 0 1 = cc in omega arith
 
   -- ---- states
 

@@ -7,7 +7,8 @@ use lib.Dec.{ltb, eqb}
 use lib.ListN.{length, getD}
 use borrow.Author.Tests.{ltb-false, eqb-true, not-false}
 use Rattle.lists.specs.Find.{any}
-use Rattle.lists.proofs.Any.{neither, none-passes}
+use Rattle.lists.proofs.Tests.{neither}
+use Rattle.lists.proofs.Any.{none-passes}
 use Rattle.design.specs.Design.{Design, positions, strands, scaffoldGlue}
 use Rattle.design.specs.Checks.{highGlue, wrongCounts, wrongLengths, wrongSizes, sizesOut}
 

@@ -1,6 +1,6 @@
 -- Bounds that a range test gives, and that a left-to-right sum of bounded terms keeps. Assumes nothing.
 use mathlib.Core.Path.{_≡_, refl, _∙_}
-use mathlib.Core.Bool.{Bool, true, false, _&&_}
+use mathlib.Core.Bool.{Bool, true, false}
 use mathlib.Core.List.{List, [], _∷_}
 use Prim.Native.Nat.{ℕ, zero, suc, _+_, _*_, _^_, _≤_}
 use native.Mathlib.Nat.{le-of-eq, lt-of-le-of-lt, suc-mul}
@@ -11,6 +11,7 @@ use lib.Ieee.{Float, nan, inf, fin, Format, binary64, prec, low, round, neg, add
 use lib.Ieee.Fits.{round-fits}
 use lib.Ieee.Scale.{finite}
 use Rattle.lists.specs.Each.{Each}
+use Rattle.lists.proofs.Tests.{both}
 use Rattle.doubles.specs.Decimal as Decimal
 use Rattle.doubles.specs.Decimal.{plus, minus, nearest}
 use Rattle.doubles.specs.Range.{within, inRange}
@@ -24,10 +25,6 @@ use Rattle.doubles.proofs.Products.{within-between, at-least, not-negat
 use Rattle.doubles.proofs.NegativeZero.{add-not}
 
 -- ---- from a range test
-
-both : (a b : Bool) → (a && b) ≡ true → (a ≡ true) × (b ≡ true)
-both true b e = (refl, e)
-both false b e = absurd (let z : _≡_ {A = ℕ} 0 1 = cc in omega arith)
 
 -- between two finite values lies neither a NaN nor an infinity
 finite-between : (low x high : Float) → T (finite low) → T (finite high) → le low x ≡ true → le x high ≡ true → T (finite x)

@@ -11,7 +11,7 @@ use lib.Pow.{pow-pos}
 use lib.Ieee.{Float, nan, inf, fin, Format, low, up, down, lt, eq, le, below, level, fits}
 use lib.Ieee.Fits.{eq→eqb, down-pos, and-l, and-r, and-i}
 use Rattle.doubles.specs.Size.{mag, sgn, Real}
-use Rattle.doubles.proofs.Size.{exact, mag-zero}
+use Rattle.doubles.proofs.Size.{exact, mag-zero, or-split}
 use Rattle.doubles.specs.Order.{overPart, underPart, over, under, Le}
 
 pub Le-refl : (f : Format) (x : Float) → Le f x x
@@ -41,10 +41,6 @@ below-ple false a false b h = omega (arith, ltb→lt)
 below-ple false a true b h = absurd h
 below-ple true a false b h = omega arith
 below-ple true a true b h = omega (arith, ltb→lt)
-
-or-split : (a b : Bool) → T (a || b) → T a ⊎ T b
-or-split true b t = inl tt
-or-split false b t = inr t
 
 level-ple : (s : Bool) (a : ℕ) (t : Bool) (b : ℕ) → T (level s a t b) → Ple s a t b
 level-ple false a false b h = let e = eqb→eq a b (and-l (eqb a b) true h) in omega arith
@@ -91,19 +87,28 @@ cross-l f s m e d t = mul-right-comm (m * up e) (down d) (2 ^ low f) ∙ ap (λ 
 pub cross-r : (f : Format) (s : Bool) (m : ℕ) (e d : ℤ) → T (fits f (fin s m e)) → m * up e * down d * 2 ^ low f ≡ mag f (fin s m e) * (down d * down e)
 cross-r f s m e d t = cross-l f s m e d t ∙ ap (λ (z : ℕ). mag f (fin s m e) * z) (mul-comm (down e) (down d))
 
+-- a test that no scale changes takes the cross products as it takes the sizes
+by-sizes :
+    (test : Bool → ℕ → Bool → ℕ → Bool)
+    → ((k : ℕ) → 0 < k → (s : Bool) (a : ℕ) (t : Bool) (b : ℕ) → test s (a * k) t (b * k) ≡ test s a t b)
+    → (f : Format) (s : Bool) (m : ℕ) (e : ℤ) (t : Bool) (n : ℕ) (d : ℤ)
+    → T (fits f (fin s m e)) → T (fits f (fin t n d))
+    → test s (m * up e * down d) t (n * up d * down e) ≡ test s (mag f (fin s m e)) t (mag f (fin t n d))
+by-sizes test scale f s m e t n d p q =
+    let U = 2 ^ low f in
+    let K = down e * down d in
+    sym (scale U (pow-pos (low f)) s (m * up e * down d) t (n * up d * down e))
+    ∙ ap (λ (z : ℕ). test s z t (n * up d * down e * U)) (cross-l f s m e d p)
+    ∙ ap (λ (z : ℕ). test s (mag f (fin s m e) * K) t z) (cross-r f t n d e q)
+    ∙ scale K (mul-pos (down-pos e) (down-pos d)) s (mag f (fin s m e)) t (mag f (fin t n d))
+
 pub lt-is : (f : Format) (x y : Float) → Real f x → Real f y → lt x y ≡ below (sgn x) (mag f x) (sgn y) (mag f y)
 unfolding lt sgn
 lt-is f nan y p q = absurd (p .fini)
 lt-is f (inf s) y p q = absurd (p .fini)
 lt-is f (fin s m e) nan p q = absurd (q .fini)
 lt-is f (fin s m e) (inf t) p q = absurd (q .fini)
-lt-is f (fin s m e) (fin t n d) p q =
-    let U = 2 ^ low f in
-    let K = down e * down d in
-    sym (below-scale U (pow-pos (low f)) s (m * up e * down d) t (n * up d * down e))
-    ∙ ap (λ (z : ℕ). below s z t (n * up d * down e * U)) (cross-l f s m e d (p .fit))
-    ∙ ap (λ (z : ℕ). below s (mag f (fin s m e) * K) t z) (cross-r f t n d e (q .fit))
-    ∙ below-scale K (mul-pos (down-pos e) (down-pos d)) s (mag f (fin s m e)) t (mag f (fin t n d))
+lt-is f (fin s m e) (fin t n d) p q = by-sizes below below-scale f s m e t n d (p .fit) (q .fit)
 
 pub eq-is : (f : Format) (x y : Float) → Real f x → Real f y → eq x y ≡ level (sgn x) (mag f x) (sgn y) (mag f y)
 unfolding eq sgn
@@ -111,13 +116,7 @@ eq-is f nan y p q = absurd (p .fini)
 eq-is f (inf s) y p q = absurd (p .fini)
 eq-is f (fin s m e) nan p q = absurd (q .fini)
 eq-is f (fin s m e) (inf t) p q = absurd (q .fini)
-eq-is f (fin s m e) (fin t n d) p q =
-    let U = 2 ^ low f in
-    let K = down e * down d in
-    sym (level-scale U (pow-pos (low f)) s (m * up e * down d) t (n * up d * down e))
-    ∙ ap (λ (z : ℕ). level s z t (n * up d * down e * U)) (cross-l f s m e d (p .fit))
-    ∙ ap (λ (z : ℕ). level s (mag f (fin s m e) * K) t z) (cross-r f t n d e (q .fit))
-    ∙ level-scale K (mul-pos (down-pos e) (down-pos d)) s (mag f (fin s m e)) t (mag f (fin t n d))
+eq-is f (fin s m e) (fin t n d) p q = by-sizes level level-scale f s m e t n d (p .fit) (q .fit)
 
 -- ---- the order and the three tests
 module _ (f : Format) (x y : Float) (p : Real f x) (q : Real f y) where

@@ -113,7 +113,7 @@ unfolding grid
 round-mag f s a c = rw (round-is f s a c, round-is f false a c) (units-mag f s _ _)
 
 -- ---- the order of two values that are not negative is that of their sizes
-or-split : (a b : Bool) → T (a || b) → T a ⊎ T b
+pub or-split : (a b : Bool) → T (a || b) → T a ⊎ T b
 or-split true b t = inl tt
 or-split false b t = inr t
 

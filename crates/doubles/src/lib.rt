@@ -21,3 +21,13 @@ pub fn bits(x: f64) -> u64
         0x7ff8_0000_0000_0000
     }
 }
+
+// The double with these bits. Every pattern of a NaN gives the one NaN.
+pub fn double(bits: u64) -> f64
+    ensures { λ r. ⌜ r ≡ Ieee.ofBits binary64 bits ⌝ }
+{
+    if 0x7ff0_0000_0000_0000 < bits % 0x8000_0000_0000_0000 {
+        return 0.0 / 0.0;
+    }
+    f64::from_bits(bits)
+}

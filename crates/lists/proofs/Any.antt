@@ -1,6 +1,6 @@
 -- A test that some element of a list passes, or none. Assumes nothing.
-use mathlib.Core.Path.{_≡_, refl, sym, _∙_}
-use mathlib.Core.Bool.{Bool, true, false, _||_}
+use mathlib.Core.Path.{_≡_, refl, ap, sym, _∙_}
+use mathlib.Core.Bool.{Bool, true, false, _||_, or-true, or-false}
 use mathlib.Core.List.{List, [], _∷_}
 use Prim.Native.Nat.{ℕ, zero, suc, _+_, _<_, _≤_}
 use native.Mathlib.Nat.{le-of-suc-le-suc, not-suc-le-zero}
@@ -12,13 +12,9 @@ use lib.Seq.{drop-cons}
 use borrow.Author.Tests.{lt-ltb}
 use Rattle.lists.specs.Find.{any, firstIndex}
 use Rattle.lists.specs.Build.{upTo}
+use Rattle.lists.proofs.Tests.{neither}
 use Rattle.lists.proofs.Find.{any-true, any-false}
 use Rattle.lists.proofs.Build.{length-tabulate, getD-tabulate}
-
--- what a disjunction that fails tells
-pub neither : (a b : Bool) → (a || b) ≡ false → (a ≡ false) × (b ≡ false)
-neither true b e = absurd (let z : _≡_ {A = ℕ} 0 1 = cc in omega arith)
-neither false b e = (refl, e)
 
 module _ {A : Type 0} (p : A → Bool) where
   -- where none passes, each fails
@@ -56,22 +52,14 @@ module _ {A : Type 0} (p : A → Bool) (xs : List A) (i count : ℕ) where
   abbrev pub CountedOrLeft : Type 0
   CountedOrLeft = any p xs ≡ (ltb 0 count || any p (drop i xs))
 
-  some-now : (a b : Bool) → b ≡ true → (a || b) ≡ true
-  some-now true b e = refl
-  some-now false b e = e
-
   pub here : (d : A) → i < length xs → p (getD xs i d) ≡ true → CountedOrLeft → any p xs ≡ (ltb 0 (count + 1) || any p (drop (i + 1) xs))
   unfolding any
-  here d h e inv = inv ∙ some-now (ltb 0 count) (any p (drop i xs)) (rw (drop-cons xs i d) (simp e)) ∙ sym (simp (lt-ltb 0 (count + 1) (omega arith)))
+  here d h e inv = inv ∙ ap (λ (t : Bool). ltb 0 count || t) (rw (drop-cons xs i d) (simp e)) ∙ or-true (ltb 0 count) ∙ sym (simp (lt-ltb 0 (count + 1) (omega arith)))
 
   pub later : (d : A) → i < length xs → p (getD xs i d) ≡ false → CountedOrLeft → any p xs ≡ (ltb 0 count || any p (drop (i + 1) xs))
   unfolding any
   later d h e inv = inv ∙ rw (add-one, drop-cons xs i d) (simp e)
 
-  or-nothing : (a : Bool) → (a || false) ≡ a
-  or-nothing true = refl
-  or-nothing false = refl
-
   pub past : length xs ≤ i → CountedOrLeft → ltb 0 count ≡ any p xs
   unfolding any
-  past h inv = sym (inv ∙ rw (drop-of-length-le xs h) (or-nothing (ltb 0 count)))
+  past h inv = sym (inv ∙ rw (drop-of-length-le xs h) (or-false (ltb 0 count)))

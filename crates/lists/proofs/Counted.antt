@@ -1,6 +1,6 @@
 -- Lists made of each number below a bound, as a loop that counts up meets them: what holds below i, and of i, holds below i + 1. Assumes nothing.
-use mathlib.Core.Path.{_≡_, refl, ap, sym}
-use mathlib.Core.Bool.{Bool, true, false, _||_, or-true, or-assoc}
+use mathlib.Core.Path.{_≡_, refl, ap}
+use mathlib.Core.Bool.{Bool, true, false, or-true}
 use mathlib.Core.List.{List, [], _∷_, _++_, map, append-assoc, append-nil}
 use Prim.Native.Nat.{ℕ, zero, suc, _+_, _<_, _≤_}
 use native.Mathlib.Nat.{le-of-suc-le-suc, not-suc-le-zero}
@@ -11,6 +11,7 @@ use lib.Seq.{drop-cons, set-at, getD-at}
 use Rattle.lists.specs.Find.{any, firstIndex}
 use Rattle.lists.specs.Fold.{foldl}
 use Rattle.lists.specs.Build.{tabulate}
+use Rattle.lists.proofs.Find.{any-append}
 use Rattle.lists.proofs.Build.{length-tabulate}
 
 module _ {A : Type 0} where
@@ -24,11 +25,6 @@ module _ {A : Type 0} where
   unfolding tabulate
   tabulate-same zero f g h = refl
   tabulate-same (suc n) f g h = rw (h 0 (omega arith)) (ap (g zero ∷_) (tabulate-same n (λ k. f (suc k)) (λ k. g (suc k)) (λ k l. h (suc k) (omega arith))))
-
-  pub any-append : (p : A → Bool) (xs ys : List A) → any p (xs ++ ys) ≡ (any p xs || any p ys)
-  unfolding any
-  any-append p [] ys = refl
-  any-append p (x ∷ xs) ys = rw (any-append p xs ys) (sym (or-assoc (p x) (any p xs) (any p ys)))
 
   pub fold-append : {S : Type 0} (step : S → A → S) (s : S) (xs ys : List A) → foldl step s (xs ++ ys) ≡ foldl step (foldl step s xs) ys
   unfolding foldl

@@ -9,7 +9,7 @@ use Rattle.lists.specs.Find.{any}
 use Rattle.lists.specs.Fold.{foldl}
 use Rattle.lists.specs.Build.{tabulate}
 use Rattle.lists.specs.Each.{Each}
-use Rattle.lists.proofs.Any.{neither}
+use Rattle.lists.proofs.Tests.{neither}
 
 module _ {A : Type 0} (P : A → Type 0) where
   pub each-append : (xs ys : List A) → Each P xs → Each P ys → Each P (xs ++ ys)

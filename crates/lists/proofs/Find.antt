@@ -25,11 +25,11 @@ module _ {A : Type 0} (p : A → Bool) (xs : List A) (i : ℕ) where
   unfolding firstIndex
   first-past h = rw (drop-of-length-le xs h)
 
-module _ {A : Type 0} (p : A → Bool) where
-  first-le-step : (t : Bool) (m n : ℕ) → m ≤ n → cond t 0 (suc m) ≤ suc n
-  first-le-step true m n h = omega arith
-  first-le-step false m n h = omega arith
+pub first-le-step : (t : Bool) (m n : ℕ) → m ≤ n → cond t 0 (suc m) ≤ suc n
+first-le-step true m n h = omega arith
+first-le-step false m n h = omega arith
 
+module _ {A : Type 0} (p : A → Bool) where
   pub first-le : (xs : List A) → firstIndex p xs ≤ length xs
   unfolding firstIndex
   first-le [] = omega arith

@@ -1,3 +1,4 @@
+pub mod Tests
 pub mod Find
 pub mod Map
 pub mod Beginnings

@@ -1,14 +1,15 @@
 -- Lists and their places: made of each place of another, tested at each, stored into at one. Assumes nothing.
 use mathlib.Core.Path.{_≡_, refl, ap₂, sym, _∙_}
 use mathlib.Core.Bool.{Bool, false, _||_}
-use mathlib.Core.List.{List, [], _∷_, map}
+use mathlib.Core.List.{List, [], _∷_, map, List·Memᴰ, List·Memᴰ·head, List·Memᴰ·tail}
 use Prim.Native.Nat.{ℕ, zero, suc, _<_}
+use native.Mathlib.Nat.{le-of-suc-le-suc, not-suc-le-zero}
 use native.Mathlib.Omega.{arith}
 use lib.ListN.{length, getD, set}
 use lib.Seq.{ext-getD}
 use Rattle.lists.specs.Find.{any}
 use Rattle.lists.specs.Build.{tabulate}
-use Rattle.lists.proofs.Any.{neither}
+use Rattle.lists.proofs.Tests.{neither}
 use Rattle.lists.proofs.Build.{length-tabulate, getD-tabulate}
 
 module _ {A : Type 0} where
@@ -22,6 +23,11 @@ module _ {A : Type 0} where
   tabulate-getD d n xs e =
       ext-getD d (tabulate n (λ i. getD xs i d)) xs (length-tabulate n (λ i. getD xs i d) ∙ sym e)
       (λ i h. getD-tabulate n (λ i. getD xs i d) d i (rw (length-tabulate n (λ i. getD xs i d)) at h))
+
+  pub mem-getD : (d : A) (xs : List A) (i : ℕ) → i < length xs → List·Memᴰ (getD xs i d) xs
+  mem-getD d [] i h = absurd (not-suc-le-zero h)
+  mem-getD d (x ∷ xs) zero h = List·Memᴰ·head refl
+  mem-getD d (x ∷ xs) (suc i) h = List·Memᴰ·tail (mem-getD d xs i (le-of-suc-le-suc h))
 
   -- a test of each place, and one of each element
   pub any-places : {B : Type 0} (d : A) (p : B → Bool) (q : A → Bool) (xs : List A) (g : ℕ → B) → ((k : ℕ) → k < length xs → p (g k) ≡ q (getD xs k d)) → any p (tabulate (length xs) g) ≡ any q xs

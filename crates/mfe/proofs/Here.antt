@@ -1,13 +1,14 @@
 -- The friends of a position as the program lists them, with 0 behind them. Assumes nothing.
-use mathlib.Core.Path.{_≡_, refl, sym, ap, _∙_, subst}
-use mathlib.Core.Bool.{Bool, true, false}
-use mathlib.Core.List.{List, [], _∷_, _++_, List·Memᴰ, List·Memᴰ·head, List·Memᴰ·tail}
-use Prim.Native.Nat.{ℕ, zero, suc, _+_, _<_}
-use native.Mathlib.Nat.{not-suc-le-zero, le-of-suc-le-suc}
+use mathlib.Core.Path.{_≡_, sym, ap, _∙_, subst}
+use mathlib.Core.Bool.{false}
+use mathlib.Core.List.{List, [], _∷_, _++_, List·Memᴰ}
+use Prim.Native.Nat.{ℕ, _+_, _<_}
 use native.Mathlib.Omega.{arith}
 use lib.ListN.{length, getD, take, drop, replicate, length-replicate, getD-replicate, List·getD-append}
 use lib.Ieee.{Float}
 use lib.Seq.{drop-cons, getD-take, take-append-add, getD-at}
+use Rattle.lists.proofs.Tests.{clash}
+use Rattle.lists.proofs.Places.{mem-getD}
 use Rattle.lists.proofs.Keep.{kept-below, kept-passes}
 use Rattle.model.specs.Model.{optionsOf}
 use Rattle.design.specs.Design.{befriends, friendsTo}
@@ -24,11 +25,6 @@ options-front whole n count e h =
     ∙ ap (λ (ys : List ℕ). whole ++ take 1 ys) (drop-cons (replicate n 0) (length whole) 0 inside)
     ∙ ap (λ (x : ℕ). whole ++ x ∷ []) zero
 
-member : (xs : List ℕ) (k : ℕ) → k < length xs → List·Memᴰ (getD xs k 0) xs
-member [] k h = absurd (not-suc-le-zero h)
-member (x ∷ xs) zero h = List·Memᴰ·head refl
-member (x ∷ xs) (suc k) h = List·Memᴰ·tail (member xs k (le-of-suc-le-suc h))
-
 module _ {friends : List ℕ} {r : Friends} (w : FriendsHere friends r) where
   option-at : (k : ℕ) → k < r .count + 1 → getD (r .strands) k 0 ≡ getD (optionsOf friends) k 0
   option-at k h = sym (getD-take (r .count + 1) (r .strands) k 0 h) ∙ ap (λ (xs : List ℕ). getD xs k 0) (w .options)
@@ -41,10 +37,7 @@ module _ {friends : List ℕ} {r : Friends} (w : FriendsHere friends r) where
   empty-at = option-at (r .count) (omega arith) ∙ getD-at friends 0 [] 0 (r .count) (sym (w .number))
 
   listed : (k : ℕ) → k < r .count → List·Memᴰ (getD (r .strands) k 0) friends
-  listed k l = subst (λ (x : ℕ). List·Memᴰ x friends) (sym (friend-at k l)) (member friends k (omega (arith, w .number)))
-
-clash : {t : Bool} → t ≡ false → t ≡ true → ⊥
-clash p q = let z : _≡_ {A = ℕ} 0 1 = cc in omega arith
+  listed k l = subst (λ (x : ℕ). List·Memᴰ x friends) (sym (friend-at k l)) (mem-getD 0 friends k (omega (arith, w .number)))
 
 -- where strand 0 is no friend, none of them is 0
 pub occupied : (glue : ℕ) (glues : List ℕ) (dg ds : List Float) (strands : ℕ) {r : Friends} → FriendsHere (friendsTo glue glues dg ds strands) r → befriends glue glues dg ds 0 ≡ false → Occupied strands r

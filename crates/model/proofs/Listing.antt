@@ -2,13 +2,14 @@
 -- are exactly the states, and none stands twice where friends are in order. Assumes nothing.
 use mathlib.Core.Path.{_≡_, refl, sym, ap, _∙_}
 use mathlib.Core.Logic.{_⊎_, inl, inr}
-use mathlib.Core.List.{List, [], _∷_, map, List·Memᴰ, List·Memᴰ·head, List·Memᴰ·tail, List·Memᴰ·append-cases, List·Memᴰ·eq-of-singleton, Memᴰ·append-left, Memᴰ·append-right}
+use mathlib.Core.List.{List, [], _∷_, map, List·Memᴰ, List·Memᴰ·head, List·Memᴰ·append-cases, List·Memᴰ·eq-of-singleton, Memᴰ·append-left, Memᴰ·append-right}
 use Prim.Native.Nat.{ℕ, zero, suc, _+_, _<_}
 use native.Mathlib.Nat.{not-suc-le-zero, le-of-suc-le-suc, suc-inj}
 use native.Mathlib.Decide.{decLt}
 use native.Mathlib.Omega.{arith}
 use lib.ListN.{length, getD, length-append, List·getD-eq-default}
 use Rattle.lists.specs.Order.{Rising, Distinct}
+use Rattle.lists.proofs.Places.{mem-getD}
 use Rattle.model.specs.Model.{Model, optionsOf, options}
 use Rattle.model.specs.Listed.{Listed}
 use Rattle.model.proofs.Count.{count-choices, option-or-empty}
@@ -51,11 +52,6 @@ occupied (here ∷ later) (x ∷ s) c (suc i) l = occupied later s (c .1) i (le-
 
 -- ---- in order, no option stands twice
 
-at-place : (xs : List ℕ) (i : ℕ) → i < length xs → List·Memᴰ (getD xs i 0) xs
-at-place [] i h = absurd (not-suc-le-zero h)
-at-place (x ∷ xs) zero h = List·Memᴰ·head refl
-at-place (x ∷ xs) (suc i) h = List·Memᴰ·tail (at-place xs i (le-of-suc-le-suc h))
-
 module _ (here : List ℕ) (rising : Rising here) (not-null : List·Memᴰ 0 here → ⊥) where
   -- an option is not one of those after it
   earlier : (i j : ℕ) → i < j → j < length here + 1 → getD here i 0 ≡ getD here j 0 → ⊥
@@ -65,7 +61,7 @@ module _ (here : List ℕ) (rising : Rising here) (not-null : List·Memᴰ 0 her
       go (yes k) = let r : getD here i 0 < getD here j 0 = rising i j h k in omega arith
       go (no k) =
           let z : getD here j 0 ≡ 0 = List·getD-eq-default here 0 (omega arith) in
-          not-null (rw (e ∙ z) at (at-place here i (omega arith)))
+          not-null (rw (e ∙ z) at (mem-getD 0 here i (omega arith)))
 
   options-once : Distinct 0 (optionsOf here)
   options-once i j h l e = go (decLt i j) (decLt j i)

@@ -3,13 +3,13 @@ use crate::designs;
 use crate::kind::Kind;
 use crate::numbers::Number;
 use crate::numbers::decimal;
-use crate::numbers::double;
 use crate::numbers::hex;
 use crate::parts::past;
 use crate::parts::up_to;
 use crate::places::read_places;
 use crate::setting::set_byte;
 use crate::setting::set_double;
+use doubles::double;
 ghost use Prim.Native.Nat.{_≤_};
 
 // Its numbers from the start of each array, and how many of them are its own.

@@ -5,11 +5,11 @@ ghost use mathlib.Core.Bool.{true};
 ghost use Rattle.replay.specs.Kinds.{letters as letters·of, SequenceLine, PairLine, LoopLine, StrengthLine, Strength2Line, AmbientLine, NameLine};
 use crate::numbers::Number;
 use crate::numbers::decimal;
-use crate::numbers::double;
 use crate::numbers::hex;
 use crate::parts::past;
 use crate::parts::up_to;
 use crate::says::says;
+use doubles::double;
 
 // The sequence that a word stands for; an empty one is written as `-`.
 pub(crate) fn letters(word: &[u8]) -> &[u8]

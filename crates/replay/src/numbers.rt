@@ -2,8 +2,6 @@
 // what is not such a number is told from what is.
 ghost use mathlib.Core.Path.{_≡_};
 ghost use mathlib.Core.Bool.{true};
-ghost use lib.Ieee as Ieee;
-ghost use lib.Ieee.{binary64};
 ghost use Rattle.replay.specs.Text.{hexText, Decimal, ReadHex, ReadDecimal, ReadByte};
 
 // A number of 64 bits, or a word that is none.
@@ -105,14 +103,4 @@ pub(crate) fn small(word: &[u8]) -> Byte
         return Byte::Malformed;
     }
     Byte::Is(x as u8)
-}
-
-// The double with these bits. Every pattern of a NaN gives the one NaN that calls are given.
-pub(crate) fn double(bits: u64) -> f64
-    ensures { λ r. ⌜ r ≡ Ieee.ofBits binary64 bits ⌝ }
-{
-    if 0x7ff0_0000_0000_0000 < bits % 0x8000_0000_0000_0000 {
-        return 0.0 / 0.0;
-    }
-    f64::from_bits(bits)
 }

@@ -4,10 +4,10 @@ ghost use mathlib.Core.Bool.{true};
 ghost use Rattle.replay.specs.Setting.{ByteSet, DoubleSet};
 use crate::numbers::Number;
 use crate::numbers::decimal;
-use crate::numbers::double;
 use crate::numbers::hex;
 use crate::parts::past;
 use crate::parts::up_to;
+use doubles::double;
 
 // `INDEX BYTE`: whether the line sets an entry.
 pub(crate) fn set_byte(words: &[u8], slice: &mut [u8]) -> bool

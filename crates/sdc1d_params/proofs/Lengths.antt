@@ -7,7 +7,7 @@ use native.Mathlib.Omega.{arith}
 use lib.Dec.{eqb, ltb}
 use lib.ListN.{length, replicate, length-replicate}
 use borrow.Author.Tests.{le-ltb, eqb-false, ltb-false}
-use Rattle.lists.proofs.Any.{neither}
+use Rattle.lists.proofs.Tests.{neither}
 use Rattle.doubles.specs.Decimal.{zero}
 use Rattle.sdc_common.specs.Lent.{namesOf, unfitNames}
 use Rattle.sdc_common.specs.Calls.{tooManyStrands, unfitStrands}

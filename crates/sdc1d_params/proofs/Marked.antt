@@ -1,6 +1,6 @@
 -- A cell is marked exactly if one of its pair was met. Assumes nothing.
 use mathlib.Core.Path.{_≡_, refl, ap, ap₂, sym, _∙_}
-use mathlib.Core.Bool.{Bool, true, false, cond, _&&_, _||_, or-assoc}
+use mathlib.Core.Bool.{Bool, true, false, cond, _&&_, _||_, or-assoc, or-false}
 use mathlib.Core.List.{List, [], _∷_}
 use Prim.Native.Nat.{ℕ, zero, suc, _<_}
 use native.Mathlib.Decide.{ℕ-discrete}
@@ -13,6 +13,7 @@ use Rattle.lists.specs.Find.{any}
 use Rattle.lists.specs.Fold.{foldl}
 use Rattle.lists.specs.Each.{Each}
 use Rattle.lists.specs.Build.{tabulate}
+use Rattle.lists.proofs.Each.{each-tabulate}
 use Rattle.sdc1d_params.specs.Entries.{Cell, cell, isWritten, samePair}
 use Rattle.sdc1d_params.specs.Tables.{placeOf}
 use Rattle.sdc1d_params.specs.Cells.{markBoth, isMarked}
@@ -81,11 +82,7 @@ mark-more seen c d many inc ind = go (isWritten c) (isWritten d)
     go true true =
         stored-two seen (placeOf (d .row) (d .column)) (placeOf (d .column) (d .row)) at (omega (arith, ind .0, ind .1)) (omega (arith, ind .0, ind .1))
         ∙ ap (λ (b : Bool). getD seen at false || b) (ap₂ (λ (x y : Bool). x || y) (places (c .row) (c .column) (d .row) (d .column) (inc .1) (ind .1)) (places (c .row) (c .column) (d .column) (d .row) (inc .1) (ind .0)))
-    go true false = none (getD seen at false)
-      where
-        none : (t : Bool) → t ≡ (t || false)
-        none true = refl
-        none false = refl
+    go true false = sym (or-false (getD seen at false))
 
 none-marked : (n : ℕ) (c : Cell) → isMarked (replicate n false) c ≡ false
 unfolding isMarked
@@ -105,11 +102,6 @@ module _ (f : ℕ → Cell) where
   abbrev pub seenAfter : ℕ → List Bool
   seenAfter i = foldl markBoth (replicate 4096 false) (tabulate i f)
 
-  each-inside : (i : ℕ) (g : ℕ → Cell) → ((k : ℕ) → k < i → Inside (g k)) → Each Inside (tabulate i g)
-  unfolding tabulate
-  each-inside zero g h = tt
-  each-inside (suc i) g h = (h 0 (omega arith), each-inside i (λ k. g (suc k)) (λ k l. h (suc k) (omega arith)))
-
   fold-length : (seen : List Bool) (cs : List Cell) → length (foldl markBoth seen cs) ≡ length seen
   unfolding foldl
   fold-length seen [] = refl
@@ -117,11 +109,7 @@ module _ (f : ℕ → Cell) where
 
   fold-marked : (seen : List Bool) (cs : List Cell) (c : Cell) → length seen ≡ 4096 → Inside c → Each Inside cs → isMarked (foldl markBoth seen cs) c ≡ (isMarked seen c || any (samePair c) cs)
   unfolding foldl any
-  fold-marked seen [] c many inc each = none (isMarked seen c)
-    where
-      none : (t : Bool) → t ≡ (t || false)
-      none true = refl
-      none false = refl
+  fold-marked seen [] c many inc each = sym (or-false (isMarked seen c))
   fold-marked seen (d ∷ cs) c many inc each =
       fold-marked (markBoth seen d) cs c (mark-length seen d ∙ many) inc (each .1)
       ∙ ap (λ (b : Bool). b || any (samePair c) cs) (mark-more seen c d many inc (each .0))
@@ -132,5 +120,5 @@ module _ (f : ℕ → Cell) where
 
   pub marked-is : (i : ℕ) → ((k : ℕ) → k < i → (f k .row < 64) × (f k .column < 64)) → (f i .row < 64) × (f i .column < 64) → isMarked (seenAfter i) (f i) ≡ any (samePair (f i)) (tabulate i f)
   marked-is i h l =
-      fold-marked (replicate 4096 false) (tabulate i f) (f i) (length-replicate 4096 false) l (each-inside i f h)
+      fold-marked (replicate 4096 false) (tabulate i f) (f i) (length-replicate 4096 false) l (each-tabulate Inside i f h)
       ∙ ap (λ (b : Bool). b || any (samePair (f i)) (tabulate i f)) (none-marked 4096 (f i))

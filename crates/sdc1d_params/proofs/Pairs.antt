@@ -11,7 +11,9 @@ use lib.Dec.{eqb}
 use borrow.Author.Tests.{eqb-true, eqb-false, eq-eqb, ne-eqb}
 use Rattle.lists.specs.Find.{any}
 use Rattle.lists.specs.Build.{tabulate}
-use Rattle.lists.proofs.Counted.{tabulate-suc, any-append}
+use Rattle.lists.proofs.Tests.{or-exchange}
+use Rattle.lists.proofs.Find.{any-append}
+use Rattle.lists.proofs.Counted.{tabulate-suc}
 use Rattle.sdc1d_params.specs.Entries.{Cell, isWritten, samePair}
 use Rattle.sdc1d_params.specs.Tables.{duplicated}
 
@@ -30,13 +32,6 @@ same-pair-comm c d =
     (ap₂ (λ (x y : Bool). x && y) (eqb-comm (c .row) (d .row)) (eqb-comm (c .column) (d .column)))
     (ap₂ (λ (x y : Bool). x && y) (eqb-comm (c .row) (d .column)) (eqb-comm (c .column) (d .row)) ∙ and-comm (eqb (d .column) (c .row)) (eqb (d .row) (c .column))))
 
-snoc-step : (a b c d : Bool) → ((a || b) || (c || d)) ≡ ((a || c) || (b || d))
-snoc-step true b c d = refl
-snoc-step false true true d = refl
-snoc-step false true false d = refl
-snoc-step false false true d = refl
-snoc-step false false false d = refl
-
 -- one cell more at the end
 pub duplicated-snoc : (cs : List Cell) (c : Cell) → duplicated (cs ++ (c ∷ [])) ≡ (duplicated cs || any (samePair c) cs)
 unfolding duplicated any
@@ -46,8 +41,8 @@ duplicated-snoc (d ∷ cs) c =
     (alike (any (samePair d) cs) (samePair d c) (duplicated cs) (any (samePair c) cs))
   where
     alike : (a b e f : Bool) → ((a || (b || false)) || (e || f)) ≡ ((a || e) || (b || f))
-    alike a true e f = snoc-step a true e f
-    alike a false e f = snoc-step a false e f
+    alike a true e f = or-exchange a true e f
+    alike a false e f = or-exchange a false e f
 
 module _ (f : ℕ → Cell) where
   step : (n : ℕ) → duplicated (tabulate (suc n) f) ≡ (duplicated (tabulate n f) || any (samePair (f n)) (tabulate n f))

@@ -9,7 +9,7 @@ use lib.ListN.{length, getD, replicate, length-replicate, getD-replicate}
 use borrow.Author.Tests.{eqb-true, not-false, ltb-false, lt-ltb, le-ltb}
 use Rattle.lists.specs.Find.{any}
 use Rattle.lists.specs.Build.{tabulate, upTo}
-use Rattle.lists.proofs.Any.{neither}
+use Rattle.lists.proofs.Tests.{neither}
 use Rattle.lists.proofs.Build.{length-tabulate, getD-tabulate}
 use Rattle.lists.proofs.Counted.{map-tabulate, tabulate-same, any-fails}
 use Rattle.reply.specs.First.{firstOf}

@@ -8,6 +8,7 @@ use lib.Dec.{eqb, ltb}
 use lib.ListN.{length}
 use borrow.Author.Tests.{ltb-false, le-ltb, eq-eqb}
 use Rattle.lists.specs.Find.{any}
+use Rattle.lists.proofs.Tests.{neither}
 use Rattle.reply.specs.Number.{numberOf}
 use Rattle.reply.specs.First.{firstOf, orElse}
 use Rattle.reply.proofs.Answer.{is-admitted, is-refused}
@@ -18,7 +19,7 @@ use Rattle.utils.specs.Answers.{DgDsFigures, givenDgDs, refusedDgDs}
 use Rattle.utils.specs.Bases.{notABase}
 use Rattle.utils.specs.Single.{tooLong, tooShort, sequenceChecks, stringDnaDgDs}
 use Rattle.sdc_common.specs.Lent.{partOf, leaves}
-use Rattle.sdc_common.proofs.Held.{neither, part-length}
+use Rattle.sdc_common.proofs.Held.{part-length}
 use Rattle.sdc1d_params.specs.Entries.{unfitEntry}
 use Rattle.sdc1d_params.specs.declared.entries.GsOrSeq.the-variants.{Sequence}
 use lib.Ieee.{Float}

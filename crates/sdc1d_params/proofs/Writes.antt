@@ -1,10 +1,10 @@
 -- Tables as a loop fills them, and what an entry writes as the code has it. Assumes nothing.
 use mathlib.Core.Path.{_≡_, refl, ap}
 use mathlib.Core.Bool.{Bool, true, false, cond}
-use mathlib.Core.List.{List, [], _∷_}
+use mathlib.Core.List.{List, _∷_}
 use Prim.Native.Nat.{ℕ, zero, suc}
 use lib.Ieee.{Float, binary64, add}
-use lib.ListN.{length, getD, set, replicate, length-set}
+use lib.ListN.{length, set, replicate, length-set}
 use Rattle.lists.specs.Build.{tabulate}
 use Rattle.sdc1d_params.specs.Entries.{Cell, isWritten, entryDg, entryDs}
 use Rattle.sdc1d_params.specs.Tables.{writeOf, setBoth, placeOf}
@@ -14,12 +14,6 @@ pub tabulate-same-value : {A : Type 0} (n : ℕ) (v : A) → tabulate n (λ k. v
 unfolding tabulate
 tabulate-same-value zero v = refl
 tabulate-same-value (suc n) v = ap (v ∷_) (tabulate-same-value n v)
-
--- a list is that of its elements
-pub tabulate-elements : {A : Type 0} (xs : List A) (d : A) → tabulate (length xs) (λ k. getD xs k d) ≡ xs
-unfolding tabulate
-tabulate-elements [] d = refl
-tabulate-elements (x ∷ xs) d = ap (x ∷_) (tabulate-elements xs d)
 
 -- a write from its two sums
 pub same-write :

@@ -13,7 +13,7 @@ use Rattle.doubles.specs.Decimal as doubles
 use Rattle.lists.specs.Find.{any}
 use Rattle.lists.specs.Fold.{foldl}
 use Rattle.lists.specs.Build.{tabulate}
-use Rattle.lists.proofs.Any.{neither}
+use Rattle.lists.proofs.Tests.{neither}
 use Rattle.lists.proofs.Build.{length-tabulate}
 use Rattle.lists.proofs.Counted.{tabulate-same}
 use Rattle.reply.specs.Number.{numberOf, answered}

@@ -183,15 +183,21 @@ withCopies numbers quencher reporter = (0 ∷ 0 ∷ 0 ∷ []) ++ numbers ++ quen
 unfoldable pub strandGluesOf : Params → List ℕ
 strandGluesOf p = withCopies (numbersAmong (strandNames p) (strandNames p)) (p .quencher) (p .reporter)
 
--- a refusal leaves what was lent as it was
-unfoldable pub fromParams : Params → Outcome → Outcome
-fromParams p lent =
-    answer (firstOf (paramChecks p lent))
-    (λ number. record { number = number; strandGlues = lent .strandGlues; scaffoldGlues = lent .scaffoldGlues; dg = lent .dg; ds = lent .ds })
-    (record {
+-- all that a build writes
+abbrev pub builtFrom : Params → Outcome
+builtFrom p =
+    record {
       number = answered;
       strandGlues = strandGluesOf p;
       scaffoldGlues = map (spelledNumber (bases p)) (gluesOf (p .text) (p .scaffold));
       dg = dgTable (writesOf p);
       ds = dsTable (writesOf p);
-    })
+    }
+
+-- a refusal leaves what was lent as it was
+abbrev pub leftAsLent : Outcome → ℕ → Outcome
+leftAsLent lent number = record { number = number; strandGlues = lent .strandGlues; scaffoldGlues = lent .scaffoldGlues; dg = lent .dg; ds = lent .ds }
+
+-- the call: the first check that fails refuses
+unfoldable pub fromParams : Params → Outcome → Outcome
+fromParams p lent = answer (firstOf (paramChecks p lent)) (leftAsLent lent) (builtFrom p)

@@ -9,6 +9,7 @@ use lib.Dec.{eqb}
 use lib.ListN.{length, getD, take, drop, drop-of-length-le}
 use lib.Seq.{take-suc, drop-cons, length-take-le}
 use borrow.Author.Tests.{eq-eqb, ne-eqb}
+use Rattle.lists.proofs.Find.{first-le-step}
 use Rattle.sdc_common.specs.Names.{Name, isStar, baseLength, sameName}
 
 -- ---- bases
@@ -31,14 +32,10 @@ unfolding baseLength
 base-other [] b e = rw e
 base-other (a ∷ s) b e = star-step (isStar a) _ _ (base-other s b e) ∙ other-step (isStar a) (length s)
 
-le-step : (t : Bool) (m n : ℕ) → m ≤ n → cond t 0 (suc m) ≤ suc n
-le-step true m n h = omega arith
-le-step false m n h = omega arith
-
 pub base-le : (s : Name) → baseLength s ≤ length s
 unfolding baseLength
 base-le [] = omega arith
-base-le (b ∷ s) = le-step (isStar b && eqb (baseLength s) 0) _ _ (base-le s)
+base-le (b ∷ s) = first-le-step (isStar b && eqb (baseLength s) 0) _ _ (base-le s)
 
 pub base-none : (s : Name) → baseLength (take 0 s) ≡ 0
 unfolding baseLength

@@ -8,10 +8,10 @@ use lib.ListN.{length}
 use borrow.Author.Tests.{ltb-false, eqb-true, not-false}
 use Rattle.lists.specs.Find.{any}
 use Rattle.lists.specs.Build.{upTo}
+use Rattle.lists.proofs.Tests.{neither}
 use Rattle.lists.proofs.Counted.{any-fails}
 use Rattle.sdc_common.specs.Lent.{Names, unfitAt, unfitNames, notAsMany, FitNames}
 use Rattle.sdc_common.specs.Calls.{tooManyStrands, unfitStrands}
-use Rattle.sdc_common.proofs.Held.{neither}
 
 module _ (n : ℕ) (text : List ℕ) (names : Names) (e : unfitNames n text names ≡ false) where
   halves : (notAsMany n names ≡ false) × (any (unfitAt text names) (upTo n) ≡ false)

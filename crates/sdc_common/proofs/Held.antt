@@ -1,5 +1,5 @@
 -- Parts of the text, and the table of bases as it grows. Assumes nothing.
-use mathlib.Core.Path.{_≡_, refl, ap, sym, _∙_}
+use mathlib.Core.Path.{_≡_, ap, sym, _∙_}
 use mathlib.Core.Bool.{Bool, true, false, not, _&&_, _||_}
 use mathlib.Core.List.{List, [], _∷_, _++_}
 use mathlib.Core.Option.{none, some}
@@ -13,6 +13,7 @@ use lib.Seq.{length-take-le, take-take, getD-set-same, getD-set-other}
 use borrow.Author.Count.{below-more}
 use borrow.Author.Tests.{ltb-false, eq-eqb, ne-eqb}
 use Rattle.lists.specs.Find.{firstIndex}
+use Rattle.lists.proofs.Tests.{neither}
 use Rattle.lists.proofs.Find.{any-true, any-false}
 use Rattle.lists.proofs.Build.{length-tabulate}
 use Rattle.lists.proofs.Counted.{tabulate-suc, tabulate-same}
@@ -22,11 +23,6 @@ use Rattle.sdc_common.specs.Numbers.{isKnown, learn, numberAt, baseNumbe
 use Rattle.sdc_common.specs.Table.{heldAt, held, Table}
 use Rattle.sdc_common.specs.Calls.{selfAndInverse, givenName}
 use Rattle.sdc_common.proofs.Bases.{base-le}
-
--- what a disjunction that fails tells
-pub neither : (a b : Bool) → (a || b) ≡ false → (a ≡ false) × (b ≡ false)
-neither true b e = absurd (let z : _≡_ {A = ℕ} 0 1 = cc in omega arith)
-neither false b e = (refl, e)
 
 -- a fit name ends within the text
 pub fits : (text : List ℕ) (start size : ℕ) → unfitName text start size ≡ false → start + size ≤ length text

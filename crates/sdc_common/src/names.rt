@@ -28,8 +28,8 @@ pub(crate) fn base_length(name: &[u8]) -> usize
     0
 }
 
-// Whether two names have the same bytes.
-pub(crate) fn same_name(a: &[u8], b: &[u8]) -> bool
+// Whether two texts have the same bytes.
+pub fn same_bytes(a: &[u8], b: &[u8]) -> bool
     ensures { λ r. ⌜ r ≡ sameName (now (a .entry)) (now (b .entry)) ⌝ }
 {
     if a.len() != b.len() {

@@ -10,7 +10,7 @@ ghost use Rattle.sdc_common.specs.Numbers.{learn, basesOf, glueNumber};
 ghost use Rattle.sdc_common.specs.Table.{Table, held};
 use crate::names::ABSENT;
 use crate::names::base_length;
-use crate::names::same_name;
+use crate::names::same_bytes;
 
 // The place of the first base that has the bytes of the name, or their count.
 fn find(text: &[u8], heads: &[usize], sizes: &[usize], count: usize, name: &[u8]) -> usize
@@ -21,7 +21,7 @@ fn find(text: &[u8], heads: &[usize], sizes: &[usize], count: usize, name: &[u8]
     while k < count {
         let start = heads[k];
         let end = start + sizes[k];
-        if same_name(name, &text[start..end]) {
+        if same_bytes(name, &text[start..end]) {
             return k;
         }
         k += 1;

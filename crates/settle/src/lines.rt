@@ -1,6 +1,7 @@
 // Words of a line by their place in it. The rows have the words that are names; a number or a keyword is found here.
 use design::reads::byte_at;
 use statements::words::Word;
+use statements::words::is_blank;
 
 // Where a walk over the text is: the line, how many words have begun on it, and the last of them.
 struct Walk {
@@ -8,14 +9,6 @@ struct Walk {
     begun: usize,
     inside: bool,
     start: usize,
-}
-
-// Space, tab and carriage return.
-fn is_blank(byte: u8) -> bool {
-    match byte {
-        b'\t' | b'\r' | b' ' => true,
-        _ => false,
-    }
 }
 
 // One byte further.

@@ -4,7 +4,6 @@ use crate::build::reply_to;
 use crate::lines::word_on_line;
 use answers::Spot;
 use answers::reads::part;
-use answers::reads::place_at;
 use answers::reasons::Why;
 use design::reads::byte_at;
 use reply::Refusal;
@@ -14,6 +13,7 @@ use sdc_common::self_and_inverse;
 use sdc1d_params::Copied;
 use sheet::once::copied;
 use sheet::rows::rows_of;
+use sheet::rows::word_of;
 use statements::grammar::ENERGY_GIVEN;
 use statements::grammar::ENERGY_SEQUENCE;
 use statements::grammar::PAIR_GIVEN;
@@ -23,6 +23,7 @@ use statements::grammar::QUENCHER;
 use statements::grammar::REPORTER;
 use statements::grammar::STRAND;
 use statements::words::Word;
+use statements::words::place_at;
 use utils::DgDsAnswer;
 use utils::string_dna_dg_ds;
 
@@ -41,18 +42,6 @@ pub(crate) fn nowhere(why: Why) -> Found {
             size: 0,
         },
         why,
-    }
-}
-
-// Word j of a row, as `statements` lays them out.
-pub(crate) fn word_of(words: &[usize], row: usize, j: usize) -> Word {
-    if words.len() < row {
-        return Word { start: 0, size: 0 };
-    }
-    let at = std::num::wrapping_add_usize(row << 3, j << 1);
-    Word {
-        start: place_at(words, at),
-        size: place_at(words, std::num::wrapping_add_usize(at, 1)),
     }
 }
 

@@ -11,7 +11,8 @@ use borrow.Author.Tests.{ltb-true, ltb-false, leb-false, eqb-true}
 use Rattle.lists.specs.Find.{any}
 use Rattle.lists.specs.Build.{tabulate, upTo, keep}
 use Rattle.lists.specs.Over.{over}
-use Rattle.lists.proofs.Any.{neither, none-below}
+use Rattle.lists.proofs.Tests.{neither}
+use Rattle.lists.proofs.Any.{none-below}
 use Rattle.lists.proofs.Build.{length-tabulate}
 use Rattle.lists.proofs.Counted.{tabulate-suc}
 use Rattle.lists.proofs.Find.{any-false}

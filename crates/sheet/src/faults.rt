@@ -1,19 +1,20 @@
 // What is wrong with a file whose every line can be read.
 ghost use mathlib.Core.Path.{_≡_};
 ghost use Prim.Native.Nat.{_<_};
-ghost use lib.ListN.{length, getD};
-ghost use Rattle.sdc_common.specs.Names.{sameName};
+ghost use lib.ListN.{length};
 ghost use Rattle.statements.specs.Words.{spelled};
 ghost use Rattle.sheet.specs.Faults.{limitOf, isOver, sameWord, hasName, isNameTwice, firstFaulty, faultAt, sheetAnswer};
 use crate::rows::count_before;
 use crate::rows::first_of;
 use crate::rows::group_of;
 use crate::rows::word_of;
+use sdc_common::names::same_bytes;
 use statements::grammar::ENERGY_GIVEN;
 use statements::grammar::KELVIN;
 use statements::grammar::POSITION;
 use statements::grammar::STRAND;
 use statements::words::Word;
+use statements::words::place_at;
 
 // The most user strands.
 const MOST_STRANDS: usize = 61;
@@ -61,23 +62,6 @@ fn is_over(kinds: &[u8], i: usize) -> bool
 {
     let group = group_of(kinds[i]);
     limit_of(group) <= count_before(kinds, group, i)
-}
-
-// Whether two texts have the same bytes.
-fn same_bytes(a: &[u8], b: &[u8]) -> bool
-    ensures { λ r. ⌜ r ≡ sameName (now (a .entry)) (now (b .entry)) ⌝ }
-{
-    if a.len() != b.len() {
-        return false;
-    }
-    let mut i = 0;
-    while i < a.len() {
-        if a[i] != b[i] {
-            return false;
-        }
-        i += 1;
-    }
-    true
 }
 
 // The bytes of a word, as far as they stand in the text.
@@ -149,22 +133,12 @@ fn first_faulty(text: &[u8], kinds: &[u8], words: &[usize]) -> usize
     i
 }
 
-// The number of a row's line, or 0.
-fn line_of(lines: &[usize], row: usize) -> usize
-    ensures { λ r. ⌜ r ≡ getD (now (lines .entry)) row 0 ⌝ }
-{
-    if row < lines.len() {
-        return lines[row];
-    }
-    0
-}
-
 // What is told of row i, which is at fault.
 fn fault_at(text: &[u8], kinds: &[u8], lines: &[usize], words: &[usize], i: usize) -> SheetAnswer
     requires { ⌜ i < length (now kinds) ⌝ }
     ensures { λ r. ⌜ r ≡ faultAt (now (text .entry)) (now (kinds .entry)) (now (lines .entry)) (now (words .entry)) i ⌝ }
 {
-    let line = line_of(lines, i);
+    let line = place_at(lines, i);
     if is_name_twice(text, kinds, words, i) {
         return SheetAnswer::NameTwice(line, word_of(words, i, 0));
     }

@@ -8,6 +8,7 @@ use statements::grammar::ENERGY_GIVEN;
 use statements::grammar::KELVIN;
 use statements::grammar::PENALTY;
 use statements::words::Word;
+use statements::words::place_at;
 
 // The lowest kind that stands for the same thing: the ambient, or an entry.
 pub(crate) fn group_of(kind: u8) -> u8
@@ -71,26 +72,19 @@ pub fn rows_of(kinds: &[u8], group: u8, rows: &mut [usize])
 }
 
 // Word j of a row; a size of 0 where there is none.
-pub(crate) fn word_of(words: &[usize], row: usize, j: usize) -> Word
-    requires { ⌜ j < 4 ⌝ }
+pub fn word_of(words: &[usize], row: usize, j: usize) -> Word
     ensures { λ r. ⌜ r ≡ wordOf (now (words .entry)) row j ⌝ }
 {
     if words.len() / 8 < row {
         return Word { start: 0, size: 0 };
     }
-    let at = 8 * row + 2 * j;
-    if words.len() <= at {
+    if words.len() / 2 < j {
         return Word { start: 0, size: 0 };
     }
-    if words.len() <= at + 1 {
-        return Word {
-            start: words[at],
-            size: 0,
-        };
-    }
+    let at = 8 * row + 2 * j;
     Word {
-        start: words[at],
-        size: words[at + 1],
+        start: place_at(words, at),
+        size: place_at(words, at + 1),
     }
 }
 
@@ -111,7 +105,6 @@ pub(crate) fn number_of(numbers: &[f64], row: usize, j: usize) -> f64
 
 // Word j of row k of a list of rows.
 pub(crate) fn word_among(words: &[usize], rows: &[usize], k: usize, j: usize) -> Word
-    requires { ⌜ j < 4 ⌝ }
     ensures { λ r. ⌜ r ≡ wordAmong (now (words .entry)) (now (rows .entry)) k j ⌝ }
 {
     if rows.len() <= k {

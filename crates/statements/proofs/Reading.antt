@@ -1,6 +1,6 @@
 -- The call's answer, and what its lent slices hold then. Assumes nothing.
 use mathlib.Core.Path.{_≡_, refl, _∙_}
-use mathlib.Core.Bool.{Bool, true, false, cond, _||_}
+use mathlib.Core.Bool.{Bool, true, false, cond}
 use mathlib.Core.List.{List, [], _∷_, _++_}
 use Prim.Native.Nat.{ℕ, _+_, _≤_, _<_}
 use native.Mathlib.Omega.{arith}
@@ -9,6 +9,7 @@ use lib.ListN.{length, length-append, length-map}
 use borrow.Author.Tests.{lt-ltb, le-ltb, ltb-false, eqb-true, not-false}
 use denote.Enum.Declared.{tagOf}
 use types.Run.{OneOf, miss}
+use Rattle.lists.proofs.Tests.{neither}
 use Rattle.statements.specs.Words.{Line, linesOf, upToEnd, wordsIn}
 use Rattle.statements.specs.Layout.{Room, Equal, unequal}
 use Rattle.statements.specs.Statement.{statementOf}
@@ -91,14 +92,10 @@ module _ (text : List ℕ) (room : ℕ) where
 
 -- ---- the call
 
-or-false : (a b : Bool) → (a || b) ≡ false → (a ≡ false) × (b ≡ false)
-or-false true b e = absurd (let z : _≡_ {A = Bool} true false = cc in let y : _≡_ {A = ℕ} 0 1 = cc in omega arith)
-or-false false b e = (refl, e)
-
 pub equal-room : (room : Room) → unequal room ≡ false → Equal room
 equal-room room e =
-    let o = or-false _ _ e in
-    let p = or-false _ _ (o .0) in
+    let o = neither _ _ e in
+    let p = neither _ _ (o .0) in
     record {
       lines = eqb-true _ _ (not-false _ (p .0));
       words = eqb-true _ _ (not-false _ (p .1));

@@ -2,7 +2,7 @@
 ghost use mathlib.Core.Path.{_≡_};
 ghost use Prim.Native.Nat.{_<_};
 ghost use Rattle.statements.specs.Grammar.{kindOf, sequenceKind, InRow, decoded, itemOf};
-use crate::words::spells;
+use sdc_common::names::same_bytes;
 
 // ---- the kinds of rows, each by its keyword; `scaffold` gives a row for each position
 
@@ -109,31 +109,31 @@ const SHAPES: [[u8; 6]; 11] = [
 pub(crate) fn kind_of(word: &[u8]) -> u8
     ensures { λ r. ⌜ r ≡ kindOf (now (word .entry)) ⌝ }
 {
-    if spells(word, b"kelvin") {
+    if same_bytes(word, b"kelvin") {
         return KELVIN;
     }
-    if spells(word, b"ambient") {
+    if same_bytes(word, b"ambient") {
         return AMBIENT;
     }
-    if spells(word, b"strand") {
+    if same_bytes(word, b"strand") {
         return STRAND;
     }
-    if spells(word, b"quencher") {
+    if same_bytes(word, b"quencher") {
         return QUENCHER;
     }
-    if spells(word, b"reporter") {
+    if same_bytes(word, b"reporter") {
         return REPORTER;
     }
-    if spells(word, b"scaffold") {
+    if same_bytes(word, b"scaffold") {
         return POSITION;
     }
-    if spells(word, b"energy") {
+    if same_bytes(word, b"energy") {
         return ENERGY_GIVEN;
     }
-    if spells(word, b"pair") {
+    if same_bytes(word, b"pair") {
         return PAIR_GIVEN;
     }
-    if spells(word, b"penalty") {
+    if same_bytes(word, b"penalty") {
         return PENALTY;
     }
     UNKNOWN

@@ -13,9 +13,9 @@ use crate::grammar::sequence_kind;
 use crate::words::Word;
 use crate::words::bytes;
 use crate::words::next_word;
-use crate::words::spells;
 use decimals::NumberAnswer;
 use decimals::read_number;
+use sdc_common::names::same_bytes;
 
 // Why a line can't be read.
 pub enum Reason {
@@ -120,13 +120,13 @@ impl Statement {
         match item {
             Item::Number(slot) => self.put_number(slot, read_number(bytes), word),
             Item::Name(slot) => {
-                if spells(bytes, b"-") {
+                if same_bytes(bytes, b"-") {
                     return Statement::without(Outcome::Fault(word, Reason::NotAName));
                 }
                 self.put(slot, word.start, word.size)
             }
             Item::Glue(slot) => {
-                if spells(bytes, b"-") {
+                if same_bytes(bytes, b"-") {
                     return self.put(slot, word.start, 0);
                 }
                 self.put(slot, word.start, word.size)
@@ -134,7 +134,7 @@ impl Statement {
             Item::Bases(slot) => self.put(slot, word.start, word.size),
             Item::DgOrSeq => self.dg_or_seq(bytes, word),
             Item::Ds => {
-                if spells(bytes, b"ds") {
+                if same_bytes(bytes, b"ds") {
                     return self;
                 }
                 Statement::without(Outcome::Fault(word, Reason::NotDs))
@@ -147,10 +147,10 @@ impl Statement {
     fn dg_or_seq(mut self, bytes: &[u8], word: Word) -> Self
         ensures { λ r. ⌜ r ≡ accepted (now (bytes .entry)) Item.DgOrSeq word self ⌝ }
     {
-        if spells(bytes, b"dg") {
+        if same_bytes(bytes, b"dg") {
             return self;
         }
-        if spells(bytes, b"seq") {
+        if same_bytes(bytes, b"seq") {
             self.kind = sequence_kind(self.kind);
             return self;
         }

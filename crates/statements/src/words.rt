@@ -5,7 +5,7 @@ ghost use mathlib.Core.List.{_∷_};
 ghost use mathlib.Core.Option.{some};
 ghost use Prim.Native.Nat.{_+_, _-_, _≤_, _<_};
 ghost use lib.ListN.{length, getD, drop};
-ghost use Rattle.statements.specs.Words.{isBlank, scan, wordsIn, Next, Inside, spelled, spells, lineOf, linesFrom};
+ghost use Rattle.statements.specs.Words.{isBlank, scan, wordsIn, Next, Inside, spelled, lineOf, linesFrom};
 
 // A word by its place in the text. Words have a byte at least: a size of 0 stands for no word.
 pub struct Word {
@@ -29,7 +29,7 @@ pub(crate) fn line_end(text: &[u8], at: usize) -> usize
 }
 
 // Space, tab and carriage return.
-fn is_blank(byte: u8) -> bool
+pub fn is_blank(byte: u8) -> bool
     ensures { λ r. ⌜ r ≡ isBlank byte ⌝ }
 {
     match byte {
@@ -95,19 +95,12 @@ pub(crate) fn bytes(line: &[u8], word: Word) -> &[u8]
     &line[start..end]
 }
 
-// Whether a word has these bytes.
-pub(crate) fn spells(word: &[u8], keyword: &[u8]) -> bool
-    ensures { λ r. ⌜ r ≡ spells (now (word .entry)) (now (keyword .entry)) ⌝ }
+// A place among places, 0 past the last.
+pub fn place_at(places: &[usize], i: usize) -> usize
+    ensures { λ r. ⌜ r ≡ getD (now (places .entry)) i 0 ⌝ }
 {
-    if word.len() != keyword.len() {
-        return false;
+    if i < places.len() {
+        return places[i];
     }
-    let mut i = 0;
-    while i < word.len() {
-        if word[i] != keyword[i] {
-            return false;
-        }
-        i += 1;
-    }
-    true
+    0
 }

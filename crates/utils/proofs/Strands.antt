@@ -7,7 +7,7 @@ use lib.Dec.{eqb}
 use lib.ListN.{length}
 use borrow.Author.Tests.{eqb-true, ltb-false, not-false}
 use Rattle.lists.specs.Find.{any}
-use Rattle.lists.proofs.Any.{neither}
+use Rattle.lists.proofs.Tests.{neither}
 use Rattle.reply.specs.First.{firstOf, _if_}
 use Rattle.reply.specs.declared.Refusal.the-variants.{WrongSize, NotABase, TooShort, UnequalLengths}
 use Rattle.reply.specs.declared.Reply.the-variants.{Admitted}

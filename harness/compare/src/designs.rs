@@ -80,6 +80,17 @@ pub struct Ambient {
     pub scaffold_excess: f64,
 }
 
+impl Ambient {
+    /// One that document 01 admits, whether or not a temperature gives it.
+    pub fn any(random: &mut Random) -> Self {
+        Ambient {
+            rt: random.double(0.125, 8.0),
+            strand_excess: random.double(-1024.0, 1024.0),
+            scaffold_excess: random.double(-1024.0, 1024.0),
+        }
+    }
+}
+
 /// A design that document 01 admits, at this ambient.
 pub fn design(random: &mut Random, sort: Sort, shape: &Shape, ambient: Ambient) -> Lent {
     let mut lent = Lent {

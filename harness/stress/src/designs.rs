@@ -38,11 +38,7 @@ impl Designs {
                 1 | 2 => Shape::middling(random),
                 _ => Shape::small(random),
             };
-            let ambient = Ambient {
-                rt: random.double(0.125, 8.0),
-                strand_excess: random.double(-1024.0, 1024.0),
-                scaffold_excess: random.double(-1024.0, 1024.0),
-            };
+            let ambient = Ambient::any(random);
             let sort = random.pick(&SORTS);
             let mut one = design(random, sort, &shape, ambient);
             spoil(random, &mut one);

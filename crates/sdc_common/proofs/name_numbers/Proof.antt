@@ -18,8 +18,9 @@ unfit-strands-requires c κs = search needs
 returns : tie.Need-returns
 unfolding nameNumbers numbersAfter
 returns c =
-    let strands = namesOf (now (c .before .before .before .before .before .before .before .before .before .before .args .strand-starts)) (now (c .before .before .before .before .before .before .before .before .before .before .args .strand-lengths)) (now (c .before .before .before .before .before .before .before .before .before .before .args .strand-marks)) in
-    let bad : unfitStrands (c .before .before .before .before .before .before .before .before .before .before .args .users) (now (c .before .before .before .before .before .before .before .before .before .before .args .text)) strands ≡ true = sym (c .before .unfit-strands .ensures) ∙ c .if1 .taken in
+    let a = c .before .before .before .before .before .before .before .before .before .before .args in
+    let strands = namesOf (now (a .strand-starts)) (now (a .strand-lengths)) (now (a .strand-marks)) in
+    let bad : unfitStrands (a .users) (now (a .text)) strands ≡ true = sym (c .before .unfit-strands .ensures) ∙ c .if1 .taken in
     (simp bad, simp bad)
 
 unfit-names-requires : tie.Need-unfit-names-requires
@@ -28,10 +29,11 @@ unfit-names-requires c κs = search needs
 returns-2 : tie.Need-returns-2
 unfolding nameNumbers numbersAfter
 returns-2 c =
-    let strands = namesOf (now (c .before .before .before .before .before .before .before .before .before .before .before .before .args .strand-starts)) (now (c .before .before .before .before .before .before .before .before .before .before .before .before .args .strand-lengths)) (now (c .before .before .before .before .before .before .before .before .before .before .before .before .args .strand-marks)) in
-    let names = namesOf (now (c .before .before .before .before .before .before .before .before .before .before .before .before .args .starts)) (now (c .before .before .before .before .before .before .before .before .before .before .before .before .args .lengths)) (now (c .before .before .before .before .before .before .before .before .before .before .before .before .args .marks)) in
-    let fit : unfitStrands (c .before .before .before .before .before .before .before .before .before .before .before .before .args .users) (now (c .before .before .before .before .before .before .before .before .before .before .before .before .args .text)) strands ≡ false = sym (c .before .before .before .unfit-strands .ensures) ∙ c .before .before .if1 .left in
-    let bad : unfitNames (length (now (c .before .before .before .before .before .before .before .before .before .before .before .before .args .numbers))) (now (c .before .before .before .before .before .before .before .before .before .before .before .before .args .text)) names ≡ true = sym (c .before .unfit-names .ensures) ∙ c .if2 .taken in
+    let a = c .before .before .before .before .before .before .before .before .before .before .before .before .args in
+    let strands = namesOf (now (a .strand-starts)) (now (a .strand-lengths)) (now (a .strand-marks)) in
+    let names = namesOf (now (a .starts)) (now (a .lengths)) (now (a .marks)) in
+    let fit : unfitStrands (a .users) (now (a .text)) strands ≡ false = sym (c .before .before .before .unfit-strands .ensures) ∙ c .before .before .if1 .left in
+    let bad : unfitNames (length (now (a .numbers))) (now (a .text)) names ≡ true = sym (c .before .unfit-names .ensures) ∙ c .if2 .taken in
     (simp (fit, bad), simp (fit, bad))
 
 slice-aggregate-base-names : tie.Need-slice-aggregate-base-names
@@ -42,10 +44,11 @@ slice-aggregate-base-names-2 c = search needs
 
 base-names-requires : tie.Need-base-names-requires
 base-names-requires c κs =
-    let strands = namesOf (now (c .before .before .before .before .before .before .before .before .before .before .before .before .before .before .args .strand-starts)) (now (c .before .before .before .before .before .before .before .before .before .before .before .before .before .before .args .strand-lengths)) (now (c .before .before .before .before .before .before .before .before .before .before .before .before .before .before .args .strand-marks)) in
-    let fit : unfitStrands (c .before .before .before .before .before .before .before .before .before .before .before .before .before .before .args .users) (now (c .before .before .before .before .before .before .before .before .before .before .before .before .before .before .args .text)) strands ≡ false = sym (c .before .before .before .before .before .unfit-strands .ensures) ∙ c .before .before .before .before .if1 .left in
-    let few = few-strands (c .before .before .before .before .before .before .before .before .before .before .before .before .before .before .args .users) (now (c .before .before .before .before .before .before .before .before .before .before .before .before .before .before .args .text)) strands fit in
-    (fit-strands (c .before .before .before .before .before .before .before .before .before .before .before .before .before .before .args .users) (now (c .before .before .before .before .before .before .before .before .before .before .before .before .before .before .args .text)) strands fit, (omega (arith, strand-glues (c .before .before .before .before .before .before .before .before .before .before .before .before .before .before .args .users) (now (c .before .before .before .before .before .before .before .before .before .before .before .before .before .before .args .text)) strands fit), search needs))
+    let a = c .before .before .before .before .before .before .before .before .before .before .before .before .before .before .args in
+    let strands = namesOf (now (a .strand-starts)) (now (a .strand-lengths)) (now (a .strand-marks)) in
+    let fit : unfitStrands (a .users) (now (a .text)) strands ≡ false = sym (c .before .before .before .before .before .unfit-strands .ensures) ∙ c .before .before .before .before .if1 .left in
+    let few = few-strands (a .users) (now (a .text)) strands fit in
+    (fit-strands (a .users) (now (a .text)) strands fit, (omega (arith, strand-glues (a .users) (now (a .text)) strands fit), search needs))
 
 slice-aggregate-fill-numbers : tie.Need-slice-aggregate-fill-numbers
 slice-aggregate-fill-numbers c = search needs
@@ -55,20 +58,22 @@ slice-aggregate-fill-numbers-2 c = search needs
 
 fill-numbers-requires : tie.Need-fill-numbers-requires
 fill-numbers-requires c κs =
-    let names = namesOf (now (c .before .before .before .before .before .before .before .before .before .before .before .before .before .before .before .before .before .before .before .before .args .starts)) (now (c .before .before .before .before .before .before .before .before .before .before .before .before .before .before .before .before .before .before .before .before .args .lengths)) (now (c .before .before .before .before .before .before .before .before .before .before .before .before .before .before .before .before .before .before .before .before .args .marks)) in
-    let fit : unfitNames (length (now (c .before .before .before .before .before .before .before .before .before .before .before .before .before .before .before .before .before .before .before .before .args .numbers))) (now (c .before .before .before .before .before .before .before .before .before .before .before .before .before .before .before .before .before .before .before .before .args .text)) names ≡ false = sym (c .before .before .before .before .before .before .before .before .before .unfit-names .ensures) ∙ c .before .before .before .before .before .before .before .before .if2 .left in
-    (c .before .before .before .before .before .base-names .ensures .0, (fit-names (length (now (c .before .before .before .before .before .before .before .before .before .before .before .before .before .before .before .before .before .before .before .before .args .numbers))) (now (c .before .before .before .before .before .before .before .before .before .before .before .before .before .before .before .before .before .before .before .before .args .text)) names fit, sym (as-many (length (now (c .before .before .before .before .before .before .before .before .before .before .before .before .before .before .before .before .before .before .before .before .args .numbers))) (now (c .before .before .before .before .before .before .before .before .before .before .before .before .before .before .before .before .before .before .before .before .args .text)) names fit)))
+    let a = c .before .before .before .before .before .before .before .before .before .before .before .before .before .before .before .before .before .before .before .before .args in
+    let names = namesOf (now (a .starts)) (now (a .lengths)) (now (a .marks)) in
+    let fit : unfitNames (length (now (a .numbers))) (now (a .text)) names ≡ false = sym (c .before .before .before .before .before .before .before .before .before .unfit-names .ensures) ∙ c .before .before .before .before .before .before .before .before .if2 .left in
+    (c .before .before .before .before .before .base-names .ensures .0, (fit-names (length (now (a .numbers))) (now (a .text)) names fit, sym (as-many (length (now (a .numbers))) (now (a .text)) names fit)))
 
 same-length : tie.Need-same-length
 same-length c = search needs
 
 returns-3 : tie.Need-returns-3
 returns-3 c =
-    let strands = namesOf (now (c .before .before .before .before .before .before .before .before .before .before .before .before .before .before .before .before .before .before .before .before .before .before .before .args .strand-starts)) (now (c .before .before .before .before .before .before .before .before .before .before .before .before .before .before .before .before .before .before .before .before .before .before .before .args .strand-lengths)) (now (c .before .before .before .before .before .before .before .before .before .before .before .before .before .before .before .before .before .before .before .before .before .before .before .args .strand-marks)) in
-    let names = namesOf (now (c .before .before .before .before .before .before .before .before .before .before .before .before .before .before .before .before .before .before .before .before .before .before .before .args .starts)) (now (c .before .before .before .before .before .before .before .before .before .before .before .before .before .before .before .before .before .before .before .before .before .before .before .args .lengths)) (now (c .before .before .before .before .before .before .before .before .before .before .before .before .before .before .before .before .before .before .before .before .before .before .before .args .marks)) in
-    let fit : unfitStrands (c .before .before .before .before .before .before .before .before .before .before .before .before .before .before .before .before .before .before .before .before .before .before .before .args .users) (now (c .before .before .before .before .before .before .before .before .before .before .before .before .before .before .before .before .before .before .before .before .before .before .before .args .text)) strands ≡ false = sym (c .before .before .before .before .before .before .before .before .before .before .before .before .before .before .unfit-strands .ensures) ∙ c .before .before .before .before .before .before .before .before .before .before .before .before .before .if1 .left in
-    let good : unfitNames (length (now (c .before .before .before .before .before .before .before .before .before .before .before .before .before .before .before .before .before .before .before .before .before .before .before .args .numbers))) (now (c .before .before .before .before .before .before .before .before .before .before .before .before .before .before .before .before .before .before .before .before .before .before .before .args .text)) names ≡ false = sym (c .before .before .before .before .before .before .before .before .before .before .before .before .unfit-names .ensures) ∙ c .before .before .before .before .before .before .before .before .before .before .before .if2 .left in
-    numbers-given (c .before .before .before .before .before .before .before .before .before .before .before .before .before .before .before .before .before .before .before .before .before .before .before .args .users) (now (c .before .before .before .before .before .before .before .before .before .before .before .before .before .before .before .before .before .before .before .before .before .before .before .args .text)) strands _ _ (c .before .before .before .before .before .before .before .before .base-names .result) fit (c .before .before .before .before .before .before .before .before .base-names .ensures .1) names (now (c .before .before .before .before .before .before .before .before .before .before .before .before .before .before .before .before .before .before .before .before .before .before .before .args .numbers)) _ good (c .before .before .fill-numbers .ensures)
+    let a = c .before .before .before .before .before .before .before .before .before .before .before .before .before .before .before .before .before .before .before .before .before .before .before .args in
+    let strands = namesOf (now (a .strand-starts)) (now (a .strand-lengths)) (now (a .strand-marks)) in
+    let names = namesOf (now (a .starts)) (now (a .lengths)) (now (a .marks)) in
+    let fit : unfitStrands (a .users) (now (a .text)) strands ≡ false = sym (c .before .before .before .before .before .before .before .before .before .before .before .before .before .before .unfit-strands .ensures) ∙ c .before .before .before .before .before .before .before .before .before .before .before .before .before .if1 .left in
+    let good : unfitNames (length (now (a .numbers))) (now (a .text)) names ≡ false = sym (c .before .before .before .before .before .before .before .before .before .before .before .before .unfit-names .ensures) ∙ c .before .before .before .before .before .before .before .before .before .before .before .if2 .left in
+    numbers-given (a .users) (now (a .text)) strands _ _ (c .before .before .before .before .before .before .before .before .base-names .result) fit (c .before .before .before .before .before .before .before .before .base-names .ensures .1) names (now (a .numbers)) _ good (c .before .before .fill-numbers .ensures)
 
 pub name-numbers-spec : {M : Type 1} → statement M
 name-numbers-spec =

@@ -16,12 +16,14 @@ unfit-name-requires c κs = search needs
 returns : tie.Need-returns
 unfolding selfAndInverse
 returns c =
-    let bad : unfitName (now (c .before .before .before .args .text)) (c .before .before .before .args .start) (c .before .before .before .args .length) ≡ true = sym (c .before .unfit-name .ensures) ∙ c .if1 .taken in
+    let a = c .before .before .before .args in
+    let bad : unfitName (now (a .text)) (a .start) (a .length) ≡ true = sym (c .before .unfit-name .ensures) ∙ c .if1 .taken in
     rw bad
 
 add-end : tie.Need-add-end
 add-end c =
-    let h = fits (now (c .before .before .before .args .text)) (c .before .before .before .args .start) (c .before .before .before .args .length) (sym (c .before .unfit-name .ensures) ∙ c .if1 .left) in
+    let a = c .before .before .before .args in
+    let h = fits (now (a .text)) (a .start) (a .length) (sym (c .before .unfit-name .ensures) ∙ c .if1 .left) in
     omega (arith, h)
 
 sub-base-length : tie.Need-sub-base-length
@@ -32,7 +34,8 @@ part-base-length-start c = search needs
 
 part-base-length-end : tie.Need-part-base-length-end
 part-base-length-end c =
-    let h = fits (now (c .before .before .before .args .text)) (c .before .before .before .args .start) (c .before .before .before .args .length) (sym (c .before .unfit-name .ensures) ∙ c .if1 .left) in
+    let a = c .before .before .before .args in
+    let h = fits (now (a .text)) (a .start) (a .length) (sym (c .before .unfit-name .ensures) ∙ c .if1 .left) in
     omega (arith, h)
 
 base-length-requires : tie.Need-base-length-requires
@@ -42,7 +45,9 @@ sub-t9 : tie.Need-sub-t9
 sub-t9 c = search needs
 
 returns-2 : tie.Need-returns-2
-returns-2 c = named (now (c .before .before .before .before .before .args .text)) (c .before .before .before .before .before .args .start) (c .before .before .before .before .before .args .length) (c .base-length .result) (sym (c .before .before .before .unfit-name .ensures) ∙ c .before .before .if1 .left) (c .base-length .ensures .0)
+returns-2 c =
+    let a = c .before .before .before .before .before .args in
+    named (now (a .text)) (a .start) (a .length) (c .base-length .result) (sym (c .before .before .before .unfit-name .ensures) ∙ c .before .before .if1 .left) (c .base-length .ensures .0)
 
 pub self-and-inverse-spec : {M : Type 1} → statement M
 self-and-inverse-spec =

@@ -18,21 +18,24 @@ unfit-strands-requires c κs = search needs
 returns : tie.Need-returns
 unfolding strandGlues gluesAfter
 returns c =
-    let strands = namesOf (now (c .before .before .before .before .before .before .before .args .starts)) (now (c .before .before .before .before .before .before .before .args .lengths)) (now (c .before .before .before .before .before .before .before .args .marks)) in
-    let bad : unfitStrands (c .before .before .before .before .before .before .before .args .users) (now (c .before .before .before .before .before .before .before .args .text)) strands ≡ true = sym (c .before .unfit-strands .ensures) ∙ c .if1 .taken in
+    let a = c .before .before .before .before .before .before .before .args in
+    let strands = namesOf (now (a .starts)) (now (a .lengths)) (now (a .marks)) in
+    let bad : unfitStrands (a .users) (now (a .text)) strands ≡ true = sym (c .before .unfit-strands .ensures) ∙ c .if1 .taken in
     (simp bad, simp bad)
 
 mul-if2 : tie.Need-mul-if2
 mul-if2 c =
-    let strands = namesOf (now (c .before .before .before .before .before .before .before .args .starts)) (now (c .before .before .before .before .before .before .before .args .lengths)) (now (c .before .before .before .before .before .before .before .args .marks)) in
-    let fit : unfitStrands (c .before .before .before .before .before .before .before .args .users) (now (c .before .before .before .before .before .before .before .args .text)) strands ≡ false = sym (c .before .unfit-strands .ensures) ∙ c .if1 .left in
-    omega (arith, few-strands (c .before .before .before .before .before .before .before .args .users) (now (c .before .before .before .before .before .before .before .args .text)) strands fit)
+    let a = c .before .before .before .before .before .before .before .args in
+    let strands = namesOf (now (a .starts)) (now (a .lengths)) (now (a .marks)) in
+    let fit : unfitStrands (a .users) (now (a .text)) strands ≡ false = sym (c .before .unfit-strands .ensures) ∙ c .if1 .left in
+    omega (arith, few-strands (a .users) (now (a .text)) strands fit)
 
 returns-2 : tie.Need-returns-2
 unfolding strandGlues gluesAfter
 returns-2 c =
-    let strands = namesOf (now (c .before .before .before .before .before .before .before .before .args .starts)) (now (c .before .before .before .before .before .before .before .before .args .lengths)) (now (c .before .before .before .before .before .before .before .before .args .marks)) in
-    let fit : unfitStrands (c .before .before .before .before .before .before .before .before .args .users) (now (c .before .before .before .before .before .before .before .before .args .text)) strands ≡ false = sym (c .before .before .unfit-strands .ensures) ∙ c .before .if1 .left in
+    let a = c .before .before .before .before .before .before .before .before .args in
+    let strands = namesOf (now (a .starts)) (now (a .lengths)) (now (a .marks)) in
+    let fit : unfitStrands (a .users) (now (a .text)) strands ≡ false = sym (c .before .before .unfit-strands .ensures) ∙ c .before .if1 .left in
     let other = ne-eqb _ _ (c .if2 .taken) in
     (simp (fit, other), simp (fit, other))
 
@@ -44,16 +47,18 @@ slice-aggregate-base-names-2 c = search needs
 
 base-names-requires : tie.Need-base-names-requires
 base-names-requires c κs =
-    let strands = namesOf (now (c .before .before .before .before .before .before .before .before .before .before .args .starts)) (now (c .before .before .before .before .before .before .before .before .before .before .args .lengths)) (now (c .before .before .before .before .before .before .before .before .before .before .args .marks)) in
-    let fit : unfitStrands (c .before .before .before .before .before .before .before .before .before .before .args .users) (now (c .before .before .before .before .before .before .before .before .before .before .args .text)) strands ≡ false = sym (c .before .before .before .before .unfit-strands .ensures) ∙ c .before .before .before .if1 .left in
-    let few = few-strands (c .before .before .before .before .before .before .before .before .before .before .args .users) (now (c .before .before .before .before .before .before .before .before .before .before .args .text)) strands fit in
-    (fit-strands (c .before .before .before .before .before .before .before .before .before .before .args .users) (now (c .before .before .before .before .before .before .before .before .before .before .args .text)) strands fit, (omega (arith, strand-glues (c .before .before .before .before .before .before .before .before .before .before .args .users) (now (c .before .before .before .before .before .before .before .before .before .before .args .text)) strands fit), search needs))
+    let a = c .before .before .before .before .before .before .before .before .before .before .args in
+    let strands = namesOf (now (a .starts)) (now (a .lengths)) (now (a .marks)) in
+    let fit : unfitStrands (a .users) (now (a .text)) strands ≡ false = sym (c .before .before .before .before .unfit-strands .ensures) ∙ c .before .before .before .if1 .left in
+    let few = few-strands (a .users) (now (a .text)) strands fit in
+    (fit-strands (a .users) (now (a .text)) strands fit, (omega (arith, strand-glues (a .users) (now (a .text)) strands fit), search needs))
 
 returns-3 : tie.Need-returns-3
 returns-3 c =
-    let strands = namesOf (now (c .before .before .before .before .before .before .before .before .before .before .before .before .before .before .args .starts)) (now (c .before .before .before .before .before .before .before .before .before .before .before .before .before .before .args .lengths)) (now (c .before .before .before .before .before .before .before .before .before .before .before .before .before .before .args .marks)) in
-    let fit : unfitStrands (c .before .before .before .before .before .before .before .before .before .before .before .before .before .before .args .users) (now (c .before .before .before .before .before .before .before .before .before .before .before .before .before .before .args .text)) strands ≡ false = sym (c .before .before .before .before .before .before .before .before .unfit-strands .ensures) ∙ c .before .before .before .before .before .before .before .if1 .left in
-    glues-many (c .before .before .before .before .before .before .before .before .before .before .before .before .before .before .args .users) (now (c .before .before .before .before .before .before .before .before .before .before .before .before .before .before .args .text)) strands _ _ (c .before .before .before .base-names .result) fit (c .before .before .before .base-names .ensures .1) (now (c .before .before .before .before .before .before .before .before .before .before .before .before .before .before .args .glues)) (c .before .before .before .before .before .before .if2 .left) (c .if3 .taken)
+    let a = c .before .before .before .before .before .before .before .before .before .before .before .before .before .before .args in
+    let strands = namesOf (now (a .starts)) (now (a .lengths)) (now (a .marks)) in
+    let fit : unfitStrands (a .users) (now (a .text)) strands ≡ false = sym (c .before .before .before .before .before .before .before .before .unfit-strands .ensures) ∙ c .before .before .before .before .before .before .before .if1 .left in
+    glues-many (a .users) (now (a .text)) strands _ _ (c .before .before .before .base-names .result) fit (c .before .before .before .base-names .ensures .1) (now (a .glues)) (c .before .before .before .before .before .before .if2 .left) (c .if3 .taken)
 
 slice-aggregate-fill-glues : tie.Need-slice-aggregate-fill-glues
 slice-aggregate-fill-glues c = search needs
@@ -63,18 +68,20 @@ slice-aggregate-fill-glues-2 c = search needs
 
 fill-glues-requires : tie.Need-fill-glues-requires
 fill-glues-requires c κs =
-    let strands = namesOf (now (c .before .before .before .before .before .before .before .before .before .before .before .before .before .before .before .before .before .args .starts)) (now (c .before .before .before .before .before .before .before .before .before .before .before .before .before .before .before .before .before .args .lengths)) (now (c .before .before .before .before .before .before .before .before .before .before .before .before .before .before .before .before .before .args .marks)) in
-    let fit : unfitStrands (c .before .before .before .before .before .before .before .before .before .before .before .before .before .before .before .before .before .args .users) (now (c .before .before .before .before .before .before .before .before .before .before .before .before .before .before .before .before .before .args .text)) strands ≡ false = sym (c .before .before .before .before .before .before .before .before .before .before .before .unfit-strands .ensures) ∙ c .before .before .before .before .before .before .before .before .before .before .if1 .left in
-    (c .before .before .before .before .before .before .base-names .ensures .0, (fit-strands (c .before .before .before .before .before .before .before .before .before .before .before .before .before .before .before .before .before .args .users) (now (c .before .before .before .before .before .before .before .before .before .before .before .before .before .before .before .before .before .args .text)) strands fit, (c .before .before .before .before .before .before .before .before .before .if2 .left ∙ sym (strand-glues (c .before .before .before .before .before .before .before .before .before .before .before .before .before .before .before .before .before .args .users) (now (c .before .before .before .before .before .before .before .before .before .before .before .before .before .before .before .before .before .args .text)) strands fit), c .before .before .before .if3 .left)))
+    let a = c .before .before .before .before .before .before .before .before .before .before .before .before .before .before .before .before .before .args in
+    let strands = namesOf (now (a .starts)) (now (a .lengths)) (now (a .marks)) in
+    let fit : unfitStrands (a .users) (now (a .text)) strands ≡ false = sym (c .before .before .before .before .before .before .before .before .before .before .before .unfit-strands .ensures) ∙ c .before .before .before .before .before .before .before .before .before .before .if1 .left in
+    (c .before .before .before .before .before .before .base-names .ensures .0, (fit-strands (a .users) (now (a .text)) strands fit, (c .before .before .before .before .before .before .before .before .before .if2 .left ∙ sym (strand-glues (a .users) (now (a .text)) strands fit), c .before .before .before .if3 .left)))
 
 same-length : tie.Need-same-length
 same-length c = search needs
 
 returns-4 : tie.Need-returns-4
 returns-4 c =
-    let strands = namesOf (now (c .before .before .before .before .before .before .before .before .before .before .before .before .before .before .before .before .before .before .before .before .args .starts)) (now (c .before .before .before .before .before .before .before .before .before .before .before .before .before .before .before .before .before .before .before .before .args .lengths)) (now (c .before .before .before .before .before .before .before .before .before .before .before .before .before .before .before .before .before .before .before .before .args .marks)) in
-    let fit : unfitStrands (c .before .before .before .before .before .before .before .before .before .before .before .before .before .before .before .before .before .before .before .before .args .users) (now (c .before .before .before .before .before .before .before .before .before .before .before .before .before .before .before .before .before .before .before .before .args .text)) strands ≡ false = sym (c .before .before .before .before .before .before .before .before .before .before .before .before .before .before .unfit-strands .ensures) ∙ c .before .before .before .before .before .before .before .before .before .before .before .before .before .if1 .left in
-    glues-given (c .before .before .before .before .before .before .before .before .before .before .before .before .before .before .before .before .before .before .before .before .args .users) (now (c .before .before .before .before .before .before .before .before .before .before .before .before .before .before .before .before .before .before .before .before .args .text)) strands _ _ (c .before .before .before .before .before .before .before .before .before .base-names .result) fit (c .before .before .before .before .before .before .before .before .before .base-names .ensures .1) (now (c .before .before .before .before .before .before .before .before .before .before .before .before .before .before .before .before .before .before .before .before .args .glues)) _ (c .before .before .before .before .before .before .before .before .before .before .before .before .if2 .left) (c .before .before .before .before .before .before .if3 .left) (c .before .before .fill-glues .ensures)
+    let a = c .before .before .before .before .before .before .before .before .before .before .before .before .before .before .before .before .before .before .before .before .args in
+    let strands = namesOf (now (a .starts)) (now (a .lengths)) (now (a .marks)) in
+    let fit : unfitStrands (a .users) (now (a .text)) strands ≡ false = sym (c .before .before .before .before .before .before .before .before .before .before .before .before .before .before .unfit-strands .ensures) ∙ c .before .before .before .before .before .before .before .before .before .before .before .before .before .if1 .left in
+    glues-given (a .users) (now (a .text)) strands _ _ (c .before .before .before .before .before .before .before .before .before .base-names .result) fit (c .before .before .before .before .before .before .before .before .before .base-names .ensures .1) (now (a .glues)) _ (c .before .before .before .before .before .before .before .before .before .before .before .before .if2 .left) (c .before .before .before .before .before .before .if3 .left) (c .before .before .fill-glues .ensures)
 
 pub strand-glues-spec : {M : Type 1} → statement M
 strand-glues-spec =

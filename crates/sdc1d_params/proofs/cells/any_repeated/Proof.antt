@@ -30,7 +30,9 @@ unfolding duplicated tabulate foldl
 loop-holds c = (omega arith, refl, refl)
 
 slice-aggregate-is-marked : tie.Need-slice-aggregate-is-marked Inv-loop μ-loop
-slice-aggregate-is-marked c = let many : length (c .before .before .loop .seen) ≡ 4096 = ap length (c .before .before .loop .inv .1) ∙ seen-length (cellAt (now (c .before .before .before .before .before .args .rows)) (now (c .before .before .before .before .before .args .columns))) (c .before .before .loop .i) in search needs
+slice-aggregate-is-marked c =
+    let l = c .before .before .loop in
+    let many : length (l .seen) ≡ 4096 = ap length (l .inv .1) ∙ seen-length (cellAt (now (c .before .before .before .before .before .args .rows)) (now (c .before .before .before .before .before .args .columns))) (l .i) in search needs
 
 mul-is-marked : tie.Need-mul-is-marked Inv-loop μ-loop
 mul-is-marked c = search needs
@@ -45,15 +47,20 @@ shared-slice-read-is-marked-2 : tie.Need-shared-slice-read-is-marked-2 Inv-loop 
 shared-slice-read-is-marked-2 c = let m = c .before .before .before .before .before .before .before .pre .columns-many in omega arith
 
 is-marked-requires : tie.Need-is-marked-requires Inv-loop μ-loop
-is-marked-requires c κs = (ap length (c .before .before .before .before .loop .inv .1) ∙ seen-length (cellAt (now (c .before .before .before .before .before .before .before .args .rows)) (now (c .before .before .before .before .before .before .before .args .columns))) (c .before .before .before .before .loop .i), c .before .before .before .before .before .before .before .pre .row (c .before .before .before .before .loop .i) (omega arith), c .before .before .before .before .before .before .before .pre .column (c .before .before .before .before .loop .i) (omega arith))
+is-marked-requires c κs =
+    let l = c .before .before .before .before .loop in
+    (ap length (l .inv .1) ∙ seen-length (cellAt (now (c .before .before .before .before .before .before .before .args .rows)) (now (c .before .before .before .before .before .before .before .args .columns))) (l .i), c .before .before .before .before .before .before .before .pre .row (l .i) (omega arith), c .before .before .before .before .before .before .before .pre .column (l .i) (omega arith))
 
 returns : tie.Need-returns Inv-loop μ-loop
 returns c =
-    let met : any (samePair ((cellAt (now (c .before .before .before .before .before .before .before .before .before .args .rows)) (now (c .before .before .before .before .before .before .before .before .before .args .columns))) (c .before .before .before .before .before .before .loop .i))) (tabulate (c .before .before .before .before .before .before .loop .i) (cellAt (now (c .before .before .before .before .before .before .before .before .before .args .rows)) (now (c .before .before .before .before .before .before .before .before .before .args .columns)))) ≡ true = sym (marked-is (cellAt (now (c .before .before .before .before .before .before .before .before .before .args .rows)) (now (c .before .before .before .before .before .before .before .before .before .args .columns))) (c .before .before .before .before .before .before .loop .i) (λ k l. (c .before .before .before .before .before .before .before .before .before .pre .row k (omega arith), c .before .before .before .before .before .before .before .before .before .pre .column k (omega arith))) (c .before .before .before .before .before .before .before .before .before .pre .row (c .before .before .before .before .before .before .loop .i) (omega arith), c .before .before .before .before .before .before .before .before .before .pre .column (c .before .before .before .before .before .before .loop .i) (omega arith))) ∙ ap (λ (s : List Bool). isMarked s ((cellAt (now (c .before .before .before .before .before .before .before .before .before .args .rows)) (now (c .before .before .before .before .before .before .before .before .before .args .columns))) (c .before .before .before .before .before .before .loop .i))) (sym (c .before .before .before .before .before .before .loop .inv .1)) ∙ sym (c .before .is-marked .ensures) ∙ c .if1 .taken in
-    sym (duplicated-found (cellAt (now (c .before .before .before .before .before .before .before .before .before .args .rows)) (now (c .before .before .before .before .before .before .before .before .before .args .columns))) (length (now (c .before .before .before .before .before .before .before .before .before .args .rows))) (c .before .before .before .before .before .before .loop .i) (omega arith) met)
+    let a = c .before .before .before .before .before .before .before .before .before .args in
+    let met : any (samePair ((cellAt (now (a .rows)) (now (a .columns))) (c .before .before .before .before .before .before .loop .i))) (tabulate (c .before .before .before .before .before .before .loop .i) (cellAt (now (a .rows)) (now (a .columns)))) ≡ true = sym (marked-is (cellAt (now (a .rows)) (now (a .columns))) (c .before .before .before .before .before .before .loop .i) (λ k l. (c .before .before .before .before .before .before .before .before .before .pre .row k (omega arith), c .before .before .before .before .before .before .before .before .before .pre .column k (omega arith))) (c .before .before .before .before .before .before .before .before .before .pre .row (c .before .before .before .before .before .before .loop .i) (omega arith), c .before .before .before .before .before .before .before .before .before .pre .column (c .before .before .before .before .before .before .loop .i) (omega arith))) ∙ ap (λ (s : List Bool). isMarked s ((cellAt (now (a .rows)) (now (a .columns))) (c .before .before .before .before .before .before .loop .i))) (sym (c .before .before .before .before .before .before .loop .inv .1)) ∙ sym (c .before .is-marked .ensures) ∙ c .if1 .taken in
+    sym (duplicated-found (cellAt (now (a .rows)) (now (a .columns))) (length (now (a .rows))) (c .before .before .before .before .before .before .loop .i) (omega arith) met)
 
 slice-aggregate-mark-both : tie.Need-slice-aggregate-mark-both Inv-loop μ-loop
-slice-aggregate-mark-both c = let many : length (c .before .before .before .before .before .before .before .loop .seen) ≡ 4096 = ap length (c .before .before .before .before .before .before .before .loop .inv .1) ∙ seen-length (cellAt (now (c .before .before .before .before .before .before .before .before .before .before .args .rows)) (now (c .before .before .before .before .before .before .before .before .before .before .args .columns))) (c .before .before .before .before .before .before .before .loop .i) in search needs
+slice-aggregate-mark-both c =
+    let l = c .before .before .before .before .before .before .before .loop in
+    let many : length (l .seen) ≡ 4096 = ap length (l .inv .1) ∙ seen-length (cellAt (now (c .before .before .before .before .before .before .before .before .before .before .args .rows)) (now (c .before .before .before .before .before .before .before .before .before .before .args .columns))) (l .i) in search needs
 
 mul-mark-both : tie.Need-mul-mark-both Inv-loop μ-loop
 mul-mark-both c = search needs
@@ -68,7 +75,9 @@ shared-slice-read-mark-both-2 : tie.Need-shared-slice-read-mark-both-2 Inv-loop 
 shared-slice-read-mark-both-2 c = let m = c .before .before .before .before .before .before .before .before .before .before .before .before .pre .columns-many in omega arith
 
 mark-both-requires : tie.Need-mark-both-requires Inv-loop μ-loop
-mark-both-requires c κs = (ap length (c .before .before .before .before .before .before .before .before .before .loop .inv .1) ∙ seen-length (cellAt (now (c .before .before .before .before .before .before .before .before .before .before .before .before .args .rows)) (now (c .before .before .before .before .before .before .before .before .before .before .before .before .args .columns))) (c .before .before .before .before .before .before .before .before .before .loop .i), c .before .before .before .before .before .before .before .before .before .before .before .before .pre .row (c .before .before .before .before .before .before .before .before .before .loop .i) (omega arith), c .before .before .before .before .before .before .before .before .before .before .before .before .pre .column (c .before .before .before .before .before .before .before .before .before .loop .i) (omega arith))
+mark-both-requires c κs =
+    let l = c .before .before .before .before .before .before .before .before .before .loop in
+    (ap length (l .inv .1) ∙ seen-length (cellAt (now (c .before .before .before .before .before .before .before .before .before .before .before .before .args .rows)) (now (c .before .before .before .before .before .before .before .before .before .before .before .before .args .columns))) (l .i), c .before .before .before .before .before .before .before .before .before .before .before .before .pre .row (l .i) (omega arith), c .before .before .before .before .before .before .before .before .before .before .before .before .pre .column (l .i) (omega arith))
 
 add-i : tie.Need-add-i Inv-loop μ-loop
 add-i c = search needs
@@ -78,13 +87,15 @@ loop-less c = search needs
 
 loop-again : tie.Need-loop-again Inv-loop μ-loop
 loop-again c =
-    let unmet : any (samePair ((cellAt (now (c .before .before .before .before .before .before .before .before .before .before .before .before .before .before .args .rows)) (now (c .before .before .before .before .before .before .before .before .before .before .before .before .before .before .args .columns))) (c .before .before .before .before .before .before .before .before .before .before .before .loop .i))) (tabulate (c .before .before .before .before .before .before .before .before .before .before .before .loop .i) (cellAt (now (c .before .before .before .before .before .before .before .before .before .before .before .before .before .before .args .rows)) (now (c .before .before .before .before .before .before .before .before .before .before .before .before .before .before .args .columns)))) ≡ false = sym (marked-is (cellAt (now (c .before .before .before .before .before .before .before .before .before .before .before .before .before .before .args .rows)) (now (c .before .before .before .before .before .before .before .before .before .before .before .before .before .before .args .columns))) (c .before .before .before .before .before .before .before .before .before .before .before .loop .i) (λ k l. (c .before .before .before .before .before .before .before .before .before .before .before .before .before .before .pre .row k (omega arith), c .before .before .before .before .before .before .before .before .before .before .before .before .before .before .pre .column k (omega arith))) (c .before .before .before .before .before .before .before .before .before .before .before .before .before .before .pre .row (c .before .before .before .before .before .before .before .before .before .before .before .loop .i) (omega arith), c .before .before .before .before .before .before .before .before .before .before .before .before .before .before .pre .column (c .before .before .before .before .before .before .before .before .before .before .before .loop .i) (omega arith))) ∙ ap (λ (s : List Bool). isMarked s ((cellAt (now (c .before .before .before .before .before .before .before .before .before .before .before .before .before .before .args .rows)) (now (c .before .before .before .before .before .before .before .before .before .before .before .before .before .before .args .columns))) (c .before .before .before .before .before .before .before .before .before .before .before .loop .i))) (sym (c .before .before .before .before .before .before .before .before .before .before .before .loop .inv .1)) ∙ sym (c .before .before .before .before .before .before .is-marked .ensures) ∙ c .before .before .before .before .before .if1 .left in
-    (omega arith, c .before .mark-both .ensures ∙ ap (λ (s : List Bool). markBoth s ((cellAt (now (c .before .before .before .before .before .before .before .before .before .before .before .before .before .before .args .rows)) (now (c .before .before .before .before .before .before .before .before .before .before .before .before .before .before .args .columns))) (c .before .before .before .before .before .before .before .before .before .before .before .loop .i))) (c .before .before .before .before .before .before .before .before .before .before .before .loop .inv .1) ∙ sym (fold-more markBoth (replicate 4096 false) (cellAt (now (c .before .before .before .before .before .before .before .before .before .before .before .before .before .before .args .rows)) (now (c .before .before .before .before .before .before .before .before .before .before .before .before .before .before .args .columns))) (c .before .before .before .before .before .before .before .before .before .before .before .loop .i)), duplicated-more (cellAt (now (c .before .before .before .before .before .before .before .before .before .before .before .before .before .before .args .rows)) (now (c .before .before .before .before .before .before .before .before .before .before .before .before .before .before .args .columns))) (c .before .before .before .before .before .before .before .before .before .before .before .loop .i) (c .before .before .before .before .before .before .before .before .before .before .before .loop .inv .2) unmet)
+    let a = c .before .before .before .before .before .before .before .before .before .before .before .before .before .before .args in
+    let unmet : any (samePair ((cellAt (now (a .rows)) (now (a .columns))) (c .before .before .before .before .before .before .before .before .before .before .before .loop .i))) (tabulate (c .before .before .before .before .before .before .before .before .before .before .before .loop .i) (cellAt (now (a .rows)) (now (a .columns)))) ≡ false = sym (marked-is (cellAt (now (a .rows)) (now (a .columns))) (c .before .before .before .before .before .before .before .before .before .before .before .loop .i) (λ k l. (c .before .before .before .before .before .before .before .before .before .before .before .before .before .before .pre .row k (omega arith), c .before .before .before .before .before .before .before .before .before .before .before .before .before .before .pre .column k (omega arith))) (c .before .before .before .before .before .before .before .before .before .before .before .before .before .before .pre .row (c .before .before .before .before .before .before .before .before .before .before .before .loop .i) (omega arith), c .before .before .before .before .before .before .before .before .before .before .before .before .before .before .pre .column (c .before .before .before .before .before .before .before .before .before .before .before .loop .i) (omega arith))) ∙ ap (λ (s : List Bool). isMarked s ((cellAt (now (a .rows)) (now (a .columns))) (c .before .before .before .before .before .before .before .before .before .before .before .loop .i))) (sym (c .before .before .before .before .before .before .before .before .before .before .before .loop .inv .1)) ∙ sym (c .before .before .before .before .before .before .is-marked .ensures) ∙ c .before .before .before .before .before .if1 .left in
+    (omega arith, c .before .mark-both .ensures ∙ ap (λ (s : List Bool). markBoth s ((cellAt (now (a .rows)) (now (a .columns))) (c .before .before .before .before .before .before .before .before .before .before .before .loop .i))) (c .before .before .before .before .before .before .before .before .before .before .before .loop .inv .1) ∙ sym (fold-more markBoth (replicate 4096 false) (cellAt (now (a .rows)) (now (a .columns))) (c .before .before .before .before .before .before .before .before .before .before .before .loop .i)), duplicated-more (cellAt (now (a .rows)) (now (a .columns))) (c .before .before .before .before .before .before .before .before .before .before .before .loop .i) (c .before .before .before .before .before .before .before .before .before .before .before .loop .inv .2) unmet)
 
 returns-2 : tie.Need-returns-2 Inv-loop μ-loop
 returns-2 c =
-    let end : c .before .loop .i ≡ length (now (c .before .before .before .before .args .rows)) = omega arith in
-    sym (ap (λ (k : ℕ). duplicated (tabulate k (cellAt (now (c .before .before .before .before .args .rows)) (now (c .before .before .before .before .args .columns))))) (sym end) ∙ c .before .loop .inv .2)
+    let a = c .before .before .before .before .args in
+    let end : c .before .loop .i ≡ length (now (a .rows)) = omega arith in
+    sym (ap (λ (k : ℕ). duplicated (tabulate k (cellAt (now (a .rows)) (now (a .columns))))) (sym end) ∙ c .before .loop .inv .2)
 
 pub any-repeated-spec : {M : Type 1} → statement M
 any-repeated-spec =

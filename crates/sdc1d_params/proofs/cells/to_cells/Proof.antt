@@ -20,7 +20,9 @@ abbrev μ-loop : tie.MeasureT-loop
 μ-loop kinds first₀ second₀ i₀ first second i = length kinds - i
 
 loop-holds : tie.Need-loop-holds Inv-loop μ-loop
-loop-holds c = (omega arith, stored-none (rowFrom (now (c .before .before .before .args .kinds)) (now (c .before .before .before .args .first)) (now (c .before .before .before .args .second))) (now (c .before .before .before .args .first)), stored-none (columnFrom (now (c .before .before .before .args .kinds)) (now (c .before .before .before .args .first)) (now (c .before .before .before .args .second))) (now (c .before .before .before .args .second)))
+loop-holds c =
+    let a = c .before .before .before .args in
+    (omega arith, stored-none (rowFrom (now (a .kinds)) (now (a .first)) (now (a .second))) (now (a .first)), stored-none (columnFrom (now (a .kinds)) (now (a .first)) (now (a .second))) (now (a .second)))
 
 shared-slice-read-ref-or-pair : tie.Need-shared-slice-read-ref-or-pair Inv-loop μ-loop
 shared-slice-read-ref-or-pair c = search needs
@@ -29,38 +31,48 @@ mul-ref-or-pair : tie.Need-mul-ref-or-pair Inv-loop μ-loop
 mul-ref-or-pair c = search needs
 
 slice-read-ref-or-pair : tie.Need-slice-read-ref-or-pair Inv-loop μ-loop
-slice-read-ref-or-pair c = let m = c .before .before .before .before .before .before .before .pre .rows-many in omega (arith, ap length (c .before .before .before .loop .inv .1), stored-length (rowFrom (now (c .before .before .before .before .before .before .before .args .kinds)) (now (c .before .before .before .before .before .before .before .args .first)) (now (c .before .before .before .before .before .before .before .args .second))) (c .before .before .before .loop .i) (now (c .before .before .before .before .before .before .before .args .first)) (omega arith))
+slice-read-ref-or-pair c =
+    let a = c .before .before .before .before .before .before .before .args in
+    let m = c .before .before .before .before .before .before .before .pre .rows-many in omega (arith, ap length (c .before .before .before .loop .inv .1), stored-length (rowFrom (now (a .kinds)) (now (a .first)) (now (a .second))) (c .before .before .before .loop .i) (now (a .first)) (omega arith))
 
 mul-ref-or-pair-2 : tie.Need-mul-ref-or-pair-2 Inv-loop μ-loop
 mul-ref-or-pair-2 c = search needs
 
 slice-read-ref-or-pair-2 : tie.Need-slice-read-ref-or-pair-2 Inv-loop μ-loop
-slice-read-ref-or-pair-2 c = let m = c .before .before .before .before .before .before .before .before .pre .columns-many in omega (arith, ap length (c .before .before .before .before .loop .inv .2), stored-length (columnFrom (now (c .before .before .before .before .before .before .before .before .args .kinds)) (now (c .before .before .before .before .before .before .before .before .args .first)) (now (c .before .before .before .before .before .before .before .before .args .second))) (c .before .before .before .before .loop .i) (now (c .before .before .before .before .before .before .before .before .args .second)) (omega arith))
+slice-read-ref-or-pair-2 c =
+    let a = c .before .before .before .before .before .before .before .before .args in
+    let m = c .before .before .before .before .before .before .before .before .pre .columns-many in omega (arith, ap length (c .before .before .before .before .loop .inv .2), stored-length (columnFrom (now (a .kinds)) (now (a .first)) (now (a .second))) (c .before .before .before .before .loop .i) (now (a .second)) (omega arith))
 
 ref-or-pair-requires : tie.Need-ref-or-pair-requires Inv-loop μ-loop
 ref-or-pair-requires c κs = search needs
 
 cell-of-requires : tie.Need-cell-of-requires Inv-loop μ-loop
 cell-of-requires c κs =
+    let a = c .before .before .before .before .before .before .before .before .before .args in
+    let l = c .before .before .before .before .before .loop in
     let m = c .before .before .before .before .before .before .before .before .before .pre .rows-many in
     let n = c .before .before .before .before .before .before .before .before .before .pre .columns-many in
-    let i = c .before .before .before .before .before .loop .i in
-    let kind = getD (now (c .before .before .before .before .before .before .before .before .before .args .kinds)) i 0 in
-    let one : getD (c .before .before .before .before .before .loop .first) i 0 ≡ getD (now (c .before .before .before .before .before .before .before .before .before .args .first)) i 0 = rw (c .before .before .before .before .before .loop .inv .1) (stored-next (rowFrom (now (c .before .before .before .before .before .before .before .before .before .args .kinds)) (now (c .before .before .before .before .before .before .before .before .before .args .first)) (now (c .before .before .before .before .before .before .before .before .before .args .second))) i (now (c .before .before .before .before .before .before .before .before .before .args .first)) 0 (omega arith)) in
-    let two : getD (c .before .before .before .before .before .loop .second) i 0 ≡ getD (now (c .before .before .before .before .before .before .before .before .before .args .second)) i 0 = rw (c .before .before .before .before .before .loop .inv .2) (stored-next (columnFrom (now (c .before .before .before .before .before .before .before .before .before .args .kinds)) (now (c .before .before .before .before .before .before .before .before .before .args .first)) (now (c .before .before .before .before .before .before .before .before .before .args .second))) i (now (c .before .before .before .before .before .before .before .before .before .args .second)) 0 (omega arith)) in
+    let i = l .i in
+    let kind = getD (now (a .kinds)) i 0 in
+    let one : getD (l .first) i 0 ≡ getD (now (a .first)) i 0 = rw (l .inv .1) (stored-next (rowFrom (now (a .kinds)) (now (a .first)) (now (a .second))) i (now (a .first)) 0 (omega arith)) in
+    let two : getD (l .second) i 0 ≡ getD (now (a .second)) i 0 = rw (l .inv .2) (stored-next (columnFrom (now (a .kinds)) (now (a .first)) (now (a .second))) i (now (a .second)) 0 (omega arith)) in
     rw (c .ref-or-pair .ensures, one, two) (column-small kind _ _ (c .before .before .before .before .before .before .before .before .before .pre .row i (omega arith)) (c .before .before .before .before .before .before .before .before .before .pre .column i (omega arith)))
 
 mul-first : tie.Need-mul-first Inv-loop μ-loop
 mul-first c = search needs
 
 slice-write-first : tie.Need-slice-write-first Inv-loop μ-loop
-slice-write-first c = let m = c .before .before .before .before .before .before .before .before .before .before .pre .rows-many in omega (arith, ap length (c .before .before .before .before .before .before .loop .inv .1), stored-length (rowFrom (now (c .before .before .before .before .before .before .before .before .before .before .args .kinds)) (now (c .before .before .before .before .before .before .before .before .before .before .args .first)) (now (c .before .before .before .before .before .before .before .before .before .before .args .second))) (c .before .before .before .before .before .before .loop .i) (now (c .before .before .before .before .before .before .before .before .before .before .args .first)) (omega arith))
+slice-write-first c =
+    let a = c .before .before .before .before .before .before .before .before .before .before .args in
+    let m = c .before .before .before .before .before .before .before .before .before .before .pre .rows-many in omega (arith, ap length (c .before .before .before .before .before .before .loop .inv .1), stored-length (rowFrom (now (a .kinds)) (now (a .first)) (now (a .second))) (c .before .before .before .before .before .before .loop .i) (now (a .first)) (omega arith))
 
 mul-second : tie.Need-mul-second Inv-loop μ-loop
 mul-second c = search needs
 
 slice-write-second : tie.Need-slice-write-second Inv-loop μ-loop
-slice-write-second c = let m = c .before .before .before .before .before .before .before .before .before .before .pre .columns-many in omega (arith, ap length (c .before .before .before .before .before .before .loop .inv .2), stored-length (columnFrom (now (c .before .before .before .before .before .before .before .before .before .before .args .kinds)) (now (c .before .before .before .before .before .before .before .before .before .before .args .first)) (now (c .before .before .before .before .before .before .before .before .before .before .args .second))) (c .before .before .before .before .before .before .loop .i) (now (c .before .before .before .before .before .before .before .before .before .before .args .second)) (omega arith))
+slice-write-second c =
+    let a = c .before .before .before .before .before .before .before .before .before .before .args in
+    let m = c .before .before .before .before .before .before .before .before .before .before .pre .columns-many in omega (arith, ap length (c .before .before .before .before .before .before .loop .inv .2), stored-length (columnFrom (now (a .kinds)) (now (a .first)) (now (a .second))) (c .before .before .before .before .before .before .loop .i) (now (a .second)) (omega arith))
 
 add-i : tie.Need-add-i Inv-loop μ-loop
 add-i c = search needs
@@ -71,26 +83,33 @@ loop-less c = search needs
 loop-again : tie.Need-loop-again Inv-loop μ-loop
 unfolding cellFrom
 loop-again c =
+    let a = c .before .before .before .before .before .before .before .before .before .before .args in
+    let l = c .before .before .before .before .before .before .loop in
     let m = c .before .before .before .before .before .before .before .before .before .before .pre .rows-many in
     let n = c .before .before .before .before .before .before .before .before .before .before .pre .columns-many in
-    let i = c .before .before .before .before .before .before .loop .i in
-    let kind = getD (now (c .before .before .before .before .before .before .before .before .before .before .args .kinds)) i 0 in
-    let one : getD (c .before .before .before .before .before .before .loop .first) i 0 ≡ getD (now (c .before .before .before .before .before .before .before .before .before .before .args .first)) i 0 = rw (c .before .before .before .before .before .before .loop .inv .1) (stored-next (rowFrom (now (c .before .before .before .before .before .before .before .before .before .before .args .kinds)) (now (c .before .before .before .before .before .before .before .before .before .before .args .first)) (now (c .before .before .before .before .before .before .before .before .before .before .args .second))) i (now (c .before .before .before .before .before .before .before .before .before .before .args .first)) 0 (omega arith)) in
-    let two : getD (c .before .before .before .before .before .before .loop .second) i 0 ≡ getD (now (c .before .before .before .before .before .before .before .before .before .before .args .second)) i 0 = rw (c .before .before .before .before .before .before .loop .inv .2) (stored-next (columnFrom (now (c .before .before .before .before .before .before .before .before .before .before .args .kinds)) (now (c .before .before .before .before .before .before .before .before .before .before .args .first)) (now (c .before .before .before .before .before .before .before .before .before .before .args .second))) i (now (c .before .before .before .before .before .before .before .before .before .before .args .second)) 0 (omega arith)) in
-    let made : placeCell (c .cell-of .result) ≡ cellOfNames (refOrPair kind (getD (now (c .before .before .before .before .before .before .before .before .before .before .args .first)) i 0) (getD (now (c .before .before .before .before .before .before .before .before .before .before .args .second)) i 0)) = c .cell-of .ensures ∙ ap cellOfNames (c .before .ref-or-pair .ensures ∙ ap₂ (refOrPair kind) one two) in
-    (omega arith, rw (c .before .before .before .before .before .before .loop .inv .1) (stored-more (rowFrom (now (c .before .before .before .before .before .before .before .before .before .before .args .kinds)) (now (c .before .before .before .before .before .before .before .before .before .before .args .first)) (now (c .before .before .before .before .before .before .before .before .before .before .args .second))) i (now (c .before .before .before .before .before .before .before .before .before .before .args .first)) (c .cell-of .result .0) (omega arith) (ap (λ (x : Cell). x .row) made)), rw (c .before .before .before .before .before .before .loop .inv .2) (stored-more (columnFrom (now (c .before .before .before .before .before .before .before .before .before .before .args .kinds)) (now (c .before .before .before .before .before .before .before .before .before .before .args .first)) (now (c .before .before .before .before .before .before .before .before .before .before .args .second))) i (now (c .before .before .before .before .before .before .before .before .before .before .args .second)) (c .cell-of .result .1) (omega arith) (ap (λ (x : Cell). x .column) made)))
+    let i = l .i in
+    let kind = getD (now (a .kinds)) i 0 in
+    let one : getD (l .first) i 0 ≡ getD (now (a .first)) i 0 = rw (l .inv .1) (stored-next (rowFrom (now (a .kinds)) (now (a .first)) (now (a .second))) i (now (a .first)) 0 (omega arith)) in
+    let two : getD (l .second) i 0 ≡ getD (now (a .second)) i 0 = rw (l .inv .2) (stored-next (columnFrom (now (a .kinds)) (now (a .first)) (now (a .second))) i (now (a .second)) 0 (omega arith)) in
+    let made : placeCell (c .cell-of .result) ≡ cellOfNames (refOrPair kind (getD (now (a .first)) i 0) (getD (now (a .second)) i 0)) = c .cell-of .ensures ∙ ap cellOfNames (c .before .ref-or-pair .ensures ∙ ap₂ (refOrPair kind) one two) in
+    (omega arith, rw (l .inv .1) (stored-more (rowFrom (now (a .kinds)) (now (a .first)) (now (a .second))) i (now (a .first)) (c .cell-of .result .0) (omega arith) (ap (λ (x : Cell). x .row) made)), rw (l .inv .2) (stored-more (columnFrom (now (a .kinds)) (now (a .first)) (now (a .second))) i (now (a .second)) (c .cell-of .result .1) (omega arith) (ap (λ (x : Cell). x .column) made)))
 
 same-length : tie.Need-same-length Inv-loop μ-loop
-same-length c = let m = c .before .before .before .before .before .pre .rows-many in ap length (c .before .loop .inv .1) ∙ stored-length (rowFrom (now (c .before .before .before .before .before .args .kinds)) (now (c .before .before .before .before .before .args .first)) (now (c .before .before .before .before .before .args .second))) (c .before .loop .i) (now (c .before .before .before .before .before .args .first)) (omega arith)
+same-length c =
+    let a = c .before .before .before .before .before .args in
+    let m = c .before .before .before .before .before .pre .rows-many in ap length (c .before .loop .inv .1) ∙ stored-length (rowFrom (now (a .kinds)) (now (a .first)) (now (a .second))) (c .before .loop .i) (now (a .first)) (omega arith)
 
 same-length-2 : tie.Need-same-length-2 Inv-loop μ-loop
-same-length-2 c = let m = c .before .before .before .before .before .pre .columns-many in ap length (c .before .loop .inv .2) ∙ stored-length (columnFrom (now (c .before .before .before .before .before .args .kinds)) (now (c .before .before .before .before .before .args .first)) (now (c .before .before .before .before .before .args .second))) (c .before .loop .i) (now (c .before .before .before .before .before .args .second)) (omega arith)
+same-length-2 c =
+    let a = c .before .before .before .before .before .args in
+    let m = c .before .before .before .before .before .pre .columns-many in ap length (c .before .loop .inv .2) ∙ stored-length (columnFrom (now (a .kinds)) (now (a .first)) (now (a .second))) (c .before .loop .i) (now (a .second)) (omega arith)
 
 returns : tie.Need-returns Inv-loop μ-loop
 returns c =
+    let a = c .before .before .before .before .before .args in
     let m = c .before .before .before .before .before .pre .rows-many in
     let n = c .before .before .before .before .before .pre .columns-many in
-    (c .before .loop .inv .1 ∙ stored-whole (rowFrom (now (c .before .before .before .before .before .args .kinds)) (now (c .before .before .before .before .before .args .first)) (now (c .before .before .before .before .before .args .second))) (c .before .loop .i) (now (c .before .before .before .before .before .args .first)) (omega arith) ∙ ap (λ (k : ℕ). tabulate k (rowFrom (now (c .before .before .before .before .before .args .kinds)) (now (c .before .before .before .before .before .args .first)) (now (c .before .before .before .before .before .args .second)))) m, c .before .loop .inv .2 ∙ stored-whole (columnFrom (now (c .before .before .before .before .before .args .kinds)) (now (c .before .before .before .before .before .args .first)) (now (c .before .before .before .before .before .args .second))) (c .before .loop .i) (now (c .before .before .before .before .before .args .second)) (omega arith) ∙ ap (λ (k : ℕ). tabulate k (columnFrom (now (c .before .before .before .before .before .args .kinds)) (now (c .before .before .before .before .before .args .first)) (now (c .before .before .before .before .before .args .second)))) n)
+    (c .before .loop .inv .1 ∙ stored-whole (rowFrom (now (a .kinds)) (now (a .first)) (now (a .second))) (c .before .loop .i) (now (a .first)) (omega arith) ∙ ap (λ (k : ℕ). tabulate k (rowFrom (now (a .kinds)) (now (a .first)) (now (a .second)))) m, c .before .loop .inv .2 ∙ stored-whole (columnFrom (now (a .kinds)) (now (a .first)) (now (a .second))) (c .before .loop .i) (now (a .second)) (omega arith) ∙ ap (λ (k : ℕ). tabulate k (columnFrom (now (a .kinds)) (now (a .first)) (now (a .second)))) n)
 
 pub to-cells-spec : {M : Type 1} → statement M
 to-cells-spec =

@@ -28,14 +28,16 @@ gs-or-seq-requires c κs = (c .before .before .before .before .before .before .b
 
 has-bad-base-requires : tie.Need-has-bad-base-requires Inv-loop μ-loop
 has-bad-base-requires c κs =
-    let e = energiesOf (now (c .before .before .before .before .before .before .before .before .before .args .forms)) (now (c .before .before .before .before .before .before .before .before .before .args .dgs)) (now (c .before .before .before .before .before .before .before .before .before .args .dss)) (now (c .before .before .before .before .before .before .before .before .before .args .starts)) (now (c .before .before .before .before .before .before .before .before .before .args .lengths)) in
-    ap (unfitEntry (now (c .before .before .before .before .before .before .before .before .before .args .text))) (c .gs-or-seq .ensures) ∙ c .before .before .before .before .before .before .before .before .before .pre .each (c .before .before .loop .i) (omega arith)
+    let a = c .before .before .before .before .before .before .before .before .before .args in
+    let e = energiesOf (now (a .forms)) (now (a .dgs)) (now (a .dss)) (now (a .starts)) (now (a .lengths)) in
+    ap (unfitEntry (now (a .text))) (c .gs-or-seq .ensures) ∙ c .before .before .before .before .before .before .before .before .before .pre .each (c .before .before .loop .i) (omega arith)
 
 returns : tie.Need-returns Inv-loop μ-loop
 returns c =
-    let e = energiesOf (now (c .before .before .before .before .before .before .before .before .before .before .before .args .forms)) (now (c .before .before .before .before .before .before .before .before .before .before .before .args .dgs)) (now (c .before .before .before .before .before .before .before .before .before .before .before .args .dss)) (now (c .before .before .before .before .before .before .before .before .before .before .before .args .starts)) (now (c .before .before .before .before .before .before .before .before .before .before .before .args .lengths)) in
-    let here : hasBadBase (now (c .before .before .before .before .before .before .before .before .before .before .before .args .text)) (entryAt e (c .before .before .before .before .loop .i)) ≡ true = sym (ap (hasBadBase (now (c .before .before .before .before .before .before .before .before .before .before .before .args .text))) (c .before .before .gs-or-seq .ensures)) ∙ sym (c .before .has-bad-base .ensures) ∙ c .if1 .taken in
-    sym (any-found (hasBadBase (now (c .before .before .before .before .before .before .before .before .before .before .before .args .text))) (length (now (c .before .before .before .before .before .before .before .before .before .before .before .args .forms))) (entryAt e) (c .before .before .before .before .loop .i) (omega arith) here)
+    let a = c .before .before .before .before .before .before .before .before .before .before .before .args in
+    let e = energiesOf (now (a .forms)) (now (a .dgs)) (now (a .dss)) (now (a .starts)) (now (a .lengths)) in
+    let here : hasBadBase (now (a .text)) (entryAt e (c .before .before .before .before .loop .i)) ≡ true = sym (ap (hasBadBase (now (a .text))) (c .before .before .gs-or-seq .ensures)) ∙ sym (c .before .has-bad-base .ensures) ∙ c .if1 .taken in
+    sym (any-found (hasBadBase (now (a .text))) (length (now (a .forms))) (entryAt e) (c .before .before .before .before .loop .i) (omega arith) here)
 
 add-i : tie.Need-add-i Inv-loop μ-loop
 add-i c = search needs
@@ -45,15 +47,18 @@ loop-less c = search needs
 
 loop-again : tie.Need-loop-again Inv-loop μ-loop
 loop-again c =
-    let e = energiesOf (now (c .before .before .before .before .before .before .before .before .before .before .before .args .forms)) (now (c .before .before .before .before .before .before .before .before .before .before .before .args .dgs)) (now (c .before .before .before .before .before .before .before .before .before .before .before .args .dss)) (now (c .before .before .before .before .before .before .before .before .before .before .before .args .starts)) (now (c .before .before .before .before .before .before .before .before .before .before .before .args .lengths)) in
-    let other : hasBadBase (now (c .before .before .before .before .before .before .before .before .before .before .before .args .text)) (entryAt e (c .before .before .before .before .loop .i)) ≡ false = sym (ap (hasBadBase (now (c .before .before .before .before .before .before .before .before .before .before .before .args .text))) (c .before .before .gs-or-seq .ensures)) ∙ sym (c .before .has-bad-base .ensures) ∙ c .if1 .left in
-    (omega arith, any-more (hasBadBase (now (c .before .before .before .before .before .before .before .before .before .before .before .args .text))) (entryAt e) (c .before .before .before .before .loop .i) (c .before .before .before .before .loop .inv .1) other)
+    let a = c .before .before .before .before .before .before .before .before .before .before .before .args in
+    let l = c .before .before .before .before .loop in
+    let e = energiesOf (now (a .forms)) (now (a .dgs)) (now (a .dss)) (now (a .starts)) (now (a .lengths)) in
+    let other : hasBadBase (now (a .text)) (entryAt e (l .i)) ≡ false = sym (ap (hasBadBase (now (a .text))) (c .before .before .gs-or-seq .ensures)) ∙ sym (c .before .has-bad-base .ensures) ∙ c .if1 .left in
+    (omega arith, any-more (hasBadBase (now (a .text))) (entryAt e) (l .i) (l .inv .1) other)
 
 returns-2 : tie.Need-returns-2 Inv-loop μ-loop
 returns-2 c =
-    let e = energiesOf (now (c .before .before .before .before .before .before .before .before .args .forms)) (now (c .before .before .before .before .before .before .before .before .args .dgs)) (now (c .before .before .before .before .before .before .before .before .args .dss)) (now (c .before .before .before .before .before .before .before .before .args .starts)) (now (c .before .before .before .before .before .before .before .before .args .lengths)) in
-    let end : c .before .loop .i ≡ length (now (c .before .before .before .before .before .before .before .before .args .forms)) = omega arith in
-    sym (ap (λ (k : ℕ). any (hasBadBase (now (c .before .before .before .before .before .before .before .before .args .text))) (entriesOf e k)) (sym end) ∙ c .before .loop .inv .1)
+    let a = c .before .before .before .before .before .before .before .before .args in
+    let e = energiesOf (now (a .forms)) (now (a .dgs)) (now (a .dss)) (now (a .starts)) (now (a .lengths)) in
+    let end : c .before .loop .i ≡ length (now (a .forms)) = omega arith in
+    sym (ap (λ (k : ℕ). any (hasBadBase (now (a .text))) (entriesOf e k)) (sym end) ∙ c .before .loop .inv .1)
 
 pub any-bad-base-spec : {M : Type 1} → statement M
 any-bad-base-spec =

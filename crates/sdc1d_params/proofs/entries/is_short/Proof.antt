@@ -20,9 +20,10 @@ returns c = search needs
 
 returns-2 : tie.Need-returns-2
 returns-2 c =
+    let a = c .before .before .before .args in
     let v = c .before .entry .given .0 in
-    let fit : unfitEntry (now (c .before .before .before .args .text)) (Sequence (v .0) (v .1 .0)) ≡ false = sym (ap (unfitEntry (now (c .before .before .before .args .text))) (c .before .entry .given .1)) ∙ c .before .before .before .pre in
-    short-as-lent (now (c .before .before .before .args .text)) (v .0) (v .1 .0) fit ∙ sym (ap (isShort (now (c .before .before .before .args .text))) (c .before .entry .given .1))
+    let fit : unfitEntry (now (a .text)) (Sequence (v .0) (v .1 .0)) ≡ false = sym (ap (unfitEntry (now (a .text))) (c .before .entry .given .1)) ∙ c .before .before .before .pre in
+    short-as-lent (now (a .text)) (v .0) (v .1 .0) fit ∙ sym (ap (isShort (now (a .text))) (c .before .entry .given .1))
 
 pub is-short-spec : {M : Type 1} → statement M
 is-short-spec = tie.close (tie.spec enum-told enum-known-entry returns returns-2)

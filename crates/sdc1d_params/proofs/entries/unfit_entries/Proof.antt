@@ -32,9 +32,10 @@ bad-form-requires c κs = search needs
 returns : tie.Need-returns Inv-loop μ-loop
 unfolding unfitAt
 returns c =
-    let e = energiesOf (now (c .before .before .before .before .before .before .before .before .before .before .before .args .forms)) (now (c .before .before .before .before .before .before .before .before .before .before .before .args .dgs)) (now (c .before .before .before .before .before .before .before .before .before .before .before .args .dss)) (now (c .before .before .before .before .before .before .before .before .before .before .before .args .starts)) (now (c .before .before .before .before .before .before .before .before .before .before .before .args .lengths)) in
-    let bad : unfitAt (now (c .before .before .before .before .before .before .before .before .before .before .before .args .text)) e (c .before .before .before .before .loop .i) ≡ true = rw (sym (c .before .bad-form .ensures) ∙ c .if1 .taken) in
-    sym (any-found (unfitAt (now (c .before .before .before .before .before .before .before .before .before .before .before .args .text)) e) (length (now (c .before .before .before .before .before .before .before .before .before .before .before .args .forms))) (λ k. k) (c .before .before .before .before .loop .i) (omega arith) bad)
+    let a = c .before .before .before .before .before .before .before .before .before .before .before .args in
+    let e = energiesOf (now (a .forms)) (now (a .dgs)) (now (a .dss)) (now (a .starts)) (now (a .lengths)) in
+    let bad : unfitAt (now (a .text)) e (c .before .before .before .before .loop .i) ≡ true = rw (sym (c .before .bad-form .ensures) ∙ c .if1 .taken) in
+    sym (any-found (unfitAt (now (a .text)) e) (length (now (a .forms))) (λ k. k) (c .before .before .before .before .loop .i) (omega arith) bad)
 
 gs-or-seq-requires : tie.Need-gs-or-seq-requires Inv-loop μ-loop
 gs-or-seq-requires c κs = (c .before .before .before .before .before .before .before .before .before .before .before .pre, omega arith)
@@ -45,10 +46,12 @@ unfit-entry-requires c κs = search needs
 returns-2 : tie.Need-returns-2 Inv-loop μ-loop
 unfolding unfitAt
 returns-2 c =
-    let e = energiesOf (now (c .before .before .before .before .before .before .before .before .before .before .before .before .before .before .args .forms)) (now (c .before .before .before .before .before .before .before .before .before .before .before .before .before .before .args .dgs)) (now (c .before .before .before .before .before .before .before .before .before .before .before .before .before .before .args .dss)) (now (c .before .before .before .before .before .before .before .before .before .before .before .before .before .before .args .starts)) (now (c .before .before .before .before .before .before .before .before .before .before .before .before .before .before .args .lengths)) in
-    let unfit : unfitEntry (now (c .before .before .before .before .before .before .before .before .before .before .before .before .before .before .args .text)) (entryAt e (c .before .before .before .before .before .before .before .loop .i)) ≡ true = sym (ap (unfitEntry (now (c .before .before .before .before .before .before .before .before .before .before .before .before .before .before .args .text))) (c .before .before .gs-or-seq .ensures)) ∙ sym (c .before .unfit-entry .ensures) ∙ c .if2 .taken in
-    let bad : unfitAt (now (c .before .before .before .before .before .before .before .before .before .before .before .before .before .before .args .text)) e (c .before .before .before .before .before .before .before .loop .i) ≡ true = rw (sym (c .before .before .before .before .bad-form .ensures) ∙ c .before .before .before .if1 .left, unfit) in
-    sym (any-found (unfitAt (now (c .before .before .before .before .before .before .before .before .before .before .before .before .before .before .args .text)) e) (length (now (c .before .before .before .before .before .before .before .before .before .before .before .before .before .before .args .forms))) (λ k. k) (c .before .before .before .before .before .before .before .loop .i) (omega arith) bad)
+    let a = c .before .before .before .before .before .before .before .before .before .before .before .before .before .before .args in
+    let l = c .before .before .before .before .before .before .before .loop in
+    let e = energiesOf (now (a .forms)) (now (a .dgs)) (now (a .dss)) (now (a .starts)) (now (a .lengths)) in
+    let unfit : unfitEntry (now (a .text)) (entryAt e (l .i)) ≡ true = sym (ap (unfitEntry (now (a .text))) (c .before .before .gs-or-seq .ensures)) ∙ sym (c .before .unfit-entry .ensures) ∙ c .if2 .taken in
+    let bad : unfitAt (now (a .text)) e (l .i) ≡ true = rw (sym (c .before .before .before .before .bad-form .ensures) ∙ c .before .before .before .if1 .left, unfit) in
+    sym (any-found (unfitAt (now (a .text)) e) (length (now (a .forms))) (λ k. k) (l .i) (omega arith) bad)
 
 add-i : tie.Need-add-i Inv-loop μ-loop
 add-i c = search needs
@@ -59,16 +62,19 @@ loop-less c = search needs
 loop-again : tie.Need-loop-again Inv-loop μ-loop
 unfolding unfitAt
 loop-again c =
-    let e = energiesOf (now (c .before .before .before .before .before .before .before .before .before .before .before .before .before .before .args .forms)) (now (c .before .before .before .before .before .before .before .before .before .before .before .before .before .before .args .dgs)) (now (c .before .before .before .before .before .before .before .before .before .before .before .before .before .before .args .dss)) (now (c .before .before .before .before .before .before .before .before .before .before .before .before .before .before .args .starts)) (now (c .before .before .before .before .before .before .before .before .before .before .before .before .before .before .args .lengths)) in
-    let fit : unfitEntry (now (c .before .before .before .before .before .before .before .before .before .before .before .before .before .before .args .text)) (entryAt e (c .before .before .before .before .before .before .before .loop .i)) ≡ false = sym (ap (unfitEntry (now (c .before .before .before .before .before .before .before .before .before .before .before .before .before .before .args .text))) (c .before .before .gs-or-seq .ensures)) ∙ sym (c .before .unfit-entry .ensures) ∙ c .if2 .left in
-    let good : unfitAt (now (c .before .before .before .before .before .before .before .before .before .before .before .before .before .before .args .text)) e (c .before .before .before .before .before .before .before .loop .i) ≡ false = rw (sym (c .before .before .before .before .bad-form .ensures) ∙ c .before .before .before .if1 .left, fit) in
-    (omega arith, any-more (unfitAt (now (c .before .before .before .before .before .before .before .before .before .before .before .before .before .before .args .text)) e) (λ k. k) (c .before .before .before .before .before .before .before .loop .i) (c .before .before .before .before .before .before .before .loop .inv .1) good)
+    let a = c .before .before .before .before .before .before .before .before .before .before .before .before .before .before .args in
+    let l = c .before .before .before .before .before .before .before .loop in
+    let e = energiesOf (now (a .forms)) (now (a .dgs)) (now (a .dss)) (now (a .starts)) (now (a .lengths)) in
+    let fit : unfitEntry (now (a .text)) (entryAt e (l .i)) ≡ false = sym (ap (unfitEntry (now (a .text))) (c .before .before .gs-or-seq .ensures)) ∙ sym (c .before .unfit-entry .ensures) ∙ c .if2 .left in
+    let good : unfitAt (now (a .text)) e (l .i) ≡ false = rw (sym (c .before .before .before .before .bad-form .ensures) ∙ c .before .before .before .if1 .left, fit) in
+    (omega arith, any-more (unfitAt (now (a .text)) e) (λ k. k) (l .i) (l .inv .1) good)
 
 returns-3 : tie.Need-returns-3 Inv-loop μ-loop
 returns-3 c =
-    let e = energiesOf (now (c .before .before .before .before .before .before .before .before .args .forms)) (now (c .before .before .before .before .before .before .before .before .args .dgs)) (now (c .before .before .before .before .before .before .before .before .args .dss)) (now (c .before .before .before .before .before .before .before .before .args .starts)) (now (c .before .before .before .before .before .before .before .before .args .lengths)) in
-    let end : c .before .loop .i ≡ length (now (c .before .before .before .before .before .before .before .before .args .forms)) = omega arith in
-    sym (ap (λ (k : ℕ). any (unfitAt (now (c .before .before .before .before .before .before .before .before .args .text)) e) (upTo k)) (sym end) ∙ c .before .loop .inv .1)
+    let a = c .before .before .before .before .before .before .before .before .args in
+    let e = energiesOf (now (a .forms)) (now (a .dgs)) (now (a .dss)) (now (a .starts)) (now (a .lengths)) in
+    let end : c .before .loop .i ≡ length (now (a .forms)) = omega arith in
+    sym (ap (λ (k : ℕ). any (unfitAt (now (a .text)) e) (upTo k)) (sym end) ∙ c .before .loop .inv .1)
 
 pub unfit-entries-spec : {M : Type 1} → statement M
 unfit-entries-spec =

@@ -12,10 +12,14 @@ use Rattle.sdc1d_params.proofs.scaffold.is_unknown.Statement.{statement
 use Rattle.sdc1d_params.proofs.scaffold.is_unknown.Tie as tie
 
 returns : tie.Need-returns
-returns c = absent-known (now (c .before .before .args .text)) (c .before .before .args .mark) (c .before .before .args .start) (c .before .before .args .length) (c .before .before .args .number) (c .if1 .taken)
+returns c =
+    let a = c .before .before .args in
+    absent-known (now (a .text)) (a .mark) (a .start) (a .length) (a .number) (c .if1 .taken)
 
 returns-2 : tie.Need-returns-2
-returns-2 c = unnumbered (now (c .before .before .before .args .text)) (c .before .before .before .args .mark) (c .before .before .before .args .start) (c .before .before .before .args .length) (c .before .before .before .args .number) (c .before .if1 .left) (c .if2 .taken)
+returns-2 c =
+    let a = c .before .before .before .args in
+    unnumbered (now (a .text)) (a .mark) (a .start) (a .length) (a .number) (c .before .if1 .left) (c .if2 .taken)
 
 self-and-inverse-requires : tie.Need-self-and-inverse-requires
 self-and-inverse-requires c κs = search needs

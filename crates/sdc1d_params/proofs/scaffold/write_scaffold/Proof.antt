@@ -1,13 +1,12 @@
 -- `sdc1d_params::write_scaffold` meets its contract: the numbers passed over are stored. Assumes nothing.
 use borrow.Author.Needs.{needs}
-use mathlib.Core.Path.{_≡_, refl, ap, _∙_}
+use mathlib.Core.Path.{_≡_, refl, ap, sym, _∙_}
 use Prim.Native.Nat.{ℕ, _-_, _≤_}
 use native.Mathlib.Omega.{arith}
 use lib.ListN.{length, getD}
 use denote.Ref.{now}
-use Rattle.lists.specs.Build.{tabulate}
+use Rattle.lists.proofs.Places.{tabulate-getD}
 use Rattle.lists.proofs.Counted.{stored, stored-none, stored-length, stored-more, stored-whole}
-use Rattle.sdc1d_params.proofs.Writes.{tabulate-elements}
 use Rattle.sdc1d_params.proofs.scaffold.write_scaffold.Statement.{statement}
 use Rattle.sdc1d_params.proofs.scaffold.write_scaffold.Tie as tie
 
@@ -40,16 +39,18 @@ loop-less c = search needs
 
 loop-again : tie.Need-loop-again Inv-loop μ-loop
 loop-again c =
+    let l = c .before .before .loop in
     let f : ℕ → ℕ = λ (k : ℕ). getD (now (c .before .before .before .args .numbers)) k 0 in
-    (omega arith, c .before .before .loop .inv .1, rw (c .before .before .loop .inv .2) (stored-more f (c .before .before .loop .i) (now (c .before .before .before .args .glues)) _ (omega arith) refl))
+    (omega arith, l .inv .1, rw (l .inv .2) (stored-more f (l .i) (now (c .before .before .before .args .glues)) _ (omega arith) refl))
 
 same-length : tie.Need-same-length Inv-loop μ-loop
 same-length c = ap length (c .before .loop .inv .2) ∙ stored-length (λ k. getD (now (c .before .before .args .numbers)) k 0) (c .before .loop .i) (now (c .before .before .args .glues)) (omega arith)
 
 returns : tie.Need-returns Inv-loop μ-loop
 returns c =
-    let f : ℕ → ℕ = λ (k : ℕ). getD (now (c .before .before .args .numbers)) k 0 in
-    c .before .loop .inv .2 ∙ stored-whole f (c .before .loop .i) (now (c .before .before .args .glues)) (omega arith) ∙ ap (λ (n : ℕ). tabulate n f) (c .before .loop .inv .1) ∙ tabulate-elements (now (c .before .before .args .numbers)) 0
+    let a = c .before .before .args in
+    let f : ℕ → ℕ = λ (k : ℕ). getD (now (a .numbers)) k 0 in
+    c .before .loop .inv .2 ∙ stored-whole f (c .before .loop .i) (now (a .glues)) (omega arith) ∙ tabulate-getD 0 (length (now (a .glues))) (now (a .numbers)) (sym (c .before .loop .inv .1))
 
 pub write-scaffold-spec : {M : Type 1} → statement M
 write-scaffold-spec =

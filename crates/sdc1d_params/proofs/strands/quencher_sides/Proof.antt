@@ -37,9 +37,10 @@ returns c = sym (ap (quencherGlues (drop 3 (now (c .before .before .args .glues)
 
 returns-2 : tie.Need-returns-2
 returns-2 c =
-    let h = copied-fits (c .before .before .before .before .before .args .users) (c .before .before .before .quencher .given .0 .0) (sym (ap (unfitCopied (c .before .before .before .before .before .args .users)) (c .before .before .before .quencher .given .1)) ∙ c .before .before .before .before .before .pre .2) in
+    let a = c .before .before .before .before .before .args in
+    let h = copied-fits (a .users) (c .before .before .before .quencher .given .0 .0) (sym (ap (unfitCopied (a .users)) (c .before .before .before .quencher .given .1)) ∙ c .before .before .before .before .before .pre .2) in
     let k = c .before .before .before .quencher .given .0 .0 in
-    let glues = now (c .before .before .before .before .before .args .glues) in
+    let glues = now (a .glues) in
     rw (c .before .before .before .quencher .given .1) (rw (side-at glues k 0 (3 * k) (h .0) (omega arith), side-at glues k 1 _ (h .0) refl))
 
 pub quencher-sides-spec : {M : Type 1} → statement M

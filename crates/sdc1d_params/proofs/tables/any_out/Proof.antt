@@ -49,9 +49,11 @@ is-out-requires c κs = search needs
 
 returns : tie.Need-returns Inv-loop μ-loop
 returns c =
-    let f = writeAt (now (c .before .before .before .before .before .before .before .before .before .before .before .before .before .before .before .before .args .text)) (energiesOf (now (c .before .before .before .before .before .before .before .before .before .before .before .before .before .before .before .before .args .forms)) (now (c .before .before .before .before .before .before .before .before .before .before .before .before .before .before .before .before .args .dgs)) (now (c .before .before .before .before .before .before .before .before .before .before .before .before .before .before .before .before .args .dss)) (now (c .before .before .before .before .before .before .before .before .before .before .before .before .before .before .before .before .args .starts)) (now (c .before .before .before .before .before .before .before .before .before .before .before .before .before .before .before .before .args .lengths))) (c .before .before .before .before .before .before .before .before .before .before .before .before .before .before .before .before .args .pdg .0) (c .before .before .before .before .before .before .before .before .before .before .before .before .before .before .before .before .args .pds .0) (now (c .before .before .before .before .before .before .before .before .before .before .before .before .before .before .before .before .args .rows)) (now (c .before .before .before .before .before .before .before .before .before .before .before .before .before .before .before .before .args .columns)) in
-    let made = same-write (now (c .before .before .before .before .before .before .before .before .before .before .before .before .before .before .before .before .args .text)) (c .before .before .before .before .before .before .before .before .before .before .before .before .before .before .before .before .args .pdg .0) (c .before .before .before .before .before .before .before .before .before .before .before .before .before .before .before .before .args .pds .0) (cell (getD (now (c .before .before .before .before .before .before .before .before .before .before .before .before .before .before .before .before .args .rows)) (c .before .before .before .before .before .before .before .loop .i) 0) (getD (now (c .before .before .before .before .before .before .before .before .before .before .before .before .before .before .before .before .args .columns)) (c .before .before .before .before .before .before .before .loop .i) 0)) (c .before .before .before .before .before .gs-or-seq .ensures) (c .before .before .with-penalty .ensures .0) (c .before .before .with-penalty .ensures .1) in
-    sym (any-found outOfRange (length (now (c .before .before .before .before .before .before .before .before .before .before .before .before .before .before .before .before .args .forms))) f (c .before .before .before .before .before .before .before .loop .i) (omega arith) (sym (ap outOfRange made) ∙ sym (c .before .is-out .ensures) ∙ c .if1 .taken))
+    let a = c .before .before .before .before .before .before .before .before .before .before .before .before .before .before .before .before .args in
+    let l = c .before .before .before .before .before .before .before .loop in
+    let f = writeAt (now (a .text)) (energiesOf (now (a .forms)) (now (a .dgs)) (now (a .dss)) (now (a .starts)) (now (a .lengths))) (a .pdg .0) (a .pds .0) (now (a .rows)) (now (a .columns)) in
+    let made = same-write (now (a .text)) (a .pdg .0) (a .pds .0) (cell (getD (now (a .rows)) (l .i) 0) (getD (now (a .columns)) (l .i) 0)) (c .before .before .before .before .before .gs-or-seq .ensures) (c .before .before .with-penalty .ensures .0) (c .before .before .with-penalty .ensures .1) in
+    sym (any-found outOfRange (length (now (a .forms))) f (l .i) (omega arith) (sym (ap outOfRange made) ∙ sym (c .before .is-out .ensures) ∙ c .if1 .taken))
 
 add-i : tie.Need-add-i Inv-loop μ-loop
 add-i c = search needs
@@ -61,14 +63,17 @@ loop-less c = search needs
 
 loop-again : tie.Need-loop-again Inv-loop μ-loop
 loop-again c =
-    let f = writeAt (now (c .before .before .before .before .before .before .before .before .before .before .before .before .before .before .before .before .args .text)) (energiesOf (now (c .before .before .before .before .before .before .before .before .before .before .before .before .before .before .before .before .args .forms)) (now (c .before .before .before .before .before .before .before .before .before .before .before .before .before .before .before .before .args .dgs)) (now (c .before .before .before .before .before .before .before .before .before .before .before .before .before .before .before .before .args .dss)) (now (c .before .before .before .before .before .before .before .before .before .before .before .before .before .before .before .before .args .starts)) (now (c .before .before .before .before .before .before .before .before .before .before .before .before .before .before .before .before .args .lengths))) (c .before .before .before .before .before .before .before .before .before .before .before .before .before .before .before .before .args .pdg .0) (c .before .before .before .before .before .before .before .before .before .before .before .before .before .before .before .before .args .pds .0) (now (c .before .before .before .before .before .before .before .before .before .before .before .before .before .before .before .before .args .rows)) (now (c .before .before .before .before .before .before .before .before .before .before .before .before .before .before .before .before .args .columns)) in
-    let made = same-write (now (c .before .before .before .before .before .before .before .before .before .before .before .before .before .before .before .before .args .text)) (c .before .before .before .before .before .before .before .before .before .before .before .before .before .before .before .before .args .pdg .0) (c .before .before .before .before .before .before .before .before .before .before .before .before .before .before .before .before .args .pds .0) (cell (getD (now (c .before .before .before .before .before .before .before .before .before .before .before .before .before .before .before .before .args .rows)) (c .before .before .before .before .before .before .before .loop .i) 0) (getD (now (c .before .before .before .before .before .before .before .before .before .before .before .before .before .before .before .before .args .columns)) (c .before .before .before .before .before .before .before .loop .i) 0)) (c .before .before .before .before .before .gs-or-seq .ensures) (c .before .before .with-penalty .ensures .0) (c .before .before .with-penalty .ensures .1) in
-    (omega arith, any-more outOfRange f (c .before .before .before .before .before .before .before .loop .i) (c .before .before .before .before .before .before .before .loop .inv .1) (sym (ap outOfRange made) ∙ sym (c .before .is-out .ensures) ∙ c .if1 .left))
+    let a = c .before .before .before .before .before .before .before .before .before .before .before .before .before .before .before .before .args in
+    let l = c .before .before .before .before .before .before .before .loop in
+    let f = writeAt (now (a .text)) (energiesOf (now (a .forms)) (now (a .dgs)) (now (a .dss)) (now (a .starts)) (now (a .lengths))) (a .pdg .0) (a .pds .0) (now (a .rows)) (now (a .columns)) in
+    let made = same-write (now (a .text)) (a .pdg .0) (a .pds .0) (cell (getD (now (a .rows)) (l .i) 0) (getD (now (a .columns)) (l .i) 0)) (c .before .before .before .before .before .gs-or-seq .ensures) (c .before .before .with-penalty .ensures .0) (c .before .before .with-penalty .ensures .1) in
+    (omega arith, any-more outOfRange f (l .i) (l .inv .1) (sym (ap outOfRange made) ∙ sym (c .before .is-out .ensures) ∙ c .if1 .left))
 
 returns-2 : tie.Need-returns-2 Inv-loop μ-loop
 returns-2 c =
-    let end : c .before .loop .i ≡ length (now (c .before .before .before .before .before .before .before .before .before .before .args .forms)) = omega arith in
-    sym (ap (λ (k : ℕ). any outOfRange (tabulate k (writeAt (now (c .before .before .before .before .before .before .before .before .before .before .args .text)) (energiesOf (now (c .before .before .before .before .before .before .before .before .before .before .args .forms)) (now (c .before .before .before .before .before .before .before .before .before .before .args .dgs)) (now (c .before .before .before .before .before .before .before .before .before .before .args .dss)) (now (c .before .before .before .before .before .before .before .before .before .before .args .starts)) (now (c .before .before .before .before .before .before .before .before .before .before .args .lengths))) (c .before .before .before .before .before .before .before .before .before .before .args .pdg .0) (c .before .before .before .before .before .before .before .before .before .before .args .pds .0) (now (c .before .before .before .before .before .before .before .before .before .before .args .rows)) (now (c .before .before .before .before .before .before .before .before .before .before .args .columns))))) (sym end) ∙ c .before .loop .inv .1)
+    let a = c .before .before .before .before .before .before .before .before .before .before .args in
+    let end : c .before .loop .i ≡ length (now (a .forms)) = omega arith in
+    sym (ap (λ (k : ℕ). any outOfRange (tabulate k (writeAt (now (a .text)) (energiesOf (now (a .forms)) (now (a .dgs)) (now (a .dss)) (now (a .starts)) (now (a .lengths))) (a .pdg .0) (a .pds .0) (now (a .rows)) (now (a .columns))))) (sym end) ∙ c .before .loop .inv .1)
 
 pub any-out-spec : {M : Type 1} → statement M
 any-out-spec =

@@ -44,8 +44,9 @@ same-length c = ap length (c .before .loop .inv .1) ∙ stored-length (λ k. zer
 
 returns : tie.Need-returns Inv-loop μ-loop
 returns c =
-    let l = ap length (c .before .loop .inv .1) ∙ stored-length (λ k. zero) (c .before .loop .i) (now (c .before .before .args .table)) (c .before .loop .inv .0) in
-    c .before .loop .inv .1 ∙ stored-whole (λ k. zero) (c .before .loop .i) (now (c .before .before .args .table)) (omega arith) ∙ tabulate-same-value (length (now (c .before .before .args .table))) zero
+    let a = c .before .before .args in
+    let l = ap length (c .before .loop .inv .1) ∙ stored-length (λ k. zero) (c .before .loop .i) (now (a .table)) (c .before .loop .inv .0) in
+    c .before .loop .inv .1 ∙ stored-whole (λ k. zero) (c .before .loop .i) (now (a .table)) (omega arith) ∙ tabulate-same-value (length (now (a .table))) zero
 
 pub clear-spec : {M : Type 1} → statement M
 clear-spec =

@@ -49,23 +49,29 @@ with-penalty-requires : tie.Need-with-penalty-requires Inv-loop μ-loop
 with-penalty-requires c κs = ap (unfitEntry (now (c .before .before .before .before .before .before .before .before .before .before .before .before .before .before .before .args .text))) (c .gs-or-seq .ensures) ∙ c .before .before .before .before .before .before .before .before .before .before .before .before .before .before .before .pre .0 .each (c .before .before .before .before .loop .i) (omega arith)
 
 set-both-requires : tie.Need-set-both-requires Inv-loop μ-loop
-set-both-requires c κs = let t = c .before .before .before .before .before .before .before .loop-test .taken in (c .before .before .before .before .before .before .before .before .loop .inv .3, c .before .before .before .before .before .before .before .before .before .before .before .before .before .before .before .before .before .before .before .pre .1 .0 .row (c .before .before .before .before .before .before .before .before .loop .i) t, c .before .before .before .before .before .before .before .before .before .before .before .before .before .before .before .before .before .before .before .pre .1 .0 .column (c .before .before .before .before .before .before .before .before .loop .i) t)
+set-both-requires c κs =
+    let l = c .before .before .before .before .before .before .before .before .loop in
+    let t = c .before .before .before .before .before .before .before .loop-test .taken in (l .inv .3, c .before .before .before .before .before .before .before .before .before .before .before .before .before .before .before .before .before .before .before .pre .1 .0 .row (l .i) t, c .before .before .before .before .before .before .before .before .before .before .before .before .before .before .before .before .before .before .before .pre .1 .0 .column (l .i) t)
 
 set-both-requires-2 : tie.Need-set-both-requires-2 Inv-loop μ-loop
-set-both-requires-2 c κs = let t = c .before .before .before .before .before .before .before .before .before .before .before .loop-test .taken in (c .before .before .before .before .before .before .before .before .before .before .before .before .loop .inv .4, c .before .before .before .before .before .before .before .before .before .before .before .before .before .before .before .before .before .before .before .before .before .before .before .pre .1 .0 .row (c .before .before .before .before .before .before .before .before .before .before .before .before .loop .i) t, c .before .before .before .before .before .before .before .before .before .before .before .before .before .before .before .before .before .before .before .before .before .before .before .pre .1 .0 .column (c .before .before .before .before .before .before .before .before .before .before .before .before .loop .i) t)
+set-both-requires-2 c κs =
+    let l = c .before .before .before .before .before .before .before .before .before .before .before .before .loop in
+    let t = c .before .before .before .before .before .before .before .before .before .before .before .loop-test .taken in (l .inv .4, c .before .before .before .before .before .before .before .before .before .before .before .before .before .before .before .before .before .before .before .before .before .before .before .pre .1 .0 .row (l .i) t, c .before .before .before .before .before .before .before .before .before .before .before .before .before .before .before .before .before .before .before .before .before .before .before .pre .1 .0 .column (l .i) t)
 
 loop-less : tie.Need-loop-less Inv-loop μ-loop
 loop-less c = let t = c .before .before .before .before .before .before .before .before .before .before .before .before .before .before .loop-test .taken in omega (arith, t)
 
 loop-again : tie.Need-loop-again Inv-loop μ-loop
 loop-again c =
-    let f = writeAt (now (c .before .before .before .before .before .before .before .before .before .before .before .before .before .before .before .before .before .before .before .before .before .before .before .before .before .before .args .text)) (energiesOf (now (c .before .before .before .before .before .before .before .before .before .before .before .before .before .before .before .before .before .before .before .before .before .before .before .before .before .before .args .forms)) (now (c .before .before .before .before .before .before .before .before .before .before .before .before .before .before .before .before .before .before .before .before .before .before .before .before .before .before .args .dgs)) (now (c .before .before .before .before .before .before .before .before .before .before .before .before .before .before .before .before .before .before .before .before .before .before .before .before .before .before .args .dss)) (now (c .before .before .before .before .before .before .before .before .before .before .before .before .before .before .before .before .before .before .before .before .before .before .before .before .before .before .args .starts)) (now (c .before .before .before .before .before .before .before .before .before .before .before .before .before .before .before .before .before .before .before .before .before .before .before .before .before .before .args .lengths))) (c .before .before .before .before .before .before .before .before .before .before .before .before .before .before .before .before .before .before .before .before .before .before .before .before .before .before .args .pdg .0) (c .before .before .before .before .before .before .before .before .before .before .before .before .before .before .before .before .before .before .before .before .before .before .before .before .before .before .args .pds .0) (now (c .before .before .before .before .before .before .before .before .before .before .before .before .before .before .before .before .before .before .before .before .before .before .before .before .before .before .args .rows)) (now (c .before .before .before .before .before .before .before .before .before .before .before .before .before .before .before .before .before .before .before .before .before .before .before .before .before .before .args .columns)) in
-    let c0 = cell (getD (now (c .before .before .before .before .before .before .before .before .before .before .before .before .before .before .before .before .before .before .before .before .before .before .before .before .before .before .args .rows)) (c .before .before .before .before .before .before .before .before .before .before .before .before .before .before .before .loop .i) 0) (getD (now (c .before .before .before .before .before .before .before .before .before .before .before .before .before .before .before .before .before .before .before .before .before .before .before .before .before .before .args .columns)) (c .before .before .before .before .before .before .before .before .before .before .before .before .before .before .before .loop .i) 0) in
-    let made = same-write (now (c .before .before .before .before .before .before .before .before .before .before .before .before .before .before .before .before .before .before .before .before .before .before .before .before .before .before .args .text)) (c .before .before .before .before .before .before .before .before .before .before .before .before .before .before .before .before .before .before .before .before .before .before .before .before .before .before .args .pdg .0) (c .before .before .before .before .before .before .before .before .before .before .before .before .before .before .before .before .before .before .before .before .before .before .before .before .before .before .args .pds .0) c0 (c .before .before .before .before .before .before .before .before .before .before .before .gs-or-seq .ensures) (c .before .before .before .before .before .before .before .before .before .before .with-penalty .ensures .0) (c .before .before .before .before .before .before .before .before .before .before .with-penalty .ensures .1) in
-    let one = c .before .before .before .before .before .before .set-both .ensures ∙ ap₂ (λ (t : List Float) (w : Write). writeDg t w) (c .before .before .before .before .before .before .before .before .before .before .before .before .before .before .before .loop .inv .1) made ∙ sym (fold-more writeDg (now (c .before .before .before .before .before .before .before .before .before .before .before .before .before .before .before .before .before .before .before .before .before .before .before .before .before .before .args .dg)) f (c .before .before .before .before .before .before .before .before .before .before .before .before .before .before .before .loop .i)) in
-    let two = c .before .before .set-both2 .ensures ∙ ap₂ (λ (t : List Float) (w : Write). writeDs t w) (c .before .before .before .before .before .before .before .before .before .before .before .before .before .before .before .loop .inv .2) made ∙ sym (fold-more writeDs (now (c .before .before .before .before .before .before .before .before .before .before .before .before .before .before .before .before .before .before .before .before .before .before .before .before .before .before .args .ds)) f (c .before .before .before .before .before .before .before .before .before .before .before .before .before .before .before .loop .i)) in
+    let a = c .before .before .before .before .before .before .before .before .before .before .before .before .before .before .before .before .before .before .before .before .before .before .before .before .before .before .args in
+    let l = c .before .before .before .before .before .before .before .before .before .before .before .before .before .before .before .loop in
+    let f = writeAt (now (a .text)) (energiesOf (now (a .forms)) (now (a .dgs)) (now (a .dss)) (now (a .starts)) (now (a .lengths))) (a .pdg .0) (a .pds .0) (now (a .rows)) (now (a .columns)) in
+    let c0 = cell (getD (now (a .rows)) (l .i) 0) (getD (now (a .columns)) (l .i) 0) in
+    let made = same-write (now (a .text)) (a .pdg .0) (a .pds .0) c0 (c .before .before .before .before .before .before .before .before .before .before .before .gs-or-seq .ensures) (c .before .before .before .before .before .before .before .before .before .before .with-penalty .ensures .0) (c .before .before .before .before .before .before .before .before .before .before .with-penalty .ensures .1) in
+    let one = c .before .before .before .before .before .before .set-both .ensures ∙ ap₂ (λ (t : List Float) (w : Write). writeDg t w) (l .inv .1) made ∙ sym (fold-more writeDg (now (a .dg)) f (l .i)) in
+    let two = c .before .before .set-both2 .ensures ∙ ap₂ (λ (t : List Float) (w : Write). writeDs t w) (l .inv .2) made ∙ sym (fold-more writeDs (now (a .ds)) f (l .i)) in
     let t = c .before .before .before .before .before .before .before .before .before .before .before .before .before .before .loop-test .taken in
-    (omega (arith, t), one, two, ap length (c .before .before .before .before .before .before .set-both .ensures) ∙ set-length c0 _ _ ∙ c .before .before .before .before .before .before .before .before .before .before .before .before .before .before .before .loop .inv .3, ap length (c .before .before .set-both2 .ensures) ∙ set-length c0 _ _ ∙ c .before .before .before .before .before .before .before .before .before .before .before .before .before .before .before .loop .inv .4)
+    (omega (arith, t), one, two, ap length (c .before .before .before .before .before .before .set-both .ensures) ∙ set-length c0 _ _ ∙ l .inv .3, ap length (c .before .before .set-both2 .ensures) ∙ set-length c0 _ _ ∙ l .inv .4)
 
 same-length : tie.Need-same-length Inv-loop μ-loop
 same-length c = c .before .loop .inv .3 ∙ sym (c .before .before .before .before .before .before .before .before .before .before .before .before .pre .1 .1 .0)
@@ -75,9 +81,10 @@ same-length-2 c = c .before .loop .inv .4 ∙ sym (c .before .before .before .be
 
 returns : tie.Need-returns Inv-loop μ-loop
 returns c =
-    let f = writeAt (now (c .before .before .before .before .before .before .before .before .before .before .before .before .args .text)) (energiesOf (now (c .before .before .before .before .before .before .before .before .before .before .before .before .args .forms)) (now (c .before .before .before .before .before .before .before .before .before .before .before .before .args .dgs)) (now (c .before .before .before .before .before .before .before .before .before .before .before .before .args .dss)) (now (c .before .before .before .before .before .before .before .before .before .before .before .before .args .starts)) (now (c .before .before .before .before .before .before .before .before .before .before .before .before .args .lengths))) (c .before .before .before .before .before .before .before .before .before .before .before .before .args .pdg .0) (c .before .before .before .before .before .before .before .before .before .before .before .before .args .pds .0) (now (c .before .before .before .before .before .before .before .before .before .before .before .before .args .rows)) (now (c .before .before .before .before .before .before .before .before .before .before .before .before .args .columns)) in
-    let end : c .before .loop .i ≡ length (now (c .before .before .before .before .before .before .before .before .before .before .before .before .args .forms)) = omega arith in
-    (c .before .loop .inv .1 ∙ ap (λ (k : ℕ). foldl writeDg (now (c .before .before .before .before .before .before .before .before .before .before .before .before .args .dg)) (tabulate k f)) end, c .before .loop .inv .2 ∙ ap (λ (k : ℕ). foldl writeDs (now (c .before .before .before .before .before .before .before .before .before .before .before .before .args .ds)) (tabulate k f)) end)
+    let a = c .before .before .before .before .before .before .before .before .before .before .before .before .args in
+    let f = writeAt (now (a .text)) (energiesOf (now (a .forms)) (now (a .dgs)) (now (a .dss)) (now (a .starts)) (now (a .lengths))) (a .pdg .0) (a .pds .0) (now (a .rows)) (now (a .columns)) in
+    let end : c .before .loop .i ≡ length (now (a .forms)) = omega arith in
+    (c .before .loop .inv .1 ∙ ap (λ (k : ℕ). foldl writeDg (now (a .dg)) (tabulate k f)) end, c .before .loop .inv .2 ∙ ap (λ (k : ℕ). foldl writeDs (now (a .ds)) (tabulate k f)) end)
 
 pub fill-tables-spec : {M : Type 1} → statement M
 fill-tables-spec =

@@ -36,8 +36,9 @@ in-range-requires c κs = search needs
 returns-2 : tie.Need-returns-2
 unfolding outOfRange
 returns-2 c =
-    let written : isWritten (cell (c .before .before .before .before .before .before .args .row) (c .before .before .before .before .before .before .args .column)) ≡ true = sym (c .before .before .before .before .before .is-written .ensures) ∙ not-false _ (c .before .before .before .before .if1 .left) in
-    let out : dgInRange (c .before .before .before .before .before .before .args .gs .0 .0) ≡ false = dg-range _ ∙ sym (c .before .in-range .ensures) ∙ not-true _ (c .if2 .taken) in
+    let a = c .before .before .before .before .before .before .args in
+    let written : isWritten (cell (a .row) (a .column)) ≡ true = sym (c .before .before .before .before .before .is-written .ensures) ∙ not-false _ (c .before .before .before .before .if1 .left) in
+    let out : dgInRange (a .gs .0 .0) ≡ false = dg-range _ ∙ sym (c .before .in-range .ensures) ∙ not-true _ (c .if2 .taken) in
     rw (written, out)
 
 in-range-requires-2 : tie.Need-in-range-requires-2
@@ -46,9 +47,10 @@ in-range-requires-2 c κs = search needs
 returns-3 : tie.Need-returns-3
 unfolding outOfRange
 returns-3 c =
-    let written : isWritten (cell (c .before .before .before .before .before .before .before .args .row) (c .before .before .before .before .before .before .before .args .column)) ≡ true = sym (c .before .before .before .before .before .before .is-written .ensures) ∙ not-false _ (c .before .before .before .before .before .if1 .left) in
-    let in-dg : dgInRange (c .before .before .before .before .before .before .before .args .gs .0 .0) ≡ true = dg-range _ ∙ sym (c .before .before .in-range .ensures) ∙ not-false _ (c .before .if2 .left) in
-    let said : c .in-range2 .result ≡ dsInRange (c .before .before .before .before .before .before .before .args .gs .1 .0) = c .in-range2 .ensures ∙ sym (ds-range _) in
+    let a = c .before .before .before .before .before .before .before .args in
+    let written : isWritten (cell (a .row) (a .column)) ≡ true = sym (c .before .before .before .before .before .before .is-written .ensures) ∙ not-false _ (c .before .before .before .before .before .if1 .left) in
+    let in-dg : dgInRange (a .gs .0 .0) ≡ true = dg-range _ ∙ sym (c .before .before .in-range .ensures) ∙ not-false _ (c .before .if2 .left) in
+    let said : c .in-range2 .result ≡ dsInRange (a .gs .1 .0) = c .in-range2 .ensures ∙ sym (ds-range _) in
     rw (written, in-dg) (ap not said)
 
 pub is-out-spec : {M : Type 1} → statement M

@@ -56,9 +56,10 @@ unfit-glue-requires c κs = search needs
 returns-4 : tie.Need-returns-4 Inv-loop μ-loop
 unfolding unfitNames
 returns-4 c =
-    let names = namesOf (now (c .before .before .before .before .before .before .before .before .before .before .before .before .before .before .args .starts)) (now (c .before .before .before .before .before .before .before .before .before .before .before .before .before .before .args .lengths)) (now (c .before .before .before .before .before .before .before .before .before .before .before .before .before .before .args .marks)) in
-    let bad : unfitAt (now (c .before .before .before .before .before .before .before .before .before .before .before .before .before .before .args .text)) names (c .before .before .before .before .before .before .loop .i) ≡ true = sym (c .before .unfit-glue .ensures) ∙ c .if4 .taken in
-    simp (eq-eqb _ _ (c .before .before .before .before .before .before .before .before .before .if1 .left), eq-eqb _ _ (c .before .before .before .before .before .before .before .before .if2 .left), eq-eqb _ _ (c .before .before .before .before .before .before .before .if3 .left), any-found (unfitAt (now (c .before .before .before .before .before .before .before .before .before .before .before .before .before .before .args .text)) names) (c .before .before .before .before .before .before .before .before .before .before .before .before .before .before .args .n) (λ k. k) (c .before .before .before .before .before .before .loop .i) (omega arith) bad)
+    let a = c .before .before .before .before .before .before .before .before .before .before .before .before .before .before .args in
+    let names = namesOf (now (a .starts)) (now (a .lengths)) (now (a .marks)) in
+    let bad : unfitAt (now (a .text)) names (c .before .before .before .before .before .before .loop .i) ≡ true = sym (c .before .unfit-glue .ensures) ∙ c .if4 .taken in
+    simp (eq-eqb _ _ (c .before .before .before .before .before .before .before .before .before .if1 .left), eq-eqb _ _ (c .before .before .before .before .before .before .before .before .if2 .left), eq-eqb _ _ (c .before .before .before .before .before .before .before .if3 .left), any-found (unfitAt (now (a .text)) names) (a .n) (λ k. k) (c .before .before .before .before .before .before .loop .i) (omega arith) bad)
 
 add-i : tie.Need-add-i Inv-loop μ-loop
 add-i c = search needs
@@ -68,16 +69,19 @@ loop-less c = search needs
 
 loop-again : tie.Need-loop-again Inv-loop μ-loop
 loop-again c =
-    let names = namesOf (now (c .before .before .before .before .before .before .before .before .before .before .before .before .before .before .args .starts)) (now (c .before .before .before .before .before .before .before .before .before .before .before .before .before .before .args .lengths)) (now (c .before .before .before .before .before .before .before .before .before .before .before .before .before .before .args .marks)) in
-    let good : unfitAt (now (c .before .before .before .before .before .before .before .before .before .before .before .before .before .before .args .text)) names (c .before .before .before .before .before .before .loop .i) ≡ false = sym (c .before .unfit-glue .ensures) ∙ c .if4 .left in
-    (omega arith, any-more (unfitAt (now (c .before .before .before .before .before .before .before .before .before .before .before .before .before .before .args .text)) names) (λ k. k) (c .before .before .before .before .before .before .loop .i) (c .before .before .before .before .before .before .loop .inv .1) good)
+    let a = c .before .before .before .before .before .before .before .before .before .before .before .before .before .before .args in
+    let l = c .before .before .before .before .before .before .loop in
+    let names = namesOf (now (a .starts)) (now (a .lengths)) (now (a .marks)) in
+    let good : unfitAt (now (a .text)) names (l .i) ≡ false = sym (c .before .unfit-glue .ensures) ∙ c .if4 .left in
+    (omega arith, any-more (unfitAt (now (a .text)) names) (λ k. k) (l .i) (l .inv .1) good)
 
 returns-5 : tie.Need-returns-5 Inv-loop μ-loop
 unfolding unfitNames
 returns-5 c =
-    let names = namesOf (now (c .before .before .before .before .before .before .before .before .before .args .starts)) (now (c .before .before .before .before .before .before .before .before .before .args .lengths)) (now (c .before .before .before .before .before .before .before .before .before .args .marks)) in
-    let e : c .before .loop .i ≡ c .before .before .before .before .before .before .before .before .before .args .n = omega arith in
-    let none : any (unfitAt (now (c .before .before .before .before .before .before .before .before .before .args .text)) names) (upTo (c .before .before .before .before .before .before .before .before .before .args .n)) ≡ false = ap (λ (k : ℕ). any (unfitAt (now (c .before .before .before .before .before .before .before .before .before .args .text)) names) (upTo k)) (sym e) ∙ c .before .loop .inv .1 in
+    let a = c .before .before .before .before .before .before .before .before .before .args in
+    let names = namesOf (now (a .starts)) (now (a .lengths)) (now (a .marks)) in
+    let e : c .before .loop .i ≡ a .n = omega arith in
+    let none : any (unfitAt (now (a .text)) names) (upTo (a .n)) ≡ false = ap (λ (k : ℕ). any (unfitAt (now (a .text)) names) (upTo k)) (sym e) ∙ c .before .loop .inv .1 in
     simp (eq-eqb _ _ (c .before .before .before .before .if1 .left), eq-eqb _ _ (c .before .before .before .if2 .left), eq-eqb _ _ (c .before .before .if3 .left), none)
 
 pub unfit-names-spec : {M : Type 1} → statement M

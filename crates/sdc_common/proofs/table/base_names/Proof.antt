@@ -25,8 +25,9 @@ abbrev μ-loop : tie.MeasureT-loop
 loop-holds : tie.Need-loop-holds Inv-loop μ-loop
 unfolding held tabulate foldl
 loop-holds c =
+    let a = c .before .before .before .before .before .before .args in
     let p = c .before .before .before .before .before .before .pre .1 .1 in
-    (omega arith, omega arith, record { starts-room = p .0; lengths-room = p .1; upto = omega arith; inside = below-none (λ k. getD (now (c .before .before .before .before .before .before .args .heads)) k 0 + getD (now (c .before .before .before .before .before .before .args .sizes)) k 0 ≤ length (now (c .before .before .before .before .before .before .args .text))) }, refl)
+    (omega arith, omega arith, record { starts-room = p .0; lengths-room = p .1; upto = omega arith; inside = below-none (λ k. getD (now (a .heads)) k 0 + getD (now (a .sizes)) k 0 ≤ length (now (a .text))) }, refl)
 
 shared-slice-read-learn-glue : tie.Need-shared-slice-read-learn-glue Inv-loop μ-loop
 shared-slice-read-learn-glue c = search needs
@@ -54,9 +55,11 @@ loop-less c = search needs
 
 loop-again : tie.Need-loop-again Inv-loop μ-loop
 loop-again c =
-    let glue = glueAt (now (c .before .before .before .before .before .before .before .before .before .before .before .before .before .before .before .before .before .before .args .text)) (namesOf (now (c .before .before .before .before .before .before .before .before .before .before .before .before .before .before .before .before .before .before .args .starts)) (now (c .before .before .before .before .before .before .before .before .before .before .before .before .before .before .before .before .before .before .args .lengths)) (now (c .before .before .before .before .before .before .before .before .before .before .before .before .before .before .before .before .before .before .args .marks))) in
+    let a = c .before .before .before .before .before .before .before .before .before .before .before .before .before .before .before .before .before .before .args in
+    let l = c .before .before .before .before .before .before .before .before .before .before .before .loop in
+    let glue = glueAt (now (a .text)) (namesOf (now (a .starts)) (now (a .lengths)) (now (a .marks))) in
     let e = c .before .before .before .before .learn-glue .ensures in
-    (omega arith, omega (arith, e .1 .1), e .0, e .1 .0 ∙ ap (λ (bases : List (List ℕ)). learn bases (glue (c .before .before .before .before .before .before .before .before .before .before .before .loop .i))) (c .before .before .before .before .before .before .before .before .before .before .before .loop .inv .3) ∙ sym (fold-more learn [] glue (c .before .before .before .before .before .before .before .before .before .before .before .loop .i)))
+    (omega arith, omega (arith, e .1 .1), e .0, e .1 .0 ∙ ap (λ (bases : List (List ℕ)). learn bases (glue (l .i))) (l .inv .3) ∙ sym (fold-more learn [] glue (l .i)))
 
 same-length : tie.Need-same-length Inv-loop μ-loop
 same-length c = c .before .loop .inv .2 .starts-room ∙ sym (c .before .before .before .before .before .before .before .before .pre .1 .1 .0)
@@ -67,8 +70,9 @@ same-length-2 c = c .before .loop .inv .2 .lengths-room ∙ sym (c .before .befo
 returns : tie.Need-returns Inv-loop μ-loop
 unfolding basesOf gluesOf
 returns c =
-    let glue = glueAt (now (c .before .before .before .before .before .before .before .before .args .text)) (namesOf (now (c .before .before .before .before .before .before .before .before .args .starts)) (now (c .before .before .before .before .before .before .before .before .args .lengths)) (now (c .before .before .before .before .before .before .before .before .args .marks))) in
-    let e : c .before .loop .i ≡ length (now (c .before .before .before .before .before .before .before .before .args .marks)) = omega arith in
+    let a = c .before .before .before .before .before .before .before .before .args in
+    let glue = glueAt (now (a .text)) (namesOf (now (a .starts)) (now (a .lengths)) (now (a .marks))) in
+    let e : c .before .loop .i ≡ length (now (a .marks)) = omega arith in
     (c .before .loop .inv .2, c .before .loop .inv .3 ∙ ap (λ (n : ℕ). foldl learn [] (tabulate n glue)) e)
 
 pub base-names-spec : {M : Type 1} → statement M

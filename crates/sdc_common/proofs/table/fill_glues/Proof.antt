@@ -21,7 +21,9 @@ abbrev μ-loop : tie.MeasureT-loop
 μ-loop text heads sizes count starts lengths marks glues₀ i₀ glues i = length marks - i
 
 loop-holds : tie.Need-loop-holds Inv-loop μ-loop
-loop-holds c = (omega arith, c .before .before .before .before .before .before .before .pre .1 .1 .0, stored-none (numberOfGlue (now (c .before .before .before .before .before .before .before .args .text)) (now (c .before .before .before .before .before .before .before .args .heads)) (now (c .before .before .before .before .before .before .before .args .sizes)) (c .before .before .before .before .before .before .before .args .count) (namesOf (now (c .before .before .before .before .before .before .before .args .starts)) (now (c .before .before .before .before .before .before .before .args .lengths)) (now (c .before .before .before .before .before .before .before .args .marks)))) (now (c .before .before .before .before .before .before .before .args .glues)))
+loop-holds c =
+    let a = c .before .before .before .before .before .before .before .args in
+    (omega arith, c .before .before .before .before .before .before .before .pre .1 .1 .0, stored-none (numberOfGlue (now (a .text)) (now (a .heads)) (now (a .sizes)) (a .count) (namesOf (now (a .starts)) (now (a .lengths)) (now (a .marks)))) (now (a .glues)))
 
 shared-slice-read-number : tie.Need-shared-slice-read-number Inv-loop μ-loop
 shared-slice-read-number c = search needs
@@ -45,7 +47,9 @@ cast-glues : tie.Need-cast-glues Inv-loop μ-loop
 cast-glues c = let b = c .before .before .before .before .before .before .before .before .before .before .before .before .before .pre .1 .1 .1 in omega (arith, c .number .ensures .1)
 
 slice-write-glues : tie.Need-slice-write-glues Inv-loop μ-loop
-slice-write-glues c = omega (arith, ap length (c .before .before .before .before .before .loop .inv .2), stored-length (numberOfGlue (now (c .before .before .before .before .before .before .before .before .before .before .before .before .before .args .text)) (now (c .before .before .before .before .before .before .before .before .before .before .before .before .before .args .heads)) (now (c .before .before .before .before .before .before .before .before .before .before .before .before .before .args .sizes)) (c .before .before .before .before .before .before .before .before .before .before .before .before .before .args .count) (namesOf (now (c .before .before .before .before .before .before .before .before .before .before .before .before .before .args .starts)) (now (c .before .before .before .before .before .before .before .before .before .before .before .before .before .args .lengths)) (now (c .before .before .before .before .before .before .before .before .before .before .before .before .before .args .marks)))) (c .before .before .before .before .before .loop .i) (now (c .before .before .before .before .before .before .before .before .before .before .before .before .before .args .glues)) (omega arith))
+slice-write-glues c =
+    let a = c .before .before .before .before .before .before .before .before .before .before .before .before .before .args in
+    omega (arith, ap length (c .before .before .before .before .before .loop .inv .2), stored-length (numberOfGlue (now (a .text)) (now (a .heads)) (now (a .sizes)) (a .count) (namesOf (now (a .starts)) (now (a .lengths)) (now (a .marks)))) (c .before .before .before .before .before .loop .i) (now (a .glues)) (omega arith))
 
 add-i : tie.Need-add-i Inv-loop μ-loop
 add-i c = search needs
@@ -55,20 +59,25 @@ loop-less c = search needs
 
 loop-again : tie.Need-loop-again Inv-loop μ-loop
 loop-again c =
-    let f = numberOfGlue (now (c .before .before .before .before .before .before .before .before .before .before .before .before .before .args .text)) (now (c .before .before .before .before .before .before .before .before .before .before .before .before .before .args .heads)) (now (c .before .before .before .before .before .before .before .before .before .before .before .before .before .args .sizes)) (c .before .before .before .before .before .before .before .before .before .before .before .before .before .args .count) (namesOf (now (c .before .before .before .before .before .before .before .before .before .before .before .before .before .args .starts)) (now (c .before .before .before .before .before .before .before .before .before .before .before .before .before .args .lengths)) (now (c .before .before .before .before .before .before .before .before .before .before .before .before .before .args .marks))) in
-    let more = stored-more f (c .before .before .before .before .before .loop .i) (now (c .before .before .before .before .before .before .before .before .before .before .before .before .before .args .glues)) (c .number .result) (omega arith) (c .number .ensures .0) in
-    (omega arith, c .before .before .before .before .before .loop .inv .1, rw (c .before .before .before .before .before .loop .inv .2) more)
+    let a = c .before .before .before .before .before .before .before .before .before .before .before .before .before .args in
+    let l = c .before .before .before .before .before .loop in
+    let f = numberOfGlue (now (a .text)) (now (a .heads)) (now (a .sizes)) (a .count) (namesOf (now (a .starts)) (now (a .lengths)) (now (a .marks))) in
+    let more = stored-more f (l .i) (now (a .glues)) (c .number .result) (omega arith) (c .number .ensures .0) in
+    (omega arith, l .inv .1, rw (l .inv .2) more)
 
 same-length : tie.Need-same-length Inv-loop μ-loop
-same-length c = ap length (c .before .loop .inv .2) ∙ stored-length (numberOfGlue (now (c .before .before .before .before .before .before .before .before .before .args .text)) (now (c .before .before .before .before .before .before .before .before .before .args .heads)) (now (c .before .before .before .before .before .before .before .before .before .args .sizes)) (c .before .before .before .before .before .before .before .before .before .args .count) (namesOf (now (c .before .before .before .before .before .before .before .before .before .args .starts)) (now (c .before .before .before .before .before .before .before .before .before .args .lengths)) (now (c .before .before .before .before .before .before .before .before .before .args .marks)))) (c .before .loop .i) (now (c .before .before .before .before .before .before .before .before .before .args .glues)) (omega arith)
+same-length c =
+    let a = c .before .before .before .before .before .before .before .before .before .args in
+    ap length (c .before .loop .inv .2) ∙ stored-length (numberOfGlue (now (a .text)) (now (a .heads)) (now (a .sizes)) (a .count) (namesOf (now (a .starts)) (now (a .lengths)) (now (a .marks)))) (c .before .loop .i) (now (a .glues)) (omega arith)
 
 returns : tie.Need-returns Inv-loop μ-loop
 unfolding gluesOf
 returns c =
-    let f = numberOfGlue (now (c .before .before .before .before .before .before .before .before .before .args .text)) (now (c .before .before .before .before .before .before .before .before .before .args .heads)) (now (c .before .before .before .before .before .before .before .before .before .args .sizes)) (c .before .before .before .before .before .before .before .before .before .args .count) (namesOf (now (c .before .before .before .before .before .before .before .before .before .args .starts)) (now (c .before .before .before .before .before .before .before .before .before .args .lengths)) (now (c .before .before .before .before .before .before .before .before .before .args .marks))) in
-    let whole = stored-whole f (c .before .loop .i) (now (c .before .before .before .before .before .before .before .before .before .args .glues)) (omega arith) in
-    let glue = glueAt (now (c .before .before .before .before .before .before .before .before .before .args .text)) (namesOf (now (c .before .before .before .before .before .before .before .before .before .args .starts)) (now (c .before .before .before .before .before .before .before .before .before .args .lengths)) (now (c .before .before .before .before .before .before .before .before .before .args .marks))) in
-    c .before .loop .inv .2 ∙ whole ∙ ap (λ (n : ℕ). tabulate n f) (c .before .loop .inv .1) ∙ sym (map-tabulate (glueNumber (held (now (c .before .before .before .before .before .before .before .before .before .args .text)) (now (c .before .before .before .before .before .before .before .before .before .args .heads)) (now (c .before .before .before .before .before .before .before .before .before .args .sizes)) (c .before .before .before .before .before .before .before .before .before .args .count))) (length (now (c .before .before .before .before .before .before .before .before .before .args .marks))) glue)
+    let a = c .before .before .before .before .before .before .before .before .before .args in
+    let f = numberOfGlue (now (a .text)) (now (a .heads)) (now (a .sizes)) (a .count) (namesOf (now (a .starts)) (now (a .lengths)) (now (a .marks))) in
+    let whole = stored-whole f (c .before .loop .i) (now (a .glues)) (omega arith) in
+    let glue = glueAt (now (a .text)) (namesOf (now (a .starts)) (now (a .lengths)) (now (a .marks))) in
+    c .before .loop .inv .2 ∙ whole ∙ ap (λ (n : ℕ). tabulate n f) (c .before .loop .inv .1) ∙ sym (map-tabulate (glueNumber (held (now (a .text)) (now (a .heads)) (now (a .sizes)) (a .count))) (length (now (a .marks))) glue)
 
 pub fill-glues-spec : {M : Type 1} → statement M
 fill-glues-spec =

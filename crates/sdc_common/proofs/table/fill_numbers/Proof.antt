@@ -21,7 +21,9 @@ abbrev μ-loop : tie.MeasureT-loop
 μ-loop text heads sizes count starts lengths marks numbers₀ i₀ numbers i = length marks - i
 
 loop-holds : tie.Need-loop-holds Inv-loop μ-loop
-loop-holds c = (omega arith, c .before .before .before .before .before .before .before .pre .1 .1, stored-none (numberOfGlue (now (c .before .before .before .before .before .before .before .args .text)) (now (c .before .before .before .before .before .before .before .args .heads)) (now (c .before .before .before .before .before .before .before .args .sizes)) (c .before .before .before .before .before .before .before .args .count) (namesOf (now (c .before .before .before .before .before .before .before .args .starts)) (now (c .before .before .before .before .before .before .before .args .lengths)) (now (c .before .before .before .before .before .before .before .args .marks)))) (now (c .before .before .before .before .before .before .before .args .numbers)))
+loop-holds c =
+    let a = c .before .before .before .before .before .before .before .args in
+    (omega arith, c .before .before .before .before .before .before .before .pre .1 .1, stored-none (numberOfGlue (now (a .text)) (now (a .heads)) (now (a .sizes)) (a .count) (namesOf (now (a .starts)) (now (a .lengths)) (now (a .marks)))) (now (a .numbers)))
 
 shared-slice-read-number : tie.Need-shared-slice-read-number Inv-loop μ-loop
 shared-slice-read-number c = search needs
@@ -45,7 +47,9 @@ mul-numbers : tie.Need-mul-numbers Inv-loop μ-loop
 mul-numbers c = search needs
 
 slice-write-numbers : tie.Need-slice-write-numbers Inv-loop μ-loop
-slice-write-numbers c = omega (arith, ap length (c .before .before .before .before .before .loop .inv .2), stored-length (numberOfGlue (now (c .before .before .before .before .before .before .before .before .before .before .before .before .before .args .text)) (now (c .before .before .before .before .before .before .before .before .before .before .before .before .before .args .heads)) (now (c .before .before .before .before .before .before .before .before .before .before .before .before .before .args .sizes)) (c .before .before .before .before .before .before .before .before .before .before .before .before .before .args .count) (namesOf (now (c .before .before .before .before .before .before .before .before .before .before .before .before .before .args .starts)) (now (c .before .before .before .before .before .before .before .before .before .before .before .before .before .args .lengths)) (now (c .before .before .before .before .before .before .before .before .before .before .before .before .before .args .marks)))) (c .before .before .before .before .before .loop .i) (now (c .before .before .before .before .before .before .before .before .before .before .before .before .before .args .numbers)) (omega arith))
+slice-write-numbers c =
+    let a = c .before .before .before .before .before .before .before .before .before .before .before .before .before .args in
+    omega (arith, ap length (c .before .before .before .before .before .loop .inv .2), stored-length (numberOfGlue (now (a .text)) (now (a .heads)) (now (a .sizes)) (a .count) (namesOf (now (a .starts)) (now (a .lengths)) (now (a .marks)))) (c .before .before .before .before .before .loop .i) (now (a .numbers)) (omega arith))
 
 add-i : tie.Need-add-i Inv-loop μ-loop
 add-i c = search needs
@@ -55,20 +59,25 @@ loop-less c = search needs
 
 loop-again : tie.Need-loop-again Inv-loop μ-loop
 loop-again c =
-    let f = numberOfGlue (now (c .before .before .before .before .before .before .before .before .before .before .before .before .before .args .text)) (now (c .before .before .before .before .before .before .before .before .before .before .before .before .before .args .heads)) (now (c .before .before .before .before .before .before .before .before .before .before .before .before .before .args .sizes)) (c .before .before .before .before .before .before .before .before .before .before .before .before .before .args .count) (namesOf (now (c .before .before .before .before .before .before .before .before .before .before .before .before .before .args .starts)) (now (c .before .before .before .before .before .before .before .before .before .before .before .before .before .args .lengths)) (now (c .before .before .before .before .before .before .before .before .before .before .before .before .before .args .marks))) in
-    let more = stored-more f (c .before .before .before .before .before .loop .i) (now (c .before .before .before .before .before .before .before .before .before .before .before .before .before .args .numbers)) (c .number .result) (omega arith) (c .number .ensures .0) in
-    (omega arith, c .before .before .before .before .before .loop .inv .1, rw (c .before .before .before .before .before .loop .inv .2) more)
+    let a = c .before .before .before .before .before .before .before .before .before .before .before .before .before .args in
+    let l = c .before .before .before .before .before .loop in
+    let f = numberOfGlue (now (a .text)) (now (a .heads)) (now (a .sizes)) (a .count) (namesOf (now (a .starts)) (now (a .lengths)) (now (a .marks))) in
+    let more = stored-more f (l .i) (now (a .numbers)) (c .number .result) (omega arith) (c .number .ensures .0) in
+    (omega arith, l .inv .1, rw (l .inv .2) more)
 
 same-length : tie.Need-same-length Inv-loop μ-loop
-same-length c = ap length (c .before .loop .inv .2) ∙ stored-length (numberOfGlue (now (c .before .before .before .before .before .before .before .before .before .args .text)) (now (c .before .before .before .before .before .before .before .before .before .args .heads)) (now (c .before .before .before .before .before .before .before .before .before .args .sizes)) (c .before .before .before .before .before .before .before .before .before .args .count) (namesOf (now (c .before .before .before .before .before .before .before .before .before .args .starts)) (now (c .before .before .before .before .before .before .before .before .before .args .lengths)) (now (c .before .before .before .before .before .before .before .before .before .args .marks)))) (c .before .loop .i) (now (c .before .before .before .before .before .before .before .before .before .args .numbers)) (omega arith)
+same-length c =
+    let a = c .before .before .before .before .before .before .before .before .before .args in
+    ap length (c .before .loop .inv .2) ∙ stored-length (numberOfGlue (now (a .text)) (now (a .heads)) (now (a .sizes)) (a .count) (namesOf (now (a .starts)) (now (a .lengths)) (now (a .marks)))) (c .before .loop .i) (now (a .numbers)) (omega arith)
 
 returns : tie.Need-returns Inv-loop μ-loop
 unfolding gluesOf
 returns c =
-    let f = numberOfGlue (now (c .before .before .before .before .before .before .before .before .before .args .text)) (now (c .before .before .before .before .before .before .before .before .before .args .heads)) (now (c .before .before .before .before .before .before .before .before .before .args .sizes)) (c .before .before .before .before .before .before .before .before .before .args .count) (namesOf (now (c .before .before .before .before .before .before .before .before .before .args .starts)) (now (c .before .before .before .before .before .before .before .before .before .args .lengths)) (now (c .before .before .before .before .before .before .before .before .before .args .marks))) in
-    let whole = stored-whole f (c .before .loop .i) (now (c .before .before .before .before .before .before .before .before .before .args .numbers)) (omega arith) in
-    let glue = glueAt (now (c .before .before .before .before .before .before .before .before .before .args .text)) (namesOf (now (c .before .before .before .before .before .before .before .before .before .args .starts)) (now (c .before .before .before .before .before .before .before .before .before .args .lengths)) (now (c .before .before .before .before .before .before .before .before .before .args .marks))) in
-    c .before .loop .inv .2 ∙ whole ∙ ap (λ (n : ℕ). tabulate n f) (c .before .loop .inv .1) ∙ sym (map-tabulate (glueNumber (held (now (c .before .before .before .before .before .before .before .before .before .args .text)) (now (c .before .before .before .before .before .before .before .before .before .args .heads)) (now (c .before .before .before .before .before .before .before .before .before .args .sizes)) (c .before .before .before .before .before .before .before .before .before .args .count))) (length (now (c .before .before .before .before .before .before .before .before .before .args .marks))) glue)
+    let a = c .before .before .before .before .before .before .before .before .before .args in
+    let f = numberOfGlue (now (a .text)) (now (a .heads)) (now (a .sizes)) (a .count) (namesOf (now (a .starts)) (now (a .lengths)) (now (a .marks))) in
+    let whole = stored-whole f (c .before .loop .i) (now (a .numbers)) (omega arith) in
+    let glue = glueAt (now (a .text)) (namesOf (now (a .starts)) (now (a .lengths)) (now (a .marks))) in
+    c .before .loop .inv .2 ∙ whole ∙ ap (λ (n : ℕ). tabulate n f) (c .before .loop .inv .1) ∙ sym (map-tabulate (glueNumber (held (now (a .text)) (now (a .heads)) (now (a .sizes)) (a .count))) (length (now (a .marks))) glue)
 
 pub fill-numbers-spec : {M : Type 1} → statement M
 fill-numbers-spec =

@@ -20,7 +20,9 @@ abbrev μ-loop : tie.MeasureT-loop
 μ-loop text heads sizes count name k₀ k = count - k
 
 loop-holds : tie.Need-loop-holds Inv-loop μ-loop
-loop-holds c = (omega arith, below-none (λ j. sameName (now (c .before .before .before .before .args .name)) (heldAt (now (c .before .before .before .before .args .text)) (now (c .before .before .before .before .args .heads)) (now (c .before .before .before .before .args .sizes)) j) ≡ false))
+loop-holds c =
+    let a = c .before .before .before .before .args in
+    (omega arith, below-none (λ j. sameName (now (a .name)) (heldAt (now (a .text)) (now (a .heads)) (now (a .sizes)) j) ≡ false))
 
 mul-start : tie.Need-mul-start Inv-loop μ-loop
 mul-start c = search needs
@@ -37,25 +39,26 @@ shared-slice-read-end c = search needs
 add-end : tie.Need-add-end Inv-loop μ-loop
 add-end c = omega (arith, c .before .before .before .before .before .before .before .before .pre .inside (c .before .before .before .loop .k) (omega arith))
 
-sub-same-name : tie.Need-sub-same-name Inv-loop μ-loop
-sub-same-name c = search needs
+sub-same-bytes : tie.Need-sub-same-bytes Inv-loop μ-loop
+sub-same-bytes c = search needs
 
-part-same-name-start : tie.Need-part-same-name-start Inv-loop μ-loop
-part-same-name-start c = search needs
+part-same-bytes-start : tie.Need-part-same-bytes-start Inv-loop μ-loop
+part-same-bytes-start c = search needs
 
-part-same-name-end : tie.Need-part-same-name-end Inv-loop μ-loop
-part-same-name-end c = omega (arith, c .before .before .before .before .before .before .before .before .pre .inside (c .before .before .before .loop .k) (omega arith))
+part-same-bytes-end : tie.Need-part-same-bytes-end Inv-loop μ-loop
+part-same-bytes-end c = omega (arith, c .before .before .before .before .before .before .before .before .pre .inside (c .before .before .before .loop .k) (omega arith))
 
-same-name-requires : tie.Need-same-name-requires Inv-loop μ-loop
-same-name-requires c κs = search needs
+same-bytes-requires : tie.Need-same-bytes-requires Inv-loop μ-loop
+same-bytes-requires c κs = search needs
 
 returns : tie.Need-returns Inv-loop μ-loop
 unfolding held
 returns c =
+    let l = c .before .before .before .before .before .before .loop in
     let a = c .before .before .before .before .before .before .before .before .before .before .before .args in
-    let here : sameName (now (a .name)) (heldAt (now (a .text)) (now (a .heads)) (now (a .sizes)) (c .before .before .before .before .before .before .loop .k)) ≡ true =
-    ap (sameName (now (a .name))) (sym (part-is (now (a .text)) _ _)) ∙ sym (c .before .same-name .ensures) ∙ c .if1 .taken in
-    (sym (first-found (sameName (now (a .name))) (a .count) (heldAt (now (a .text)) (now (a .heads)) (now (a .sizes))) (c .before .before .before .before .before .before .loop .k) (c .before .before .before .before .before .before .loop .inv .1) (omega arith) here), omega arith)
+    let here : sameName (now (a .name)) (heldAt (now (a .text)) (now (a .heads)) (now (a .sizes)) (l .k)) ≡ true =
+    ap (sameName (now (a .name))) (sym (part-is (now (a .text)) _ _)) ∙ sym (c .before .same-bytes .ensures) ∙ c .if1 .taken in
+    (sym (first-found (sameName (now (a .name))) (a .count) (heldAt (now (a .text)) (now (a .heads)) (now (a .sizes))) (l .k) (l .inv .1) (omega arith) here), omega arith)
 
 add-k : tie.Need-add-k Inv-loop μ-loop
 add-k c = search needs
@@ -65,10 +68,11 @@ loop-less c = search needs
 
 loop-again : tie.Need-loop-again Inv-loop μ-loop
 loop-again c =
+    let l = c .before .before .before .before .before .before .loop in
     let a = c .before .before .before .before .before .before .before .before .before .before .before .args in
-    let other : sameName (now (a .name)) (heldAt (now (a .text)) (now (a .heads)) (now (a .sizes)) (c .before .before .before .before .before .before .loop .k)) ≡ false =
-    ap (sameName (now (a .name))) (sym (part-is (now (a .text)) _ _)) ∙ sym (c .before .same-name .ensures) ∙ c .if1 .left in
-    (omega arith, below-more (λ j. sameName (now (a .name)) (heldAt (now (a .text)) (now (a .heads)) (now (a .sizes)) j) ≡ false) (c .before .before .before .before .before .before .loop .k) (c .before .before .before .before .before .before .loop .inv .1) other)
+    let other : sameName (now (a .name)) (heldAt (now (a .text)) (now (a .heads)) (now (a .sizes)) (l .k)) ≡ false =
+    ap (sameName (now (a .name))) (sym (part-is (now (a .text)) _ _)) ∙ sym (c .before .same-bytes .ensures) ∙ c .if1 .left in
+    (omega arith, below-more (λ j. sameName (now (a .name)) (heldAt (now (a .text)) (now (a .heads)) (now (a .sizes)) j) ≡ false) (l .k) (l .inv .1) other)
 
 returns-2 : tie.Need-returns-2 Inv-loop μ-loop
 unfolding held
@@ -90,10 +94,10 @@ find-spec =
     mul-end
     shared-slice-read-end
     add-end
-    sub-same-name
-    part-same-name-start
-    part-same-name-end
-    same-name-requires
+    sub-same-bytes
+    part-same-bytes-start
+    part-same-bytes-end
+    same-bytes-requires
     returns
     add-k
     loop-less

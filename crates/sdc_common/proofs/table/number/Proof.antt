@@ -22,7 +22,9 @@ returns c =
     (sym (ap (glueNumber (held (now (a .text)) (now (a .heads)) (now (a .sizes)) (a .count))) (glue-absent (now (a .text)) (a .mark) (a .start) (a .length) (c .if1 .taken))), omega arith)
 
 add-end : tie.Need-add-end
-add-end c = omega (arith, present-fits (now (c .before .before .before .before .args .text)) (c .before .before .before .before .args .mark) (c .before .before .before .before .args .start) (c .before .before .before .before .args .length) (c .if1 .left) (c .before .before .before .before .pre .1))
+add-end c =
+    let a = c .before .before .before .before .args in
+    omega (arith, present-fits (now (a .text)) (a .mark) (a .start) (a .length) (c .if1 .left) (c .before .before .before .before .pre .1))
 
 sub-base-length : tie.Need-sub-base-length
 sub-base-length c = search needs
@@ -31,15 +33,18 @@ part-base-length-start : tie.Need-part-base-length-start
 part-base-length-start c = search needs
 
 part-base-length-end : tie.Need-part-base-length-end
-part-base-length-end c = omega (arith, present-fits (now (c .before .before .before .before .args .text)) (c .before .before .before .before .args .mark) (c .before .before .before .before .args .start) (c .before .before .before .before .args .length) (c .if1 .left) (c .before .before .before .before .pre .1))
+part-base-length-end c =
+    let a = c .before .before .before .before .args in
+    omega (arith, present-fits (now (a .text)) (a .mark) (a .start) (a .length) (c .if1 .left) (c .before .before .before .before .pre .1))
 
 base-length-requires : tie.Need-base-length-requires
 base-length-requires c κs = search needs
 
 add-base-end : tie.Need-add-base-end
 add-base-end c =
-    let fit = present-fits (now (c .before .before .before .before .before .before .args .text)) (c .before .before .before .before .before .before .args .mark) (c .before .before .before .before .before .before .args .start) (c .before .before .before .before .before .before .args .length) (c .before .before .if1 .left) (c .before .before .before .before .before .before .pre .1) in
-    omega (arith, fit, base-within (now (c .before .before .before .before .before .before .args .text)) (c .before .before .before .before .before .before .args .mark) (c .before .before .before .before .before .before .args .start) (c .before .before .before .before .before .before .args .length) (c .base-length .result) fit (c .base-length .ensures .0))
+    let a = c .before .before .before .before .before .before .args in
+    let fit = present-fits (now (a .text)) (a .mark) (a .start) (a .length) (c .before .before .if1 .left) (c .before .before .before .before .before .before .pre .1) in
+    omega (arith, fit, base-within (now (a .text)) (a .mark) (a .start) (a .length) (c .base-length .result) fit (c .base-length .ensures .0))
 
 sub-find : tie.Need-sub-find
 sub-find c = search needs
@@ -49,8 +54,9 @@ part-find-start c = search needs
 
 part-find-end : tie.Need-part-find-end
 part-find-end c =
-    let fit = present-fits (now (c .before .before .before .before .before .before .args .text)) (c .before .before .before .before .before .before .args .mark) (c .before .before .before .before .before .before .args .start) (c .before .before .before .before .before .before .args .length) (c .before .before .if1 .left) (c .before .before .before .before .before .before .pre .1) in
-    omega (arith, fit, base-within (now (c .before .before .before .before .before .before .args .text)) (c .before .before .before .before .before .before .args .mark) (c .before .before .before .before .before .before .args .start) (c .before .before .before .before .before .before .args .length) (c .base-length .result) fit (c .base-length .ensures .0))
+    let a = c .before .before .before .before .before .before .args in
+    let fit = present-fits (now (a .text)) (a .mark) (a .start) (a .length) (c .before .before .if1 .left) (c .before .before .before .before .before .before .pre .1) in
+    omega (arith, fit, base-within (now (a .text)) (a .mark) (a .start) (a .length) (c .base-length .result) fit (c .base-length .ensures .0))
 
 find-requires : tie.Need-find-requires
 find-requires c κs = search needs

@@ -7,8 +7,8 @@ use Rattle.sheet.specs.declared.faults.SheetAnswer.the-variants.{NameTwi
 use Rattle.sheet.proofs.faults.fault_at.Statement.{statement}
 use Rattle.sheet.proofs.faults.fault_at.Tie as tie
 
-line-of-requires : tie.Need-line-of-requires
-line-of-requires c κs = search needs
+place-at-requires : tie.Need-place-at-requires
+place-at-requires c κs = search needs
 
 is-name-twice-requires : tie.Need-is-name-twice-requires
 is-name-twice-requires c κs = search needs
@@ -18,7 +18,7 @@ word-of-requires c κs = search needs
 
 returns : tie.Need-returns
 unfolding faultAt
-returns c = rw (sym (c .before .before .is-name-twice .ensures) ∙ c .before .if1 .taken) (ap₂ NameTwice (c .before .before .before .line-of .ensures) (c .word-of .ensures))
+returns c = rw (sym (c .before .before .is-name-twice .ensures) ∙ c .before .if1 .taken) (ap₂ NameTwice (c .before .before .before .place-at .ensures) (c .word-of .ensures))
 
 shared-slice-read-group-of : tie.Need-shared-slice-read-group-of
 shared-slice-read-group-of c = search needs
@@ -33,19 +33,19 @@ returns-2 : tie.Need-returns-2
 unfolding faultAt
 returns-2 c =
     let limit = c .before .limit-of .ensures ∙ ap limitOf (c .before .before .group-of .ensures) in
-    rw (sym (c .before .before .before .before .before .is-name-twice .ensures) ∙ c .before .before .before .before .if1 .left, eq-eqb _ _ (sym limit ∙ c .if2 .taken)) (ap₂ GivenTwice (c .before .before .before .before .before .before .line-of .ensures) (c .before .before .group-of .ensures))
+    rw (sym (c .before .before .before .before .before .is-name-twice .ensures) ∙ c .before .before .before .before .if1 .left, eq-eqb _ _ (sym limit ∙ c .if2 .taken)) (ap₂ GivenTwice (c .before .before .before .before .before .before .place-at .ensures) (c .before .before .group-of .ensures))
 
 returns-3 : tie.Need-returns-3
 unfolding faultAt
 returns-3 c =
     let limit = c .before .limit-of .ensures ∙ ap limitOf (c .before .before .group-of .ensures) in
-    rw (sym (c .before .before .before .before .before .is-name-twice .ensures) ∙ c .before .before .before .before .if1 .left, ne-eqb _ _ (λ e. c .if2 .left (limit ∙ e))) (ap₂ TooMany (c .before .before .before .before .before .before .line-of .ensures) (c .before .before .group-of .ensures))
+    rw (sym (c .before .before .before .before .before .is-name-twice .ensures) ∙ c .before .before .before .before .if1 .left, ne-eqb _ _ (λ e. c .if2 .left (limit ∙ e))) (ap₂ TooMany (c .before .before .before .before .before .before .place-at .ensures) (c .before .before .group-of .ensures))
 
 pub fault-at-spec : {M : Type 1} → statement M
 fault-at-spec =
     tie.close
     (tie.spec
-    line-of-requires
+    place-at-requires
     is-name-twice-requires
     word-of-requires
     returns

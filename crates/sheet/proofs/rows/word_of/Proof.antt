@@ -1,18 +1,23 @@
--- `sheet::rows::word_of` meets its contract. Assumes nothing.
+-- `sheet::rows::word_of` meets its contract: a row or a word beyond the slice is none. Assumes nothing.
 use borrow.Author.Needs.{needs}
-use mathlib.Core.Path.{sym, ap, ap₂}
-use Prim.Native.Nat.{_+_, _*_}
+use mathlib.Core.Path.{_≡_, sym, ap₂}
+use mathlib.Core.List.{List}
+use Prim.Native.Nat.{ℕ, _+_, _*_, _≤_}
 use native.Mathlib.Omega.{arith}
-use lib.ListN.{getD, List·getD-eq-default}
+use lib.ListN.{length, List·getD-eq-default}
 use Rattle.statements.specs.Words.{wordAt}
+use Rattle.sheet.specs.Rows.{wordOf}
 use Rattle.sheet.proofs.rows.word_of.Statement.{statement}
 use Rattle.sheet.proofs.rows.word_of.Tie as tie
 
+none : (words : List ℕ) (row j : ℕ) → length words ≤ 8 * row + 2 * j → wordAt 0 0 ≡ wordOf words row j
+none words row j h = ap₂ wordAt (sym (List·getD-eq-default words 0 {n = 8 * row + 2 * j} h)) (sym (List·getD-eq-default words 0 {n = 8 * row + 2 * j + 1} (omega arith)))
+
 returns : tie.Need-returns
-returns c =
-    let a = c .before .args in
-    let at = 8 * a .row + 2 * a .j in
-    ap₂ wordAt (sym (List·getD-eq-default (a .words .now) 0 {n = at} (omega arith))) (sym (List·getD-eq-default (a .words .now) 0 {n = at + 1} (omega arith)))
+returns c = let a = c .before .before .args in none (a .words .now) (a .row) (a .j) (omega arith)
+
+returns-2 : tie.Need-returns-2
+returns-2 c = let a = c .before .before .before .args in none (a .words .now) (a .row) (a .j) (omega arith)
 
 mul-at : tie.Need-mul-at
 mul-at c = search needs
@@ -23,61 +28,28 @@ mul-at-2 c = search needs
 add-at : tie.Need-add-at
 add-at c = search needs
 
-returns-2 : tie.Need-returns-2
-returns-2 c =
-    let a = c .before .before .args in
-    let at = 8 * a .row + 2 * a .j in
-    ap₂ wordAt (sym (List·getD-eq-default (a .words .now) 0 {n = at} (omega arith))) (sym (List·getD-eq-default (a .words .now) 0 {n = at + 1} (omega arith)))
+place-at-requires : tie.Need-place-at-requires
+place-at-requires c κs = search needs
 
-add-if3 : tie.Need-add-if3
-add-if3 c = search needs
+add-place-at : tie.Need-add-place-at
+add-place-at c = search needs
 
-mul-t8 : tie.Need-mul-t8
-mul-t8 c = search needs
-
-shared-slice-read-t10 : tie.Need-shared-slice-read-t10
-shared-slice-read-t10 c = search needs
+place-at-requires-2 : tie.Need-place-at-requires-2
+place-at-requires-2 c κs = search needs
 
 returns-3 : tie.Need-returns-3
-returns-3 c =
-    let a = c .before .before .before .before .args in
-    let at = 8 * a .row + 2 * a .j in
-    ap (wordAt (getD (a .words .now) at 0)) (sym (List·getD-eq-default (a .words .now) 0 {n = at + 1} (omega arith)))
-
-mul-t6 : tie.Need-mul-t6
-mul-t6 c = search needs
-
-shared-slice-read-t5 : tie.Need-shared-slice-read-t5
-shared-slice-read-t5 c = search needs
-
-add-t12 : tie.Need-add-t12
-add-t12 c = search needs
-
-mul-t13 : tie.Need-mul-t13
-mul-t13 c = search needs
-
-shared-slice-read-t15 : tie.Need-shared-slice-read-t15
-shared-slice-read-t15 c = search needs
-
-returns-4 : tie.Need-returns-4
-returns-4 c = search needs
+returns-3 c = ap₂ wordAt (c .before .place-at .ensures) (c .place-at2 .ensures)
 
 pub word-of-spec : {M : Type 1} → statement M
 word-of-spec =
     tie.close
     (tie.spec
     returns
+    returns-2
     mul-at
     mul-at-2
     add-at
-    returns-2
-    add-if3
-    mul-t8
-    shared-slice-read-t10
-    returns-3
-    mul-t6
-    shared-slice-read-t5
-    add-t12
-    mul-t13
-    shared-slice-read-t15
-    returns-4)
+    place-at-requires
+    add-place-at
+    place-at-requires-2
+    returns-3)

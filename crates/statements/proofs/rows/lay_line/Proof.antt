@@ -22,13 +22,15 @@ enum-told-2 c = search needs
 lay-row-requires : tie.Need-lay-row-requires
 unfolding rowsBy
 lay-row-requires c κs =
-    let one = ap length (rows-by (now (c .before .before .before .before .before .before .before .before .before .before .before .before .args .line)) (c .before .before .before .before .before .before .before .before .before .before .before .before .args .at) (c .before .before .before .before .before .before .statement-of .result) (c .before .before .before .before .before .before .statement-of .ensures) _ (c .before .before .before .before .enum-told2 .given .1) (c .before .before .before .before .before .before .before .before .before .before .before .before .args .number)) in
+    let a = c .before .before .before .before .before .before .before .before .before .before .before .before .args in
+    let one = ap length (rows-by (now (a .line)) (a .at) (c .before .before .before .before .before .before .statement-of .result) (c .before .before .before .before .before .before .statement-of .ensures) _ (c .before .before .before .before .enum-told2 .given .1) (a .number)) in
     (c .before .before .before .before .before .before .before .before .before .before .before .before .pre .0, omega (arith, c .before .before .before .before .before .before .before .before .before .before .before .before .pre .1))
 
 add-result : tie.Need-add-result
 unfolding rowsBy
 add-result c =
-    let one = ap length (rows-by (now (c .before .before .before .before .before .before .before .before .before .before .before .before .before .before .before .before .before .before .before .before .before .args .line)) (c .before .before .before .before .before .before .before .before .before .before .before .before .before .before .before .before .before .before .before .before .before .args .at) (c .before .before .before .before .before .before .before .before .before .before .before .before .before .before .before .statement-of .result) (c .before .before .before .before .before .before .before .before .before .before .before .before .before .before .before .statement-of .ensures) _ (c .before .before .before .before .before .before .before .before .before .before .before .before .before .enum-told2 .given .1) (c .before .before .before .before .before .before .before .before .before .before .before .before .before .before .before .before .before .before .before .before .before .args .number)) in
+    let a = c .before .before .before .before .before .before .before .before .before .before .before .before .before .before .before .before .before .before .before .before .before .args in
+    let one = ap length (rows-by (now (a .line)) (a .at) (c .before .before .before .before .before .before .before .before .before .before .before .before .before .before .before .statement-of .result) (c .before .before .before .before .before .before .before .before .before .before .before .before .before .before .before .statement-of .ensures) _ (c .before .before .before .before .before .before .before .before .before .before .before .before .before .enum-told2 .given .1) (a .number)) in
     omega (arith, c .before .before .before .before .before .before .before .before .before .before .before .before .before .before .before .before .before .before .before .before .before .good, c .before .before .before .before .before .before .before .before .before .before .before .before .before .before .before .before .before .before .before .before .before .pre .1)
 
 enum-known-outcome : tie.Need-enum-known-outcome
@@ -37,8 +39,9 @@ enum-known-outcome c = search needs
 lay-positions-requires : tie.Need-lay-positions-requires
 unfolding rowsBy
 lay-positions-requires c κs =
-    let each = ap length (rows-by (now (c .before .before .before .before .before .before .before .before .before .before .before .before .before .args .line)) (c .before .before .before .before .before .before .before .before .before .before .before .before .before .args .at) (c .before .before .before .before .before .before .before .statement-of .result) (c .before .before .before .before .before .before .before .statement-of .ensures) _ (c .before .before .before .before .before .outcome .given .1) (c .before .before .before .before .before .before .before .before .before .before .before .before .before .args .number)) in
-    let as-many = length-map (wordsIn (now (c .before .before .before .before .before .before .before .before .before .before .before .before .before .args .line)) (c .before .before .before .before .before .outcome .given .0 .0)) (positionRow (now (c .before .before .before .before .before .before .before .before .before .before .before .before .before .args .line)) (c .before .before .before .before .before .before .before .before .before .before .before .before .before .args .number)) in
+    let a = c .before .before .before .before .before .before .before .before .before .before .before .before .before .args in
+    let each = ap length (rows-by (now (a .line)) (a .at) (c .before .before .before .before .before .before .before .statement-of .result) (c .before .before .before .before .before .before .before .statement-of .ensures) _ (c .before .before .before .before .before .outcome .given .1) (a .number)) in
+    let as-many = length-map (wordsIn (now (a .line)) (c .before .before .before .before .before .outcome .given .0 .0)) (positionRow (now (a .line)) (a .number)) in
     (c .before .before .before .before .before .before .before .before .before .before .before .before .before .pre .0, omega (arith, c .before .before .before .before .before .before .before .before .before .before .before .before .before .pre .1))
 
 enum-told-3 : tie.Need-enum-told-3
@@ -47,7 +50,8 @@ enum-told-3 c = search needs
 returns : tie.Need-returns
 unfolding rowsBy laid
 returns c =
-    let none = rows-by (now (c .before .before .before .before .before .before .before .before .args .line)) (c .before .before .before .before .before .before .before .before .args .at) (c .before .before .statement-of .result) (c .before .before .statement-of .ensures) _ (c .enum-told .given .1) (c .before .before .before .before .before .before .before .before .args .number) in
+    let a = c .before .before .before .before .before .before .before .before .args in
+    let none = rows-by (now (a .line)) (a .at) (c .before .before .statement-of .result) (c .before .before .statement-of .ensures) _ (c .enum-told .given .1) (a .number) in
     let count = ap length none in
     (omega arith, rw (sym none))
 
@@ -66,7 +70,8 @@ same-length-4 c = search needs
 returns-2 : tie.Need-returns-2
 unfolding rowsBy laid
 returns-2 c =
-    let one = rows-by (now (c .before .before .before .before .before .before .before .before .before .before .before .before .before .before .before .before .before .before .before .before .before .args .line)) (c .before .before .before .before .before .before .before .before .before .before .before .before .before .before .before .before .before .before .before .before .before .args .at) (c .before .before .before .before .before .before .before .before .before .before .before .before .before .before .before .statement-of .result) (c .before .before .before .before .before .before .before .before .before .before .before .before .before .before .before .statement-of .ensures) _ (c .before .before .before .before .before .before .before .before .before .before .before .before .before .enum-told2 .given .1) (c .before .before .before .before .before .before .before .before .before .before .before .before .before .before .before .before .before .before .before .before .before .args .number) in
+    let a = c .before .before .before .before .before .before .before .before .before .before .before .before .before .before .before .before .before .before .before .before .before .args in
+    let one = rows-by (now (a .line)) (a .at) (c .before .before .before .before .before .before .before .before .before .before .before .before .before .before .before .statement-of .result) (c .before .before .before .before .before .before .before .before .before .before .before .before .before .before .before .statement-of .ensures) _ (c .before .before .before .before .before .before .before .before .before .before .before .before .before .enum-told2 .given .1) (a .number) in
     let count = ap length one in
     (omega arith, rw (sym one) (c .before .before .before .before .before .before .before .before .lay-row .ensures))
 
@@ -85,15 +90,17 @@ same-length-8 c = search needs
 returns-3 : tie.Need-returns-3
 unfolding rowsBy
 returns-3 c =
-    let each = rows-by (now (c .before .before .before .before .before .before .before .before .before .before .before .before .before .before .before .before .before .before .before .before .before .before .args .line)) (c .before .before .before .before .before .before .before .before .before .before .before .before .before .before .before .before .before .before .before .before .before .before .args .at) (c .before .before .before .before .before .before .before .before .before .before .before .before .before .before .before .before .statement-of .result) (c .before .before .before .before .before .before .before .before .before .before .before .before .before .before .before .before .statement-of .ensures) _ (c .before .before .before .before .before .before .before .before .before .before .before .before .before .before .outcome .given .1) (c .before .before .before .before .before .before .before .before .before .before .before .before .before .before .before .before .before .before .before .before .before .before .args .number) in
+    let a = c .before .before .before .before .before .before .before .before .before .before .before .before .before .before .before .before .before .before .before .before .before .before .args in
+    let each = rows-by (now (a .line)) (a .at) (c .before .before .before .before .before .before .before .before .before .before .before .before .before .before .before .before .statement-of .result) (c .before .before .before .before .before .before .before .before .before .before .before .before .before .before .before .before .statement-of .ensures) _ (c .before .before .before .before .before .before .before .before .before .before .before .before .before .before .outcome .given .1) (a .number) in
     let count = ap length each in
-    let as-many = length-map (wordsIn (now (c .before .before .before .before .before .before .before .before .before .before .before .before .before .before .before .before .before .before .before .before .before .before .args .line)) (c .before .before .before .before .before .before .before .before .before .before .before .before .before .before .outcome .given .0 .0)) (positionRow (now (c .before .before .before .before .before .before .before .before .before .before .before .before .before .before .before .before .before .before .before .before .before .before .args .line)) (c .before .before .before .before .before .before .before .before .before .before .before .before .before .before .before .before .before .before .before .before .before .before .args .number)) in
+    let as-many = length-map (wordsIn (now (a .line)) (c .before .before .before .before .before .before .before .before .before .before .before .before .before .before .outcome .given .0 .0)) (positionRow (now (a .line)) (a .number)) in
     (omega arith, rw (sym each) (c .before .before .before .before .before .before .before .before .lay-positions .ensures .1))
 
 returns-4 : tie.Need-returns-4
 unfolding rowsBy laid
 returns-4 c =
-    let none = rows-by (now (c .before .before .before .before .before .before .before .before .args .line)) (c .before .before .before .before .before .before .before .before .args .at) (c .before .before .statement-of .result) (c .before .before .statement-of .ensures) _ (c .enum-told3 .given .1) (c .before .before .before .before .before .before .before .before .args .number) in
+    let a = c .before .before .before .before .before .before .before .before .args in
+    let none = rows-by (now (a .line)) (a .at) (c .before .before .statement-of .result) (c .before .before .statement-of .ensures) _ (c .enum-told3 .given .1) (a .number) in
     let count = ap length none in
     (omega arith, rw (sym none))
 

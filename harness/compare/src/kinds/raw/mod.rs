@@ -47,11 +47,7 @@ impl Kind for RawDesigns {
                 true => Shape::middling(random),
                 false => Shape::small(random),
             };
-            let ambient = Ambient {
-                rt: random.double(0.125, 8.0),
-                strand_excess: random.double(-1024.0, 1024.0),
-                scaffold_excess: random.double(-1024.0, 1024.0),
-            };
+            let ambient = Ambient::any(random);
             let sort = random.pick(&SORTS);
             let mut lent = design(random, sort, &shape, ambient);
             for _ in 0..random.below(4) {

@@ -21,11 +21,11 @@ put-number-requires c κs = subst InRow (c .before .before .item .given .1) (c .
 enum-known-item-2 : tie.Need-enum-known-item-2
 enum-known-item-2 c = search needs
 
-slice-aggregate-spells : tie.Need-slice-aggregate-spells
-slice-aggregate-spells c = search needs
+slice-aggregate-same-bytes : tie.Need-slice-aggregate-same-bytes
+slice-aggregate-same-bytes c = search needs
 
-spells-requires : tie.Need-spells-requires
-spells-requires c κs = search needs
+same-bytes-requires : tie.Need-same-bytes-requires
+same-bytes-requires c κs = search needs
 
 without-requires : tie.Need-without-requires
 without-requires c κs = search needs
@@ -33,7 +33,7 @@ without-requires c κs = search needs
 returns : tie.Need-returns
 unfolding accepted
 returns c =
-    let dash : sameName (now (c .before .before .before .before .before .before .before .before .args .bytes)) dashBytes ≡ true = sym (c .before .before .spells .ensures) ∙ c .before .if1 .taken in
+    let dash : sameName (now (c .before .before .before .before .before .before .before .before .args .bytes)) dashBytes ≡ true = sym (c .before .before .same-bytes .ensures) ∙ c .before .if1 .taken in
     rw (c .before .before .before .before .before .item2 .given .1) (simp dash (c .without .ensures))
 
 put-requires : tie.Need-put-requires
@@ -42,11 +42,11 @@ put-requires c κs = subst InRow (c .before .before .before .before .item2 .give
 enum-known-item-3 : tie.Need-enum-known-item-3
 enum-known-item-3 c = search needs
 
-slice-aggregate-spells-2 : tie.Need-slice-aggregate-spells-2
-slice-aggregate-spells-2 c = search needs
+slice-aggregate-same-bytes-2 : tie.Need-slice-aggregate-same-bytes-2
+slice-aggregate-same-bytes-2 c = search needs
 
-spells-requires-2 : tie.Need-spells-requires-2
-spells-requires-2 c κs = search needs
+same-bytes-requires-2 : tie.Need-same-bytes-requires-2
+same-bytes-requires-2 c κs = search needs
 
 put-requires-2 : tie.Need-put-requires-2
 put-requires-2 c κs = subst InRow (c .before .before .before .before .item3 .given .1) (c .before .before .before .before .before .before .before .pre)
@@ -54,7 +54,7 @@ put-requires-2 c κs = subst InRow (c .before .before .before .before .item3 .gi
 returns-2 : tie.Need-returns-2
 unfolding accepted
 returns-2 c =
-    let dash : sameName (now (c .before .before .before .before .before .before .before .before .args .bytes)) dashBytes ≡ true = sym (c .before .before .spells2 .ensures) ∙ c .before .if2 .taken in
+    let dash : sameName (now (c .before .before .before .before .before .before .before .before .args .bytes)) dashBytes ≡ true = sym (c .before .before .same-bytes2 .ensures) ∙ c .before .if2 .taken in
     rw (c .before .before .before .before .before .item3 .given .1) (simp dash (c .put2 .ensures))
 
 put-requires-3 : tie.Need-put-requires-3
@@ -75,16 +75,16 @@ dg-or-seq-requires c κs = search needs
 enum-told-2 : tie.Need-enum-told-2
 enum-told-2 c = search needs
 
-slice-aggregate-spells-3 : tie.Need-slice-aggregate-spells-3
-slice-aggregate-spells-3 c = search needs
+slice-aggregate-same-bytes-3 : tie.Need-slice-aggregate-same-bytes-3
+slice-aggregate-same-bytes-3 c = search needs
 
-spells-requires-3 : tie.Need-spells-requires-3
-spells-requires-3 c κs = search needs
+same-bytes-requires-3 : tie.Need-same-bytes-requires-3
+same-bytes-requires-3 c κs = search needs
 
 returns-3 : tie.Need-returns-3
 unfolding accepted
 returns-3 c =
-    let ds : sameName (now (c .before .before .before .before .before .before .args .bytes)) dsBytes ≡ true = sym (c .before .spells3 .ensures) ∙ c .if3 .taken in
+    let ds : sameName (now (c .before .before .before .before .before .before .args .bytes)) dsBytes ≡ true = sym (c .before .same-bytes3 .ensures) ∙ c .if3 .taken in
     rw (c .before .before .before .enum-told2 .given .1) (simp ds)
 
 without-requires-2 : tie.Need-without-requires-2
@@ -103,13 +103,13 @@ returns-4 c = rw (c .before .before .before .item .given .1, sym (c .before .rea
 returns-5 : tie.Need-returns-5
 unfolding accepted
 returns-5 c =
-    let dash : sameName (now (c .before .before .before .before .before .before .before .before .args .bytes)) dashBytes ≡ false = sym (c .before .before .spells .ensures) ∙ c .before .if1 .left in
+    let dash : sameName (now (c .before .before .before .before .before .before .before .before .args .bytes)) dashBytes ≡ false = sym (c .before .before .same-bytes .ensures) ∙ c .before .if1 .left in
     rw (c .before .before .before .before .before .item2 .given .1) (simp dash (c .put .ensures))
 
 returns-6 : tie.Need-returns-6
 unfolding accepted
 returns-6 c =
-    let dash : sameName (now (c .before .before .before .before .before .before .before .before .args .bytes)) dashBytes ≡ false = sym (c .before .before .spells2 .ensures) ∙ c .before .if2 .left in
+    let dash : sameName (now (c .before .before .before .before .before .before .before .before .args .bytes)) dashBytes ≡ false = sym (c .before .before .same-bytes2 .ensures) ∙ c .before .if2 .left in
     rw (c .before .before .before .before .before .item3 .given .1) (simp dash (c .put3 .ensures))
 
 returns-7 : tie.Need-returns-7
@@ -122,7 +122,7 @@ returns-8 c = rw (c .before .enum-told .given .1) (c .dg-or-seq .ensures)
 returns-9 : tie.Need-returns-9
 unfolding accepted
 returns-9 c =
-    let ds : sameName (now (c .before .before .before .before .before .before .before .args .bytes)) dsBytes ≡ false = sym (c .before .before .spells3 .ensures) ∙ c .before .if3 .left in
+    let ds : sameName (now (c .before .before .before .before .before .before .before .args .bytes)) dsBytes ≡ false = sym (c .before .before .same-bytes3 .ensures) ∙ c .before .if3 .left in
     rw (c .before .before .before .before .enum-told2 .given .1) (simp ds (c .without2 .ensures))
 
 returns-10 : tie.Need-returns-10
@@ -137,14 +137,14 @@ accept-spec =
     read-number-requires
     put-number-requires
     enum-known-item-2
-    slice-aggregate-spells
-    spells-requires
+    slice-aggregate-same-bytes
+    same-bytes-requires
     without-requires
     returns
     put-requires
     enum-known-item-3
-    slice-aggregate-spells-2
-    spells-requires-2
+    slice-aggregate-same-bytes-2
+    same-bytes-requires-2
     put-requires-2
     returns-2
     put-requires-3
@@ -153,8 +153,8 @@ accept-spec =
     enum-told
     dg-or-seq-requires
     enum-told-2
-    slice-aggregate-spells-3
-    spells-requires-3
+    slice-aggregate-same-bytes-3
+    same-bytes-requires-3
     returns-3
     without-requires-2
     enum-told-3

@@ -1,12 +1,12 @@
--- `decimals::reading::double` meets its contract: the patterns above that of infinity, the sign aside, are those of a NaN. Assumes nothing.
+-- `doubles::double` meets its contract: the patterns above that of infinity, the sign aside, are those of a NaN. Assumes nothing.
 use mathlib.Core.Path.{_≡_, refl, sym, _∙_}
 use mathlib.Core.Bool.{true, false, false≢true}
 use lib.Ieee.{Float, nan, inf, fin, binary64, isNan, nanBits, ofBits, div}
 use lib.Ieee.Bits.{nanBits-is, nanBits-above}
 use borrow.Author.Needs.{needs}
 use borrow.Author.Tests.{lt-ltb, le-ltb}
-use Rattle.decimals.proofs.reading.double.Statement.{statement}
-use Rattle.decimals.proofs.reading.double.Tie as tie
+use Rattle.doubles.proofs.double.Statement.{statement}
+use Rattle.doubles.proofs.double.Tie as tie
 
 is-nan : (x : Float) → isNan x ≡ true → x ≡ nan
 unfolding isNan
