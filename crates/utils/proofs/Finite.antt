@@ -11,7 +11,7 @@ use lib.Ieee.{Float, binary64, add, fits}
 use borrow.Author.Tests.{ltb-true, ltb-false}
 use Rattle.lists.specs.Find.{any}
 use Rattle.lists.specs.Fold.{foldl}
-use Rattle.lists.proofs.Any.{neither}
+use Rattle.lists.proofs.Tests.{neither}
 use Rattle.lists.proofs.Each.{each-all, each-map}
 use Rattle.doubles.specs.Decimal as Decimal
 use Rattle.doubles.specs.Sum.{sumFrom}
