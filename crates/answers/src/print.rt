@@ -11,7 +11,7 @@ pub enum Style {
 }
 
 // Writes to standard output.
-pub fn print(text: &[u8]) {
+pub(crate) fn print(text: &[u8]) {
     io::write_all(STDOUT_FILENO, text);
 }
 
@@ -23,21 +23,21 @@ fn print_made(made: Printed, text: &[u8]) {
 }
 
 // A number of things.
-pub fn print_count(n: usize) {
+pub(crate) fn print_count(n: usize) {
     let mut text = [0u8; 20];
     let made = decimals::write_count(n as u64, &mut text);
     print_made(made, &text);
 }
 
 // The last digits of a number in hexadecimal.
-pub fn print_hex(n: u64, digits: usize) {
+pub(crate) fn print_hex(n: u64, digits: usize) {
     let mut text = [0u8; 16];
     let made = decimals::write_hex(n, digits, &mut text);
     print_made(made, &text);
 }
 
 // A number to six places.
-pub fn print_fixed(x: f64) {
+pub(crate) fn print_fixed(x: f64) {
     let mut text = [0u8; 32];
     let made = decimals::write_fixed(x, &mut text);
     print_made(made, &text);
@@ -93,7 +93,7 @@ fn print_run(bytes: &[u8], at: usize, style: Style) -> usize {
 }
 
 // Bytes of a file, or of its name. A run has a byte at least, so there are turns enough.
-pub fn print_bytes(bytes: &[u8], style: Style) {
+pub(crate) fn print_bytes(bytes: &[u8], style: Style) {
     let mut at = 0;
     for turn in 0..bytes.len() {
         if bytes.len() <= at {
@@ -104,7 +104,7 @@ pub fn print_bytes(bytes: &[u8], style: Style) {
 }
 
 // How wide bytes are as people get them.
-pub fn width(bytes: &[u8]) -> usize {
+pub(crate) fn width(bytes: &[u8]) -> usize {
     let mut sum = 0;
     for i in 0..bytes.len() {
         sum = std::num::wrapping_add_usize(sum, byte_width(byte_at(bytes, i)));
@@ -121,7 +121,7 @@ fn byte_width(byte: u8) -> usize {
 }
 
 // So many blanks.
-pub fn print_blanks(n: usize) {
+pub(crate) fn print_blanks(n: usize) {
     for i in 0..n {
         print(b" ");
     }

@@ -145,7 +145,7 @@ fn print_refusal_reason(why: Why) {
 }
 
 // The reason, and what to do.
-pub fn print_reason(why: Why) {
+pub(crate) fn print_reason(why: Why) {
     match why {
         Why::Line(reason) => print_line_reason(reason),
         Why::NoSuchFile | Why::IsAFolder | Why::NotAllowed | Why::ReadFailed | Why::TooLong => {

@@ -1,8 +1,8 @@
 // The design of a file's rows, and of beginnings of them.
-use answers::reads;
-use answers::reads::first_bytes;
-use answers::reads::first_numbers;
-use answers::reads::first_places;
+use crate::reads;
+use crate::reads::first_bytes;
+use crate::reads::first_numbers;
+use crate::reads::first_places;
 use reply::Refusal;
 use reply::Reply;
 use sdc_common::strand_glues;

@@ -1,5 +1,5 @@
 // A file's bytes, or why they can't be had.
-use answers::reads::tail;
+use crate::reads::tail;
 use answers::reasons::Why;
 
 // What became of a file that was to be read.

@@ -6,6 +6,7 @@ mod build;
 mod file;
 mod lines;
 mod place;
+mod reads;
 mod report;
 mod settle;
 mod unfit;
@@ -14,10 +15,10 @@ ghost use mathlib.Core.Path.{_≡_};
 ghost use lib.ListN.{length};
 use answers::Spot;
 use answers::print::Style;
-use answers::reads::first_bytes;
 use answers::reasons::Why;
 use answers::unreadable;
 use file::FileRead;
+use reads::first_bytes;
 
 // Where the script waits for the status.
 const STATUS: i32 = 3;

@@ -1,9 +1,9 @@
 // What is printed of a settled design, gathered from its rows.
+use crate::reads;
+use crate::reads::first_places;
+use crate::reads::first_words;
 use answers::States;
 use answers::print::Style;
-use answers::reads;
-use answers::reads::first_places;
-use answers::reads::first_words;
 use answers::settled;
 use deck::DeckWritten;
 use sdc1d::CountAnswer;

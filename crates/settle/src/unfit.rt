@@ -3,7 +3,7 @@ use crate::place::Found;
 use crate::place::at_row;
 use crate::place::on_line;
 use crate::place::row_of;
-use answers::reads::first_numbers;
+use crate::reads::first_numbers;
 use answers::reasons::Why;
 use design::checks::design_reply;
 use design::reads::number_at;
