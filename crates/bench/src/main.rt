@@ -147,7 +147,7 @@ fn states_of(scaffold: &[u8]) -> CountAnswer {
 fn is_built(reply: Reply) -> bool {
     match reply {
         Reply::Admitted => true,
-        Reply::Refused(_) => false,
+        Reply::Refused(_, _) => false,
     }
 }
 
@@ -155,7 +155,7 @@ fn is_built(reply: Reply) -> bool {
 fn is_too_many_glues(reply: Reply) -> bool {
     match reply {
         Reply::Admitted => false,
-        Reply::Refused(given) => given.number() == Refusal::TooManyGlues.number(),
+        Reply::Refused(given, _) => given.number() == Refusal::TooManyGlues.number(),
     }
 }
 

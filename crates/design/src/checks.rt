@@ -5,6 +5,7 @@ use super::reads::bottom_glue;
 use super::reads::east_glue;
 use super::reads::potential_of;
 use super::reads::west_glue;
+use reply::Place;
 use reply::Refusal;
 use reply::Reply;
 use units::Ambient;
@@ -196,20 +197,20 @@ pub fn design_reply(
     ensures { λ r. ⌜ r ≡ firstOf (designChecks false (lent (scaffold .entry) (glues .entry) (dg .entry) (ds .entry) (potentials .entry) ambient) []) ⌝ }
 {
     if wrong_sizes(scaffold, glues, dg, ds, potentials) {
-        return Reply::Refused(Refusal::WrongSize);
+        return Reply::Refused(Refusal::WrongSize, Place::Nowhere);
     }
     if cells_out(dg, ds) {
-        return Reply::Refused(Refusal::OutOfRange);
+        return Reply::Refused(Refusal::OutOfRange, Place::Nowhere);
     }
     if ambient_out(ambient) {
-        return Reply::Refused(Refusal::OutOfRange);
+        return Reply::Refused(Refusal::OutOfRange, Place::Nowhere);
     }
     let strands = potentials.len() as u8;
     if first_unfit(scaffold, glues, dg, ds, potentials, strands) < strands {
-        return Reply::Refused(Refusal::OutOfRange);
+        return Reply::Refused(Refusal::OutOfRange, Place::Nowhere);
     }
     if null_binds(glues, dg, ds) {
-        return Reply::Refused(Refusal::NullBinds);
+        return Reply::Refused(Refusal::NullBinds, Place::Nowhere);
     }
     Reply::Admitted
 }

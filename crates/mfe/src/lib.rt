@@ -37,7 +37,7 @@ pub fn mfe_configuration(
         return Settled::Refused(Refusal::WrongSize, Place::Nowhere);
     }
     match design::checks::design_reply(scaffold, glues, dg, ds, potentials, ambient) {
-        Reply::Refused(refusal) => Settled::Refused(refusal, Place::Nowhere),
+        Reply::Refused(refusal, _) => Settled::Refused(refusal, Place::Nowhere),
         Reply::Admitted => {
             let strands = potentials.len();
             let mut strand_bonds = [0.0; 4096];

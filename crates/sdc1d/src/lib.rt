@@ -82,7 +82,7 @@ pub fn bond_between_strands(
         return BondAnswer::Refused(Refusal::WrongSize, Place::Nowhere);
     }
     match design_reply(scaffold, glues, dg, ds, potentials, ambient) {
-        Reply::Refused(refusal) => BondAnswer::Refused(refusal, Place::Nowhere),
+        Reply::Refused(refusal, _) => BondAnswer::Refused(refusal, Place::Nowhere),
         Reply::Admitted => BondAnswer::Bond(strand_bond(glues, dg, ds, ambient, x, y)),
     }
 }
@@ -108,7 +108,7 @@ pub fn bond_with_scaffold(
     }
     let glue = scaffold[position];
     match design_reply(scaffold, glues, dg, ds, potentials, ambient) {
-        Reply::Refused(refusal) => BondAnswer::Refused(refusal, Place::Nowhere),
+        Reply::Refused(refusal, _) => BondAnswer::Refused(refusal, Place::Nowhere),
         Reply::Admitted => BondAnswer::Bond(scaffold_bond(glue, glues, dg, ds, ambient, strand)),
     }
 }
@@ -135,7 +135,7 @@ pub fn friends_btm(
     }
     let glue = scaffold[position];
     match design_reply(scaffold, glues, dg, ds, potentials, ambient) {
-        Reply::Refused(refusal) => FriendsAnswer::Refused(refusal, Place::Nowhere),
+        Reply::Refused(refusal, _) => FriendsAnswer::Refused(refusal, Place::Nowhere),
         Reply::Admitted => {
             let strands = potentials.len() as u8;
             FriendsAnswer::Friends(friends::write_friends(glue, glues, dg, ds, strands, entries))
@@ -155,7 +155,7 @@ pub fn number_of_states(
     ensures { λ r. ⌜ countFigures r ≡ countAnswer (lent (scaffold .entry) (glues .entry) (dg .entry) (ds .entry) (potentials .entry) ambient) ⌝ }
 {
     match design_reply(scaffold, glues, dg, ds, potentials, ambient) {
-        Reply::Refused(refusal) => CountAnswer::Refused(refusal, Place::Nowhere),
+        Reply::Refused(refusal, _) => CountAnswer::Refused(refusal, Place::Nowhere),
         Reply::Admitted => {
             let number = states::state_count(scaffold, glues, dg, ds, potentials.len() as u8);
             if MOST_STATES < number {
@@ -184,7 +184,7 @@ pub fn state_at_rank(
         return StateAnswer::Refused(Refusal::WrongSize, Place::Nowhere);
     }
     match design_reply(scaffold, glues, dg, ds, potentials, ambient) {
-        Reply::Refused(refusal) => StateAnswer::Refused(refusal, Place::Nowhere),
+        Reply::Refused(refusal, _) => StateAnswer::Refused(refusal, Place::Nowhere),
         Reply::Admitted => {
             let strands = potentials.len() as u8;
             let count = states::state_count(scaffold, glues, dg, ds, strands);
@@ -216,7 +216,7 @@ pub fn g_system(
         return EnergyAnswer::Refused(Refusal::WrongSize, Place::Nowhere);
     }
     match design_reply(scaffold, glues, dg, ds, potentials, ambient) {
-        Reply::Refused(refusal) => EnergyAnswer::Refused(refusal, Place::Nowhere),
+        Reply::Refused(refusal, _) => EnergyAnswer::Refused(refusal, Place::Nowhere),
         Reply::Admitted => {
             let strands = potentials.len() as u8;
             let stranger = states::first_stranger(scaffold, glues, dg, ds, strands, attachments);
@@ -253,7 +253,7 @@ pub fn chain_energy(
         return ChainAnswer::Refused(Refusal::WrongSize, Place::Nowhere);
     }
     match design_reply(scaffold, glues, dg, ds, potentials, ambient) {
-        Reply::Refused(refusal) => ChainAnswer::Refused(refusal, Place::Nowhere),
+        Reply::Refused(refusal, _) => ChainAnswer::Refused(refusal, Place::Nowhere),
         Reply::Admitted => {
             let strands = potentials.len() as u8;
             let stranger = states::first_stranger(scaffold, glues, dg, ds, strands, configuration);

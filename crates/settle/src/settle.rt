@@ -219,7 +219,7 @@ fn settle_sheet(
         &mut dg,
         &mut ds,
     ) {
-        Reply::Refused(refusal) => refuse(
+        Reply::Refused(refusal, _) => refuse(
             style,
             path,
             text,
