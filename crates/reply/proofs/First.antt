@@ -18,6 +18,24 @@ passes-step false refusal place rest e = (refl, e)
 pub passes : (c : Check) (cs : List Check) → firstOf (c ∷ cs) ≡ Admitted → (c .holds ≡ false) × (firstOf cs ≡ Admitted)
 passes c cs e = passes-step (c .holds) (c .refusal) (c .place) (firstOf cs) e
 
+-- no check of the list holds
+abbrev pub NoneHolds : List Check → Type 0
+NoneHolds [] = Unit
+NoneHolds (c ∷ cs) = (c .holds ≡ false) × NoneHolds cs
+
+-- where a list is admitted, none of its checks holds
+pub none-holds : (cs : List Check) → firstOf cs ≡ Admitted → NoneHolds cs
+none-holds [] e = tt
+none-holds (c ∷ cs) e = let here = passes c cs e in (here .0, none-holds cs (here .1))
+
+-- and where two are, one after the other, both are
+pub both-pass : (xs ys : List Check) → firstOf (xs ++ ys) ≡ Admitted → (firstOf xs ≡ Admitted) × (firstOf ys ≡ Admitted)
+both-pass [] ys e = (refl, e)
+both-pass (c ∷ xs) ys e =
+    let here = passes c (xs ++ ys) e in
+    let later = both-pass xs ys (here .1) in
+    (rw (here .0) (later .0), later .1)
+
 joined-step : (holds : Bool) (refusal : Refusal) (place : Place) (r s t : Reply) → r orElse s ≡ t → refusedIf holds refusal place r orElse s ≡ refusedIf holds refusal place t
 joined-step true refusal place r s t e = refl
 joined-step false refusal place r s t e = e

@@ -1,2 +1,4 @@
 pub mod Number
 pub mod First
+pub mod Figures
+pub mod Limits

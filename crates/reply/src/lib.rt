@@ -1,4 +1,6 @@
 // Refusals: why a call is not answered, under document 01's numbers, which stand nowhere else.
+pub mod limits;
+
 ghost use mathlib.Core.Path.{_≡_};
 ghost use mathlib.Core.List.{[], _∷_};
 ghost use Rattle.reply.specs.Number.{numberOf, replyNumber};
