@@ -9,8 +9,12 @@ use lib.ListN.{length, getD, take, drop, set, replicate, length-take, length-dro
 use lib.Seq.{getD-set-same, getD-set-other, getD-take, getD-drop}
 use lib.Ieee.{Float, nan}
 use Rattle.lists.proofs.Grid.{row-end}
-use Rattle.ensemble.specs.Layout.{Searchable}
+use Rattle.model.specs.Model as Model
+use Rattle.model.specs.Model.{Model, friendsAt}
+use Rattle.model.specs.Search.{optionsAt}
+use Rattle.ensemble.specs.Layout.{Searchable, OptionRows}
 use Rattle.ensemble.specs.inner.Entries.{Known, Low, LowTable}
+use Rattle.ensemble.proofs.Options.{options-are, friends-are}
 
 -- the part of a list from a place to another
 abbrev pub part : {A : Type 0} → List A → ℕ → ℕ → List A
@@ -18,11 +22,56 @@ part xs start end = take (end - start) (drop start xs)
 
 -- ---- options
 
+-- what can be read of the row of a position
+pub record Bounds (rows counts : List ℕ) (i : ℕ) : Type 0 where
+  pub place : i < 128
+  pub row : 64 * i + 64 ≤ length rows
+  pub some : 0 < getD counts i 0
+  pub few : getD counts i 0 ≤ 64
+
 module _ {strands : ℕ} {rows counts : List ℕ} (w : Searchable strands rows counts) (i : ℕ) (h : i < length counts) where
-  pub known-row : (n : ℕ) → n ≤ getD counts i 0 → Known strands (take n (drop (64 * i) rows))
+  pub bounds : Bounds rows counts i
+  bounds =
+      let sized = w .readable .sized in
+      let short = w .short in
+      record { place = omega arith; row = omega arith; some = w .some i h; few = w .readable .few i h }
+
+  known-row : (n : ℕ) → n ≤ getD counts i 0 → Known strands (take n (drop (64 * i) rows))
   known-row n few k l =
       let inside : k < n = omega (arith, length-take n (drop (64 * i) rows)) in
       rw (getD-take n (drop (64 * i) rows) k 0 inside, getD-drop (64 * i) rows k 0) (w .known i k h (omega arith))
+
+  -- the friends, and the options: one more
+  module _ (count : ℕ) (e : count ≡ getD counts i 0) where
+    friend-number : 64 * i + count - 1 - 64 * i ≡ getD counts i 0 - 1
+    friend-number = let some = w .some i h in omega arith
+
+    option-number : 64 * i + count - 1 + 1 - 64 * i ≡ getD counts i 0
+    option-number = let some = w .some i h in omega arith
+
+    pub known-friends : Known strands (part rows (64 * i) (64 * i + count - 1))
+    known-friends = known-row (64 * i + count - 1 - 64 * i) (omega (arith, friend-number))
+
+    pub known-options : Known strands (part rows (64 * i) (64 * i + count - 1 + 1))
+    known-options = known-row (64 * i + count - 1 + 1 - 64 * i) (omega (arith, option-number))
+
+    pub friends-length : 64 * i + count - 1 - 64 * i ≡ length (part rows (64 * i) (64 * i + count - 1))
+    friends-length =
+        let row = bounds .row in
+        let few = bounds .few in
+        let number = friend-number in
+        simp (length-take, length-drop) (omega arith)
+
+    module _ {m : Model} (o : OptionRows m rows counts) (l : i < Model.positions m) where
+      pub friends-part : part rows (64 * i) (64 * i + count - 1) ≡ friendsAt m i
+      friends-part = ap (λ (n : ℕ). take n (drop (64 * i) rows)) friend-number ∙ friends-are o i l
+
+      pub options-part : part rows (64 * i) (64 * i + count - 1 + 1) ≡ optionsAt m i
+      options-part = ap (λ (n : ℕ). take n (drop (64 * i) rows)) option-number ∙ options-are o i l
+
+-- a part is no longer than its ends are apart
+pub part-length : {A : Type 0} (xs : List A) (start end : ℕ) → length (part xs start end) ≤ end - start
+part-length xs start end = omega (arith, length-take (end - start) (drop start xs))
 
 -- ---- cells
 

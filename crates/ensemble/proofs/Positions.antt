@@ -18,14 +18,14 @@ use Rattle.lists.specs.Fold.{foldl}
 use Rattle.lists.proofs.Places.{mem-getD}
 use Rattle.doubles.specs.Decimal as Decimal
 use Rattle.doubles.specs.Least.{orLater, orEarlier, pick, lastLeast, firstLeast}
-use Rattle.model.specs.Model.{Model, Friend, friendsAt}
+use Rattle.model.specs.Model.{Model, Friend, friendsAt, optionsOf}
 use Rattle.model.specs.Model as Model
 use Rattle.model.specs.Search.{entry, compared, leftChoice, traced, product, optionsAt, timesRt, searchOver, search}
 use Rattle.model.proofs.Traced.{traced-same}
 use Rattle.ensemble.specs.declared.attach.Attached.{Attached}
 use Rattle.ensemble.specs.Layout.{BondCells, Found}
 use Rattle.ensemble.specs.inner.Entries.{keyOf, Chosen, Known, tableBond, Low, Attachments, settledOf, Energies, choiceIn, LowTable, tracedBack}
-use Rattle.ensemble.proofs.Vector.{Left, Attaches, some-options, friend-attaches, empty-attaches, friend-entry, energies-more}
+use Rattle.ensemble.proofs.Vector.{leftOptions, Left, Attaches, some-options, friend-attaches, empty-attaches, friend-entry, energies-more}
 
 -- ---- the one picked is one of the list
 
@@ -88,47 +88,48 @@ of-options m i x some o = go (List·Memᴰ·append-cases (friendsAt m i) o)
 
 -- one position more: its friends have their left choices and energies, and so has empty
 module _ {m : Model} {strands : ℕ} {strandBonds scaffoldBonds potentials : List Float} (b : BondCells m strands strandBonds scaffoldBonds potentials)
-    (i : ℕ) (h : i < Model.positions m) (known : Known strands (friendsAt m i)) (left : List ℕ) (energies : List Float) (old : Left m i left energies)
-    (best : List Float) (choiceRow : List ℕ) (att : Attachments (tableBond strands strandBonds) left energies (friendsAt m i) (length (friendsAt m i)) best choiceRow)
+    (i : ℕ) (h : i < Model.positions m) (friends : List ℕ) (is : friends ≡ friendsAt m i) (known : Known strands friends) (left : List ℕ) (energies : List Float) (old : Left m i left energies)
+    (best : List Float) (choiceRow : List ℕ) (att : Attachments (tableBond strands strandBonds) left energies friends (length friends) best choiceRow)
     (r : Attached) (chosen : (key : ℕ → Float) → ((k : ℕ) → k < length left → getD energies k nan ≡ key (getD left k 0)) → Chosen key left (lastLeast key left) r) where
-  friend : (k : ℕ) → k < length (friendsAt m i) → Friend m i (getD (friendsAt m i) k 0)
-  friend k l = mem-getD 0 (friendsAt m i) k l
+  friend : (k : ℕ) → k < length friends → Friend m i (getD friends k 0)
+  friend k l = subst (λ (xs : List ℕ). List·Memᴰ (getD friends k 0) xs) is (mem-getD 0 friends k l)
 
-  occupied : (k : ℕ) → k < length (friendsAt m i) → getD (friendsAt m i) k 0 ≡ 0 → ⊥
+  occupied : (k : ℕ) → k < length friends → getD friends k 0 ≡ 0 → ⊥
   occupied k l e = b .not-null i (subst (λ (x : ℕ). Friend m i x) e (friend k l))
 
   pairs : (y : ℕ) → Friend m i y → (j : ℕ) → j < length left → tableBond strands strandBonds (getD left j 0) y ≡ m .pair (getD left j 0) y
   pairs y f j l = go i h f (old .options)
     where
-      go : (i : ℕ) → i < Model.positions m → Friend m i y → left ≡ Rattle.ensemble.proofs.Vector.leftOptions m i → tableBond strands strandBonds (getD left j 0) y ≡ m .pair (getD left j 0) y
+      go : (i : ℕ) → i < Model.positions m → Friend m i y → left ≡ leftOptions m i → tableBond strands strandBonds (getD left j 0) y ≡ m .pair (getD left j 0) y
       go zero h f e = absurd (not-suc-le-zero (rw e at l))
-      go (suc i) h f e =
-          b .pairs i (getD left j 0) y (rw (add-one i) h) (subst (λ (xs : List ℕ). List·Memᴰ (getD left j 0) xs) e (mem-getD 0 left j l)) (rw (add-one i) f)
+      go (suc i) h f e = b .pairs i (getD left j 0) y (rw (add-one i) h) (subst (λ (xs : List ℕ). List·Memᴰ (getD left j 0) xs) e (mem-getD 0 left j l)) (rw (add-one i) f)
 
-  attaches : (k : ℕ) → k < length (friendsAt m i) → Attaches m i (getD (friendsAt m i) k 0) (record { strand = getD choiceRow (getD (friendsAt m i) k 0) 0; energy = getD best (getD (friendsAt m i) k 0) nan })
-  attaches k l = friend-attaches m left energies _ i (getD (friendsAt m i) k 0) (tableBond strands strandBonds) (occupied k l) old (pairs (getD (friendsAt m i) k 0) (friend k l)) (att .chosen k l)
+  attaches : (k : ℕ) → k < length friends → Attaches m i (getD friends k 0) (record { strand = getD choiceRow (getD friends k 0) 0; energy = getD best (getD friends k 0) nan })
+  attaches k l = friend-attaches m left energies _ i (getD friends k 0) (tableBond strands strandBonds) (occupied k l) old (pairs (getD friends k 0) (friend k l)) (att .chosen k l)
 
   none : Attaches m i 0 r
   none = empty-attaches m left energies r i old chosen
 
-  entries : (sites : List Float) → ((x : ℕ) → x < strands → getD sites x nan ≡ getD scaffoldBonds (i * strands + x) nan) → (next : List Float) → length (friendsAt m i) < length next
-      → Energies (settledOf sites potentials best) (friendsAt m i) (length (friendsAt m i)) next → Energies (entry m (optionsAt m) i) (optionsAt m i) (length (friendsAt m i) + 1) (set next (length (friendsAt m i)) (r .energy))
-  entries sites cells next inside settled =
-      energies-more (entry m (optionsAt m) i) (optionsAt m i) (length (friendsAt m i)) next (r .energy) inside
-      (λ k l.
-      let x = getD (friendsAt m i) k 0 in
-      settled k l
-      ∙ friend-entry m i x (occupied k l) (attaches k l .energy) (cells x (known k l) ∙ b .sites i x h (friend k l)) (b .logs i x h (friend k l))
-      ∙ ap (entry m (optionsAt m) i) (sym (List·getD-append (friendsAt m i) (0 ∷ []) 0 k l)))
-      (none .energy ∙ ap (entry m (optionsAt m) i) (sym (getD-append-seam (friendsAt m i) 0 [] 0)))
+  module _ (sites : List Float) (cells : (x : ℕ) → x < strands → getD sites x nan ≡ getD scaffoldBonds (i * strands + x) nan) (next : List Float) (inside : length friends < length next)
+      (settled : Energies (settledOf sites potentials best) friends (length friends) next) where
+    entries : Energies (entry m (optionsAt m) i) (optionsOf friends) (length friends + 1) (set next (length friends) (r .energy))
+    entries =
+        energies-more (entry m (optionsAt m) i) (optionsOf friends) (length friends) next (r .energy) inside
+        (λ k l.
+        let x = getD friends k 0 in
+        settled k l
+        ∙ friend-entry m i x (occupied k l) (attaches k l .energy) (cells x (known k l) ∙ b .sites i x h (friend k l)) (b .logs i x h (friend k l))
+        ∙ ap (entry m (optionsAt m) i) (sym (List·getD-append friends (0 ∷ []) 0 k l)))
+        (none .energy ∙ ap (entry m (optionsAt m) i) (sym (getD-append-seam friends 0 [] 0)))
 
-  pub left-more : (sites : List Float) → ((x : ℕ) → x < strands → getD sites x nan ≡ getD scaffoldBonds (i * strands + x) nan) → (next : List Float) → length (friendsAt m i) < length next
-      → Energies (settledOf sites potentials best) (friendsAt m i) (length (friendsAt m i)) next → (row : List ℕ) → row ≡ optionsAt m i → Left m (i + 1) row (set next (length (friendsAt m i)) (r .energy))
-  left-more sites cells next inside settled row e =
-      rw (add-one, e) (record { options = refl; entries = rw (length-append (friendsAt m i) (0 ∷ [])) (entries sites cells next inside settled) })
+    pub left-more : (row : List ℕ) (n : ℕ) → row ≡ optionsAt m i → n ≡ length friends → Left m (i + 1) row (set next n (r .energy))
+    left-more row n e number =
+        rw (add-one, e ∙ ap optionsOf (sym is), number) (record { options = ap optionsOf is; entries = rw (length-append friends (0 ∷ [])) entries })
 
   friend-choice : (x : ℕ) → Friend m i x → getD choiceRow x 0 ≡ leftChoice m (optionsAt m) i x
-  friend-choice x f = let k = index-of f in rw (k .is) at (attaches (k .place) (k .inside) .strand)
+  friend-choice x f =
+      let k = index-of (subst (λ (xs : List ℕ). List·Memᴰ x xs) (sym is) f) in
+      rw (k .is) at (attaches (k .place) (k .inside) .strand)
 
   pub table-more : (choice : List (List ℕ)) (empty : List ℕ) → i < length choice → i < length empty → Table m i choice empty → Table m (i + 1) (set choice i choiceRow) (set empty i (r .strand))
   table-more choice empty in-choice in-empty table =
