@@ -1,8 +1,8 @@
 -- The test of an occupant meets its contract: its tests are those of the definition, in their order. Assumes nothing.
 use borrow.Author.Needs.{needs}
 use borrow.Author.Tests.{eq-eqb, ne-eqb, lt-ltb, le-ltb}
-use Rattle.sdc1d.proofs.states.is_stranger.Statement.{statement}
-use Rattle.sdc1d.proofs.states.is_stranger.Tie as tie
+use Rattle.sdc1d.proofs.strangers.is_stranger.Statement.{statement}
+use Rattle.sdc1d.proofs.strangers.is_stranger.Tie as tie
 
 returns : tie.Need-returns
 returns c = simp (eq-eqb _ _ (c .if1 .taken))

@@ -9,8 +9,8 @@ use Rattle.lists.specs.Build.{upTo}
 use Rattle.lists.specs.Find.{firstIndex}
 use Rattle.lists.proofs.Build.{first-here, first-later, first-past}
 use Rattle.design.specs.Checks.{noFriend, stranger}
-use Rattle.sdc1d.proofs.states.first_stranger.Statement.{statement}
-use Rattle.sdc1d.proofs.states.first_stranger.Tie as tie
+use Rattle.sdc1d.proofs.strangers.first_stranger.Statement.{statement}
+use Rattle.sdc1d.proofs.strangers.first_stranger.Tie as tie
 
 abbrev Inv-loop : tie.InvT-loop
 Inv-loop scaffold glues dg ds strands configuration position₀ position =
