@@ -6,8 +6,7 @@ use Prim.Native.Nat.{ℕ}
 use lib.ListN.{length, drop}
 use borrow.Author.Tests.{eq-eqb}
 use Rattle.lists.specs.Find.{any, firstIndex}
-use Rattle.lists.specs.Over.{over}
-use Rattle.lists.specs.Beginnings.{beginnings}
+use Rattle.lists.specs.Front.{over, beginnings}
 use Rattle.reply.specs.Number.{numberOf, answered}
 use Rattle.reply.specs.declared.Refusal.the-variants.{BadDeck}
 use Rattle.reply.specs.declared.Place.the-variants.{At}

@@ -7,7 +7,7 @@ use native.Mathlib.Nat.{mul-le-mul}
 use native.Mathlib.Omega.{arith}
 use lib.Ieee.{Float, nan}
 use Rattle.lists.specs.Grid.{Grid}
-use Rattle.lists.proofs.Default.{getD-default}
+use Rattle.lists.proofs.Places.{getD-default}
 use Rattle.doubles.specs.Decimal.{zero}
 use Rattle.reply.specs.First.{firstOf}
 use Rattle.reply.specs.declared.Refusal.{Refusal}

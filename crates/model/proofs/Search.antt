@@ -21,11 +21,10 @@ use Rattle.doubles.specs.Decimal as Decimal
 use Rattle.doubles.specs.Sum.{sumFrom}
 use Rattle.doubles.specs.Size.{Real}
 use Rattle.doubles.specs.Order.{Le, over}
-use Rattle.doubles.proofs.Sum.{sub-is}
+use Rattle.doubles.proofs.Sums.{sub-is}
 use Rattle.doubles.proofs.Order.{Le-refl, Le-antisymm, Le→nlt}
-use Rattle.doubles.proofs.Products.{mul-mono, mul-within}
+use Rattle.doubles.proofs.Products.{mul-mono, mul-within, zero-times}
 use Rattle.doubles.proofs.Bounds.{Rt, rt-range}
-use Rattle.doubles.proofs.Zero.{zero-times}
 use Rattle.model.specs.Model.{Model, State, Friend, occupant, positions, friendsAt}
 use Rattle.model.specs.States.{states, stateAt, count}
 use Rattle.model.specs.Energy.{chainPlace, chainTerms, chainEnergy, chainProduct, walk}
