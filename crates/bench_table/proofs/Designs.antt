@@ -15,7 +15,7 @@ use Rattle.reply.specs.Number.{numberOf}
 use Rattle.reply.specs.declared.Refusal.the-variants.{RankTooHigh}
 use Rattle.model.specs.States.{eachBefore, listing, choices, choiceAt, states, count}
 use Rattle.model.specs.Energy.{chainTerms, chainEnergy, chainProduct, walk}
-use Rattle.model.specs.Search.{reached, leftChoice, traced, searchOver, search}
+use Rattle.model.specs.Search.{leastLeft, leftChoice, traced, searchOver, search}
 use Rattle.design.specs.Design.{strandBond, scaffoldBond, befriends, friendsTo, modelOf}
 use Rattle.design.specs.Checks.{wrongSizes, cellsOut, ambientOut, somewhere, potentialsOut, nullBinds}
 use Rattle.design.specs.Answers.{given, refused, countAnswer, rankAnswer, rankEntries}
@@ -30,7 +30,7 @@ checked = 0
 
 -- and with it the search
 unfoldable searched : ℕ
-unfolding checked add sub neg mul div foldl pick reached leftChoice traced search searchOver
+unfolding checked add sub neg mul div foldl pick leastLeft leftChoice traced search searchOver
 searched = 0
 
 -- and with it counts and ranks

@@ -7,3 +7,4 @@ pub mod Traced
 pub mod Optimal
 pub mod Walk
 pub mod Search
+pub mod Read
