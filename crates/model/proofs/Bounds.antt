@@ -5,10 +5,11 @@ use mathlib.Core.Bool.{Bool, true, false, cond}
 use mathlib.Core.List.{List, [], _∷_, _++_}
 use mathlib.Core.Option.{Option, none, some}
 use Prim.Native.Nat.{ℕ, zero, suc, _+_, _*_, _^_, _<_, _≤_}
-use native.Mathlib.Nat.{add-zero, zero-add, add-suc, suc-add, le-trans}
+use native.Mathlib.Nat.{add-zero, zero-add, add-suc, suc-add, le-refl, le-trans}
 use native.Mathlib.Omega.{arith}
 use lib.Dec.{eqb, lit≤}
 use lib.ListN.{length, getD, take, length-append, length-take}
+use lib.Seq.{take-all}
 use lib.Ieee.{Float, binary64, prec, mul, neg}
 use borrow.Author.Tests.{eq-eqb}
 use Rattle.lists.specs.Each.{Each}
@@ -20,7 +21,7 @@ use Rattle.doubles.proofs.Sums.{weaken}
 use Rattle.doubles.proofs.Products.{mul-within}
 use Rattle.doubles.proofs.Bounds.{neg-within, zero-within, zero-not, sum-within, sum-not, rt-range}
 use Rattle.model.specs.Model.{Model, State, Friend}
-use Rattle.model.specs.Energy.{ifOccupied, toRight, statePlace, stateTerms, fromLeft, chainPlace, chainTerms}
+use Rattle.model.specs.Energy.{ifOccupied, toRight, statePlace, stateTerms, fromLeft, chainPlace, chainTerms, stateEnergy, chainEnergy, chainProduct}
 use Rattle.model.specs.Bounds.{Bounded, Finite}
 
 -- the occupants of the places from a position on
@@ -157,3 +158,21 @@ module _ (m : Model) (n : ℕ) (b : Bounded m n) (s : List ℕ) (w : State m s) 
 
   pub chain-finite : Finite m (chainTerms m 0 none s)
   chain-finite = finite-sums m n b (chainTerms m 0 none s) (small-chain m n b 0 none s tt (occupants m s w)) (omega (arith, few-chain m 0 none s, w .places, b .short))
+
+  sum-of : (terms : List Float) → Finite m terms → Within binary64 30720000 (sumFrom Decimal.zero terms)
+  sum-of terms f = subst (λ (t : List Float). Within binary64 30720000 (sumFrom Decimal.zero t)) (take-all (length terms) terms (le-refl _)) (f .sums (length terms))
+
+  product-of : (terms : List Float) → Finite m terms → Within binary64 245760000 (mul binary64 (sumFrom Decimal.zero terms) (m .rt))
+  product-of terms f = subst (λ (t : List Float). Within binary64 245760000 (mul binary64 (sumFrom Decimal.zero t) (m .rt))) (take-all (length terms) terms (le-refl _)) (f .products (length terms))
+
+  pub state-energy-within : Within binary64 245760000 (stateEnergy m s)
+  unfolding stateEnergy
+  state-energy-within = product-of (stateTerms m 0 s) state-finite
+
+  pub chain-energy-within : Within binary64 30720000 (chainEnergy m s)
+  unfolding chainEnergy
+  chain-energy-within = sum-of (chainTerms m 0 none s) chain-finite
+
+  pub chain-product-within : Within binary64 245760000 (chainProduct m s)
+  unfolding chainProduct chainEnergy
+  chain-product-within = product-of (chainTerms m 0 none s) chain-finite

@@ -1,3 +1,4 @@
+pub mod Bits
 pub mod Count
 pub mod Sums
 pub mod Choices

@@ -3,19 +3,18 @@
 -- smaller RT times chain energy; and the walk that tries every state ends with that same energy. Why: each entry of the search is the least
 -- sum of all chains that end with its strand, since adding the same terms and rounding each time never turns the order of two sums
 -- round; the product with RT does not either; and the left choices lead back through a chain that has its entry's sum. Assumes nothing.
-use mathlib.Core.Path.{_≡_, refl, sym, ap, _∙_, subst}
+use mathlib.Core.Path.{_≡_, refl, sym, ap, _∙_}
 use mathlib.Core.Logic.{_⊎_, inl, inr}
 use mathlib.Core.Bool.{Bool, true, false, cond}
 use mathlib.Core.List.{List, [], _∷_, List·Memᴰ, List·Memᴰ·head, List·Memᴰ·append-cases, List·Memᴰ·eq-of-singleton, Memᴰ·append-left, Memᴰ·append-right}
 use mathlib.Core.Option.{none, some}
 use Prim.Native.Nat.{ℕ, zero, suc, _*_, _^_, _<_, _≤_}
-use native.Mathlib.Nat.{le-refl, le-trans}
+use native.Mathlib.Nat.{le-trans}
 use native.Mathlib.Numerals.{add-one}
 use native.Mathlib.Omega.{arith}
 use lib.Dec.{T, eqb, lit≤}
 use lib.Pow.{pow-pos}
 use lib.ListN.{length, getD, drop, length-append}
-use lib.Seq.{take-all}
 use lib.Ieee.{Float, binary64, low, add, sub, neg, mul, le, eq}
 use Rattle.doubles.specs.Decimal as Decimal
 use Rattle.doubles.specs.Sum.{sumFrom}
@@ -32,7 +31,7 @@ use Rattle.model.specs.Bounds.{Bounded}
 use Rattle.model.specs.Search.{withStrandBond, withScaffoldBond, leftChoice, lastStrand, SearchResult, optionsAt, timesRt, searchOver, search}
 use Rattle.model.specs.LowestConfiguration.{LowestConfiguration}
 use Rattle.model.proofs.Sums.{chain-more, chain-done}
-use Rattle.model.proofs.Bounds.{chain-finite}
+use Rattle.model.proofs.Bounds.{chain-product-within}
 use Rattle.model.proofs.Listing.{listed}
 use Rattle.model.proofs.Count.{ways-pos}
 use Rattle.model.proofs.Optimal.{score, Optimal, search-optimal}
@@ -97,11 +96,8 @@ module _ (m : Model) (n : ℕ) (b : Bounded m n) where
 
   -- ---- products
 
-  pub product-real : (s : List ℕ) → State m s → Real binary64 (chainProduct m s)
-  unfolding chainProduct chainEnergy
-  product-real s w =
-      let all = take-all (length (chainTerms m 0 none s)) (chainTerms m 0 none s) (le-refl _) in
-      subst (λ (terms : List Float). Real binary64 (mul binary64 (sumFrom Decimal.zero terms) (m .rt))) all (chain-finite m n b s w .products (length (chainTerms m 0 none s)) .real)
+  product-real : (s : List ℕ) → State m s → Real binary64 (chainProduct m s)
+  product-real s w = chain-product-within m n b s w .real
 
   pub times-mono : (s r : Float) → Real binary64 s → Real binary64 r → Le binary64 s r → Le binary64 (mul binary64 s (m .rt)) (mul binary64 r (m .rt))
   times-mono s r p q h = mul-mono binary64 s r (m .rt) p q (rt .size .real) (rt .sign) h

@@ -6,3 +6,4 @@ pub mod Bounds
 pub mod Search
 pub mod LowestConfiguration
 pub mod Read
+pub mod Bits
