@@ -15,7 +15,7 @@ use Rattle.model.specs.States.{eachBefore, listing, states, choices, cho
 use Rattle.model.specs.Energy.{stateTerms, stateEnergy, chainTerms, chainEnergy, chainProduct, walk}
 use Rattle.model.specs.Search.{leastLeft, leftChoice, traced, searchOver, search}
 use Rattle.model.specs.LowestConfiguration.{LowestConfiguration}
-use Rattle.model.specs.Bits.{three, OrderOfTerms, two, TwoSums}
+use Rattle.model.specs.Bits.{three, OrderOfTerms, two, ChainSearched}
 
 pub order-of-terms : OrderOfTerms
 unfolding three nearest stateTerms stateEnergy chainTerms chainEnergy chainProduct sumFrom add neg mul toBits product foldl count
@@ -35,9 +35,9 @@ two-demanded : (e : Float) → LowestConfiguration two (1 ∷ 2 ∷ []) e → to
 unfolding two nearest stateTerms stateEnergy chainTerms chainEnergy chainProduct sumFrom add neg mul toBits
 two-demanded e lowest = rw (lowest .energy) refl
 
-pub two-sums : TwoSums
+pub chain-searched : ChainSearched
 unfolding two nearest eachBefore listing choices choiceAt stateTerms stateEnergy chainTerms chainEnergy chainProduct sumFrom foldl walk pick leastLeft leftChoice traced searchOver search add sub neg mul lt toBits product
-two-sums = record {
+chain-searched = record {
   listed = refl;
   second = refl;
   taken = two-taken;

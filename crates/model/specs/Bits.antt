@@ -56,7 +56,7 @@ unfolding nearest
 two = row ((1 ∷ []) ∷ (2 ∷ []) ∷ []) (plus 0 0 ∷ minus 1 1 ∷ minus 1 1 ∷ []) (plus 0 0 ∷ minus 3 1 ∷ []) (plus 0 0 ∷ minus 3 1 ∷ minus 1 1 ∷ []) (plus 1 0)
 
 -- Strand 1 alone has 0.2, strand 2 alone 0.0, both together −0.1.
-pub record TwoSums : Type 0 where
+pub record ChainSearched : Type 0 where
   -- friends come before empty, and the last position changes fastest
   pub listed : states two ≡ (1 ∷ 2 ∷ []) ∷ (1 ∷ 0 ∷ []) ∷ (0 ∷ 2 ∷ []) ∷ (0 ∷ 0 ∷ []) ∷ []
   pub second : stateAt two 1 ≡ 1 ∷ 0 ∷ []
