@@ -8,7 +8,7 @@ use native.Mathlib.Omega.{arith}
 use lib.ListN.{length, getD, take, drop, length-append, length-drop, length-map, drop-of-length-le}
 use lib.Seq.{drop-cons, getD-take, getD-drop, take-take, take-at, length-take-le, ext-getD}
 use Rattle.lists.specs.Build.{product}
-use Rattle.lists.proofs.Map.{drop-map, getD-map-lt}
+use Rattle.lists.proofs.Places.{drop-map, getD-map-lt}
 use Rattle.model.specs.Model as Model
 use Rattle.model.specs.Model.{Model, friendsAt, options, optionsOf}
 use Rattle.model.specs.States.{choices, choiceAt, count}

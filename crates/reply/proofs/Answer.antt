@@ -12,7 +12,7 @@ use Rattle.reply.specs.declared.Reply.{Reply}
 use Rattle.reply.specs.declared.Reply.the-variants.{Admitted, Refused}
 use Rattle.reply.proofs.Lowest.{same-number}
 
-number-positive : (r : Refusal) → 1 ≤ numberOf r
+pub number-positive : (r : Refusal) → 1 ≤ numberOf r
 number-positive WrongSize = lit≤ tt
 number-positive NotABase = lit≤ tt
 number-positive TooShort = lit≤ tt
