@@ -2,7 +2,7 @@
 // documentation. Each answer is compared bit for bit with the sum that the line gives; the file stdout holds what must be written.
 use reply::Refusal;
 use reply::Reply;
-use sdc1d::CountAnswer;
+use design::answers::CountAnswer;
 use sdc1d_params::Copied;
 use units::Ambient;
 use units::KcalPerMol;
@@ -162,7 +162,7 @@ fn is_too_many_glues(reply: Reply) -> bool {
 // Whether so many states were counted.
 fn is_count(answer: CountAnswer, count: u64) -> bool {
     match answer {
-        CountAnswer::States(given) => given == count,
+        CountAnswer::Count(given) => given == count,
         CountAnswer::Refused(_, _) => false,
     }
 }
@@ -170,7 +170,7 @@ fn is_count(answer: CountAnswer, count: u64) -> bool {
 // Whether the count was refused.
 fn is_too_many_states(answer: CountAnswer) -> bool {
     match answer {
-        CountAnswer::States(_) => false,
+        CountAnswer::Count(_) => false,
         CountAnswer::Refused(given, _) => given.number() == Refusal::TooManyStates.number(),
     }
 }
