@@ -45,3 +45,22 @@ module _ (bond : ℕ → ℕ → Float) (left : List ℕ) (energies : List Float
       chosen = below-more (λ j. AttachedAt bond left energies (set best x (r .energy)) (set choice x (r .strand)) (getD friends j 0)) k
           (λ j l. set-other (getD friends j 0) (ℕ-discrete (getD friends j 0) x) (w .chosen j l)) (rw (sym is) set-here);
     }
+
+  -- where what is compared stands there already
+  module _ (best : List Float) (choice : List ℕ) (x v : ℕ) (in-choice : x < length choice)
+      (new : (key : ℕ → Float) → Keys bond left energies x key → Chosen key left (lastLeast key left) (record { strand = v; energy = getD best x nan })) where
+    choice-here : AttachedAt bond left energies best (set choice x v) x
+    choice-here key keys = let w = new key keys in record { strand = getD-set-same choice x v 0 in-choice ∙ w .strand; energy = w .energy }
+
+    choice-other : (y : ℕ) → Dec (y ≡ x) → AttachedAt bond left energies best choice y → AttachedAt bond left energies best (set choice x v) y
+    choice-other y (yes e) old = rw e choice-here
+    choice-other y (no e) old = λ key keys. let w = old key keys in record { strand = getD-set-other choice x y v 0 e ∙ w .strand; energy = w .energy }
+
+    pub attach-choice : (k : ℕ) → x ≡ getD friends k 0 → v < 64 → Attachments bond left energies friends k best choice → Attachments bond left energies friends (k + 1) best (set choice x v)
+    attach-choice k is l w = record {
+      wide = w .wide;
+      sized = length-set choice x v ∙ w .sized;
+      low = low-set choice x v (w .low) l in-choice;
+      chosen = below-more (λ j. AttachedAt bond left energies best (set choice x v) (getD friends j 0)) k
+          (λ j l. choice-other (getD friends j 0) (ℕ-discrete (getD friends j 0) x) (w .chosen j l)) (rw (sym is) choice-here);
+    }

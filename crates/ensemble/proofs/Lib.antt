@@ -6,3 +6,5 @@ pub mod Rest
 pub mod Vector
 pub mod Positions
 pub mod Lent
+pub mod Swept
+pub mod LastLeast

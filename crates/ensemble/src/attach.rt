@@ -1,4 +1,6 @@
 // The left choice of each entry of a position: the left entry that it attaches to, and the energy that this was compared with.
+use super::bonds::strand_bond_at;
+use super::bonds::wide;
 ghost use mathlib.Core.Path.{_≡_};
 ghost use Prim.Native.Nat.{ℕ, _+_, _*_, _<_, _≤_};
 ghost use lib.ListN.{length, getD};
@@ -10,24 +12,6 @@ ghost use Rattle.ensemble.specs.inner.Entries.{Chosen, Known, tableBond,
 pub(crate) struct Attached {
     pub strand: u8,
     pub energy: f64,
-}
-
-// A strand's number as an index. As a function of its own it asks the proofs for no bound on the byte.
-pub(crate) fn wide(number: u8) -> usize
-    ensures { λ r. ⌜ r ≡ number ⌝ }
-{
-    number as usize
-}
-
-// The bond of a left and a right strand.
-fn strand_bond_at(strand_bonds: &[f64], strands: usize, left: u8, right: usize) -> f64
-    requires { ⌜ left < strands ⌝ }
-    requires { ⌜ right < strands ⌝ }
-    requires { ⌜ strands ≤ 64 ⌝ }
-    requires { ⌜ strands * strands ≤ length (now «strand_bonds») ⌝ }
-    ensures { λ r. ⌜ r ≡ tableBond strands (now («strand_bonds» .entry)) left right ⌝ }
-{
-    strand_bonds[wide(left) * strands + right]
 }
 
 // The left entry that a friend attaches to: the least of the left energies plus the strand bond, among equals the later one. To the left of

@@ -26,11 +26,14 @@ fn add_place(
     if configuration[id] == 0 {
         return sumg;
     }
+    let site = sites[id];
+    let potential = logs[id];
     let right = id + 1;
     if right < configuration.len() {
-        return sumg + sites[id] + pairs[id] - logs[id];
+        let pair = pairs[id];
+        return sumg + site + pair - potential;
     }
-    sumg + sites[id] - logs[id]
+    sumg + site - potential
 }
 
 // The sum of `g_system` over all places, before the product with RT.
@@ -67,10 +70,14 @@ fn chain_place(
     if configuration[position] == 0 {
         return sum;
     }
+    let site = sites[position];
+    let potential = logs[position];
     if position == 0 {
-        return sum + sites[position] - logs[position];
+        return sum + site - potential;
     }
-    sum + pairs[position - 1] + sites[position] - logs[position]
+    let left = position - 1;
+    let pair = pairs[left];
+    sum + pair + site - potential
 }
 
 // The chain sum over all places, before the product with RT.

@@ -3,7 +3,8 @@
 use super::attach::Attached;
 use super::attach::attach_each;
 use super::attach::best_energy_for_empty;
-use super::attach::wide;
+use super::bonds::wide;
+use super::sums::attach_all;
 use units::KcalPerMol;
 ghost use mathlib.Core.Path.{_≡_};
 ghost use Prim.Native.Nat.{ℕ, _+_, _*_, _<_, _≤_};
@@ -13,7 +14,35 @@ ghost use lib.Ieee.{Float, binary64, nan};
 ghost use Rattle.doubles.specs.Least.{firstLeast};
 ghost use Rattle.model.specs.Model.{Model};
 ghost use Rattle.ensemble.specs.Layout.{Searchable, OptionRows, BondCells, Found};
-ghost use Rattle.ensemble.specs.inner.Entries.{Chosen, Known, settledOf, Energies, choiceIn, LowTable, tracedBack};
+ghost use Rattle.ensemble.specs.inner.Entries.{Chosen, Known, tableBond, Attachments, Low, settledOf, Energies, choiceIn, LowTable, tracedBack};
+
+// The left choice of each friend, and the energy that it was compared with, by its strand.
+fn best_energies(
+    left: &[u8],
+    energies: &[f64],
+    strand_bonds: &[f64],
+    strands: usize,
+    friends: &[u8],
+    best: &mut [f64],
+    choice: &mut [u8],
+)
+    requires { ⌜ Known strands (now left) ⌝ }
+    requires { ⌜ length (now left) ≤ length (now energies) ⌝ }
+    requires { ⌜ Known strands (now friends) ⌝ }
+    requires { ⌜ strands ≤ 64 ⌝ }
+    requires { ⌜ strands * strands ≤ length (now «strand_bonds») ⌝ }
+    requires { ⌜ length (now best) ≡ 64 ⌝ }
+    requires { ⌜ length (now choice) ≡ 64 ⌝ }
+    requires { ⌜ Low (now choice) ⌝ }
+    ensures { λ _. ⌜ Attachments (tableBond strands (now («strand_bonds» .entry))) (now (left .entry)) (now (energies .entry)) (now (friends .entry)) (length (now (friends .entry))) (now (best .exit)) (now (choice .exit)) ⌝ }
+{
+    // Many friends pay for the sums of all right strands.
+    if 0 < left.len() && 8 + strands / 8 <= friends.len() {
+        attach_all(left, energies, strand_bonds, strands, friends, best, choice)
+    } else {
+        attach_each(left, energies, strand_bonds, strands, friends, best, choice)
+    }
+}
 
 // The energies of a position's friends: to what was compared the scaffold bond is added, and the potential subtracted.
 fn mfe_next_vector(
@@ -114,7 +143,7 @@ pub fn lowest(
     while position < counts.len() {
         let first = 64 * position;
         let empty_at = first + wide(counts[position]) - 1;
-        attach_each(
+        best_energies(
             &rows[start..end],
             &energies,
             strand_bonds,

@@ -4,8 +4,8 @@ use mathlib.Core.Bool.{cond}
 use mathlib.Core.List.{List, [], _∷_}
 use Prim.Native.Nat.{ℕ, zero, suc, _+_, _*_, _<_, _≤_}
 use lib.Dec.{eqb}
-use lib.ListN.{length, getD}
-use lib.Ieee.{Float, binary64, add, sub, nan}
+use lib.ListN.{length, getD, take}
+use lib.Ieee.{Float, binary64, add, sub, lt, nan}
 use Rattle.doubles.specs.Decimal as Decimal
 use Rattle.doubles.specs.Least.{lastLeast}
 use Rattle.model.specs.Search.{traced}
@@ -41,6 +41,14 @@ Keys bond left energies right key = (j : ℕ) → j < length left → add binary
 abbrev pub AttachedAt : (ℕ → ℕ → Float) → List ℕ → List Float → List Float → List ℕ → ℕ → Type 0
 AttachedAt bond left energies best choice right = (key : ℕ → Float) → Keys bond left energies right key
     → Chosen key left (lastLeast key left) (record { strand = getD choice right 0; energy = getD best right nan })
+
+-- the lesser of two, the second of equals
+abbrev pub lesser : Float → Float → Float
+lesser x y = cond (lt x y) x y
+
+-- a row has for each right strand what the least of the first k left entries is compared as
+abbrev pub LeastSums : (ℕ → ℕ → Float) → List ℕ → List Float → ℕ → ℕ → List Float → Type 0
+LeastSums bond left energies strands k best = (right : ℕ) → right < strands → (key : ℕ → Float) → Keys bond left energies right key → getD best right nan ≡ key (lastLeast key (take k left))
 
 -- each left choice of a row is a strand number
 abbrev pub Low : List ℕ → Type 0

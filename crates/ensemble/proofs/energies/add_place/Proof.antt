@@ -16,26 +16,26 @@ shared-slice-read-if1 c = search needs
 returns : tie.Need-returns
 returns c = λ m t. let a = c .before .before .args in place-empty m (a .id) (a .sumg) (drop (a .id + 1) (a .configuration .now)) (c .if1 .taken)
 
+mul-site : tie.Need-mul-site
+mul-site c = search needs
+
+shared-slice-read-site : tie.Need-shared-slice-read-site
+shared-slice-read-site c = search needs
+
+mul-potential : tie.Need-mul-potential
+mul-potential c = search needs
+
+shared-slice-read-potential : tie.Need-shared-slice-read-potential
+shared-slice-read-potential c = search needs
+
 add-right : tie.Need-add-right
 add-right c = search needs
 
-mul-result : tie.Need-mul-result
-mul-result c = search needs
+mul-pair : tie.Need-mul-pair
+mul-pair c = search needs
 
-shared-slice-read-result : tie.Need-shared-slice-read-result
-shared-slice-read-result c = search needs
-
-mul-result-2 : tie.Need-mul-result-2
-mul-result-2 c = search needs
-
-shared-slice-read-result-2 : tie.Need-shared-slice-read-result-2
-shared-slice-read-result-2 c = search needs
-
-mul-result-3 : tie.Need-mul-result-3
-mul-result-3 c = search needs
-
-shared-slice-read-result-3 : tie.Need-shared-slice-read-result-3
-shared-slice-read-result-3 c = search needs
+shared-slice-read-pair : tie.Need-shared-slice-read-pair
+shared-slice-read-pair c = search needs
 
 returns-2 : tie.Need-returns-2
 returns-2 c = λ m t.
@@ -43,27 +43,15 @@ returns-2 c = λ m t.
     let s = a .configuration .now in
     let inside = c .before .before .before .before .before .before .pre .0 in
     let occupied = c .before .before .before .before .if1 .left in
-    let right : drop (a .id + 1) s ≡ getD s (a .id + 1) 0 ∷ drop (a .id + 1 + 1) s = rw (add-one (a .id + 1)) (drop-cons s (a .id + 1) 0 (c .before .before .before .if2 .taken)) in
-    place-joined m (a .id) (a .sumg) occupied (t .site (a .id) inside occupied) (t .log (a .id) inside occupied) (t .pair (a .id) (c .before .before .before .if2 .taken)) right
-
-mul-result-4 : tie.Need-mul-result-4
-mul-result-4 c = search needs
-
-shared-slice-read-result-4 : tie.Need-shared-slice-read-result-4
-shared-slice-read-result-4 c = search needs
-
-mul-result-5 : tie.Need-mul-result-5
-mul-result-5 c = search needs
-
-shared-slice-read-result-5 : tie.Need-shared-slice-read-result-5
-shared-slice-read-result-5 c = search needs
+    let right : drop (a .id + 1) s ≡ getD s (a .id + 1) 0 ∷ drop (a .id + 1 + 1) s = rw (add-one (a .id + 1)) (drop-cons s (a .id + 1) 0 (c .before .if2 .taken)) in
+    place-joined m (a .id) (a .sumg) occupied (t .site (a .id) inside occupied) (t .log (a .id) inside occupied) (t .pair (a .id) (c .before .if2 .taken)) right
 
 returns-3 : tie.Need-returns-3
 returns-3 c = λ m t.
     let a = c .before .before .before .before .before .args in
     let inside = c .before .before .before .before .before .pre .0 in
     let occupied = c .before .before .before .if1 .left in
-    place-last m (a .id) (a .sumg) occupied (t .site (a .id) inside occupied) (t .log (a .id) inside occupied) (drop-of-length-le (a .configuration .now) (c .before .before .if2 .left))
+    place-last m (a .id) (a .sumg) occupied (t .site (a .id) inside occupied) (t .log (a .id) inside occupied) (drop-of-length-le (a .configuration .now) (c .if2 .left))
 
 pub add-place-spec : {M : Type 1} → statement M
 add-place-spec =
@@ -71,16 +59,12 @@ add-place-spec =
     (tie.spec
     shared-slice-read-if1
     returns
+    mul-site
+    shared-slice-read-site
+    mul-potential
+    shared-slice-read-potential
     add-right
-    mul-result
-    shared-slice-read-result
-    mul-result-2
-    shared-slice-read-result-2
-    mul-result-3
-    shared-slice-read-result-3
+    mul-pair
+    shared-slice-read-pair
     returns-2
-    mul-result-4
-    shared-slice-read-result-4
-    mul-result-5
-    shared-slice-read-result-5
     returns-3)

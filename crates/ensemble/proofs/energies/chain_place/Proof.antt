@@ -17,45 +17,33 @@ shared-slice-read-if1 c = search needs
 returns : tie.Need-returns
 returns c = λ m t. let a = c .before .before .args in chain-empty m (a .position) (a .sum) (leftOf (a .configuration .now) (a .position)) (c .if1 .taken)
 
-mul-result : tie.Need-mul-result
-mul-result c = search needs
+mul-site : tie.Need-mul-site
+mul-site c = search needs
 
-shared-slice-read-result : tie.Need-shared-slice-read-result
-shared-slice-read-result c = search needs
+shared-slice-read-site : tie.Need-shared-slice-read-site
+shared-slice-read-site c = search needs
 
-mul-result-2 : tie.Need-mul-result-2
-mul-result-2 c = search needs
+mul-potential : tie.Need-mul-potential
+mul-potential c = search needs
 
-shared-slice-read-result-2 : tie.Need-shared-slice-read-result-2
-shared-slice-read-result-2 c = search needs
+shared-slice-read-potential : tie.Need-shared-slice-read-potential
+shared-slice-read-potential c = search needs
 
 returns-2 : tie.Need-returns-2
 returns-2 c = λ m t.
     let a = c .before .before .before .before .before .args in
     let inside = c .before .before .before .before .before .pre .0 in
     let occupied = c .before .before .before .if1 .left in
-    chain-first m (a .position) (a .sum) occupied (t .site (a .position) inside occupied) (t .log (a .position) inside occupied) (ap (leftOf (a .configuration .now)) (c .before .before .if2 .taken))
+    chain-first m (a .position) (a .sum) occupied (t .site (a .position) inside occupied) (t .log (a .position) inside occupied) (ap (leftOf (a .configuration .now)) (c .if2 .taken))
 
-sub-result : tie.Need-sub-result
-sub-result c = search needs
+sub-left : tie.Need-sub-left
+sub-left c = search needs
 
-mul-result-3 : tie.Need-mul-result-3
-mul-result-3 c = search needs
+mul-pair : tie.Need-mul-pair
+mul-pair c = search needs
 
-shared-slice-read-result-3 : tie.Need-shared-slice-read-result-3
-shared-slice-read-result-3 c = search needs
-
-mul-result-4 : tie.Need-mul-result-4
-mul-result-4 c = search needs
-
-shared-slice-read-result-4 : tie.Need-shared-slice-read-result-4
-shared-slice-read-result-4 c = search needs
-
-mul-result-5 : tie.Need-mul-result-5
-mul-result-5 c = search needs
-
-shared-slice-read-result-5 : tie.Need-shared-slice-read-result-5
-shared-slice-read-result-5 c = search needs
+shared-slice-read-pair : tie.Need-shared-slice-read-pair
+shared-slice-read-pair c = search needs
 
 returns-3 : tie.Need-returns-3
 returns-3 c = λ m t.
@@ -63,7 +51,7 @@ returns-3 c = λ m t.
     let s = a .configuration .now in
     let inside = c .before .before .before .before .before .before .pre .0 in
     let occupied = c .before .before .before .before .if1 .left in
-    let later = c .before .before .before .if2 .left in
+    let later = c .before .if2 .left in
     let i = a .position - 1 in
     let same : i + 1 ≡ a .position = omega arith in
     let pair : getD (a .pairs .now) i nan ≡ m .pair (occupant s i) (occupant s (a .position)) = t .pair i (rw same inside) ∙ ap (λ (k : ℕ). m .pair (occupant s i) (occupant s k)) same in
@@ -75,16 +63,12 @@ chain-place-spec =
     (tie.spec
     shared-slice-read-if1
     returns
-    mul-result
-    shared-slice-read-result
-    mul-result-2
-    shared-slice-read-result-2
+    mul-site
+    shared-slice-read-site
+    mul-potential
+    shared-slice-read-potential
     returns-2
-    sub-result
-    mul-result-3
-    shared-slice-read-result-3
-    mul-result-4
-    shared-slice-read-result-4
-    mul-result-5
-    shared-slice-read-result-5
+    sub-left
+    mul-pair
+    shared-slice-read-pair
     returns-3)

@@ -72,58 +72,58 @@ sub-empty-at c =
     let count = c .wide .ensures in
     omega arith
 
-sub-attach-each : tie.Need-sub-attach-each Inv-loop μ-loop
-sub-attach-each c =
+sub-best-energies : tie.Need-sub-best-energies Inv-loop μ-loop
+sub-best-energies c =
     let inv = c .before .before .before .loop .inv in
     omega arith
 
-part-attach-each-start : tie.Need-part-attach-each-start Inv-loop μ-loop
-part-attach-each-start c =
+part-best-energies-start : tie.Need-part-best-energies-start Inv-loop μ-loop
+part-best-energies-start c =
     let inv = c .before .before .before .loop .inv in
     omega arith
 
-part-attach-each-end : tie.Need-part-attach-each-end Inv-loop μ-loop
-part-attach-each-end c =
+part-best-energies-end : tie.Need-part-best-energies-end Inv-loop μ-loop
+part-best-energies-end c =
     let inv = c .before .before .before .loop .inv in
     omega arith
 
-slice-aggregate-attach-each : tie.Need-slice-aggregate-attach-each Inv-loop μ-loop
-slice-aggregate-attach-each c = sym (c .before .before .before .before .before .loop .inv .3)
+slice-aggregate-best-energies : tie.Need-slice-aggregate-best-energies Inv-loop μ-loop
+slice-aggregate-best-energies c = sym (c .before .before .before .before .before .loop .inv .3)
 
-sub-attach-each-2 : tie.Need-sub-attach-each-2 Inv-loop μ-loop
-sub-attach-each-2 c =
+sub-best-energies-2 : tie.Need-sub-best-energies-2 Inv-loop μ-loop
+sub-best-energies-2 c =
     let b = bounds (c .before .before .before .before .before .before .before .before .before .before .before .before .pre .0) (c .before .before .before .before .before .loop .position) (c .before .before .before .before .loop-test .taken) in
     let count = c .before .before .wide .ensures in
     omega arith
 
-part-attach-each-start-2 : tie.Need-part-attach-each-start-2 Inv-loop μ-loop
-part-attach-each-start-2 c =
+part-best-energies-start-2 : tie.Need-part-best-energies-start-2 Inv-loop μ-loop
+part-best-energies-start-2 c =
     let b = bounds (c .before .before .before .before .before .before .before .before .before .before .before .before .pre .0) (c .before .before .before .before .before .loop .position) (c .before .before .before .before .loop-test .taken) in
     let count = c .before .before .wide .ensures in
     omega arith
 
-part-attach-each-end-2 : tie.Need-part-attach-each-end-2 Inv-loop μ-loop
-part-attach-each-end-2 c =
+part-best-energies-end-2 : tie.Need-part-best-energies-end-2 Inv-loop μ-loop
+part-best-energies-end-2 c =
     let b = bounds (c .before .before .before .before .before .before .before .before .before .before .before .before .pre .0) (c .before .before .before .before .before .loop .position) (c .before .before .before .before .loop-test .taken) in
     let count = c .before .before .wide .ensures in
     omega arith
 
-slice-aggregate-attach-each-2 : tie.Need-slice-aggregate-attach-each-2 Inv-loop μ-loop
-slice-aggregate-attach-each-2 c = sym (c .before .before .before .before .before .before .before .loop .inv .4)
+slice-aggregate-best-energies-2 : tie.Need-slice-aggregate-best-energies-2 Inv-loop μ-loop
+slice-aggregate-best-energies-2 c = sym (c .before .before .before .before .before .before .before .loop .inv .4)
 
-mul-attach-each : tie.Need-mul-attach-each Inv-loop μ-loop
-mul-attach-each c =
+mul-best-energies : tie.Need-mul-best-energies Inv-loop μ-loop
+mul-best-energies c =
     let b = bounds (c .before .before .before .before .before .before .before .before .before .before .before .before .before .before .pre .0) (c .before .before .before .before .before .before .before .loop .position) (c .before .before .before .before .before .before .loop-test .taken) in
     omega arith
 
-index-1-attach-each : tie.Need-index-1-attach-each Inv-loop μ-loop
-index-1-attach-each c =
+index-1-best-energies : tie.Need-index-1-best-energies Inv-loop μ-loop
+index-1-best-energies c =
     let b = bounds (c .before .before .before .before .before .before .before .before .before .before .before .before .before .before .pre .0) (c .before .before .before .before .before .before .before .loop .position) (c .before .before .before .before .before .before .loop-test .taken) in
     let inv = c .before .before .before .before .before .before .before .loop .inv in
     omega arith
 
-attach-each-requires : tie.Need-attach-each-requires Inv-loop μ-loop
-attach-each-requires c κs =
+best-energies-requires : tie.Need-best-energies-requires Inv-loop μ-loop
+best-energies-requires c κs =
     let b = bounds (c .before .before .before .before .before .before .before .before .before .before .before .before .before .before .before .pre .0) (c .before .before .before .before .before .before .before .before .loop .position) (c .before .before .before .before .before .before .before .loop-test .taken) in
     let inv = c .before .before .before .before .before .before .before .before .loop .inv in
     let rows = c .before .before .before .before .before .before .before .before .before .before .before .before .before .before .before .args .rows .now in
@@ -205,7 +205,7 @@ part-mfe-next-vector-end-2 c =
     omega arith
 
 slice-aggregate-mfe-next-vector : tie.Need-slice-aggregate-mfe-next-vector Inv-loop μ-loop
-slice-aggregate-mfe-next-vector c = sym (c .before .before .before .before .before .before .before .attach-each .ensures .wide)
+slice-aggregate-mfe-next-vector c = sym (c .before .before .before .before .before .before .before .best-energies .ensures .wide)
 
 slice-aggregate-mfe-next-vector-2 : tie.Need-slice-aggregate-mfe-next-vector-2 Inv-loop μ-loop
 slice-aggregate-mfe-next-vector-2 c = sym (c .before .before .before .before .before .before .before .before .before .before .before .before .before .before .before .before .before .loop .inv .3)
@@ -216,7 +216,7 @@ mfe-next-vector-requires c κs =
     let n = length (c .before .before .before .before .before .before .before .before .before .before .before .before .before .before .before .before .before .before .before .before .before .before .before .before .args .potentials .now) in
     let few = c .before .before .before .before .before .before .before .before .before .before .before .before .before .before .before .before .before .before .before .before .before .before .before .before .pre .0 .few in
     let count = c .before .before .before .before .before .before .before .before .before .before .before .before .before .before .wide .ensures in
-    let wide = c .before .before .before .before .before .before .before .before .attach-each .ensures .wide in
+    let wide = c .before .before .before .before .before .before .before .before .best-energies .ensures .wide in
     let inv = c .before .before .before .before .before .before .before .before .before .before .before .before .before .before .before .before .before .loop .inv in
     let sites = row-length n (length (c .before .before .before .before .before .before .before .before .before .before .before .before .before .before .before .before .before .before .before .before .before .before .before .before .args .counts .now)) (c .before .before .before .before .before .before .before .before .before .before .before .before .before .before .before .before .before .before .before .before .before .before .before .before .args .scaffold-bonds .now) (c .before .before .before .before .before .before .before .before .before .before .before .before .before .before .before .before .before .loop .position) (c .before .before .before .before .before .before .before .before .before .before .before .before .before .before .before .before .loop-test .taken) (c .before .before .before .before .before .before .before .before .before .before .before .before .before .before .before .before .before .before .before .before .before .before .before .before .pre .1 .1 .0) in
     let friends = part-length (c .before .before .before .before .before .before .before .before .before .before .before .before .before .before .before .before .before .before .before .before .before .before .before .before .args .rows .now) (64 * c .before .before .before .before .before .before .before .before .before .before .before .before .before .before .before .before .before .loop .position) (64 * c .before .before .before .before .before .before .before .before .before .before .before .before .before .before .before .before .before .loop .position + c .before .before .before .before .before .before .before .before .before .before .before .before .before .before .wide .result - 1) in
@@ -274,9 +274,9 @@ loop-again c =
     let is = c .before .before .before .before .before .before .before .before .before .before .before .before .before .before .before .before .wide .ensures in
     let friends = part (a .rows .now) (64 * i) (64 * i + count - 1) in
     let sites = part (a .scaffold-bonds .now) (i * length (a .potentials .now)) (i * length (a .potentials .now) + length (a .potentials .now)) in
-    let att = c .before .before .before .before .before .before .before .before .before .before .attach-each .ensures in
-    let best = c .before .before .before .before .before .before .before .before .before .before .attach-each .last .1 .1 .1 .1 .1 .0 in
-    let row = c .before .before .before .before .before .before .before .before .before .before .attach-each .last .1 .1 .1 .1 .1 .1 .0 in
+    let att = c .before .before .before .before .before .before .before .before .before .before .best-energies .ensures in
+    let best = c .before .before .before .before .before .before .before .before .before .before .best-energies .last .1 .1 .1 .1 .1 .0 in
+    let row = c .before .before .before .before .before .before .before .before .before .before .best-energies .last .1 .1 .1 .1 .1 .1 .0 in
     let none = c .before .before .before .before .before .before .best-energy-for-empty in
     let next = c .before .mfe-next-vector .last .1 .1 .1 .1 .0 in
     let inv = l .inv in
@@ -367,17 +367,17 @@ lowest-spec =
     wide-requires
     add-empty-at
     sub-empty-at
-    sub-attach-each
-    part-attach-each-start
-    part-attach-each-end
-    slice-aggregate-attach-each
-    sub-attach-each-2
-    part-attach-each-start-2
-    part-attach-each-end-2
-    slice-aggregate-attach-each-2
-    mul-attach-each
-    index-1-attach-each
-    attach-each-requires
+    sub-best-energies
+    part-best-energies-start
+    part-best-energies-end
+    slice-aggregate-best-energies
+    sub-best-energies-2
+    part-best-energies-start-2
+    part-best-energies-end-2
+    slice-aggregate-best-energies-2
+    mul-best-energies
+    index-1-best-energies
+    best-energies-requires
     sub-best-energy-for-empty
     part-best-energy-for-empty-start
     part-best-energy-for-empty-end

@@ -8,8 +8,8 @@ use native.Mathlib.Omega.{arith}
 use borrow.Author.Needs.{needs}
 use Rattle.lists.proofs.Grid.{cell-in}
 use Rattle.ensemble.specs.inner.Entries.{tableBond}
-use Rattle.ensemble.proofs.attach.strand_bond_at.Statement.{statement}
-use Rattle.ensemble.proofs.attach.strand_bond_at.Tie as tie
+use Rattle.ensemble.proofs.bonds.strand_bond_at.Statement.{statement}
+use Rattle.ensemble.proofs.bonds.strand_bond_at.Tie as tie
 
 wide-requires : tie.Need-wide-requires
 wide-requires c κs = search needs
