@@ -2,3 +2,4 @@ pub mod Design
 pub mod Checks
 pub mod Answers
 pub mod Laws
+pub mod Filling
