@@ -1,4 +1,6 @@
 pub mod Sizes
+pub mod Parts
+pub mod Optioned
 pub mod FriendLaws
 pub mod BoundLaws
 pub mod Lowest
