@@ -1,7 +1,9 @@
 pub mod Sizes
 pub mod Parts
 pub mod Optioned
+pub mod Held
 pub mod FriendLaws
+pub mod Cells
 pub mod BoundLaws
 pub mod Lowest
 pub mod Replies

@@ -51,9 +51,11 @@ module _ {A : Type 0} where
         ∙ sym (getD-take n (drop at xs) k d low ∙ getD-drop at xs k d))
 
   -- one row more of a table
-  pub grid-row : {f : ℕ → ℕ → A} {d : A} {width size rows : ℕ} {t row : List A} → Grid f d width size rows 0 t → rows * width + width ≤ size → row ≡ tabulate width (f rows) → Grid f d width size (rows + 1) 0 (withPart t (rows * width) width row)
-  grid-row {f} {d} {width} {size} {rows} {t} {row} w h e =
+  pub grid-row : {f : ℕ → ℕ → A} {d : A} {width size rows : ℕ} {t row : List A} → Grid f d width size rows 0 t → rows * width + width ≤ size → row ≡ tabulate (length (take width (drop (rows * width) t))) (f rows) → Grid f d width size (rows + 1) 0 (withPart t (rows * width) width row)
+  grid-row {f} {d} {width} {size} {rows} {t} {row} w h filled =
       let inside : rows * width + width ≤ length t = rw (w .sized) h in
+      let lent : length (take width (drop (rows * width) t)) ≡ width = simp (length-take, length-drop) (omega arith) in
+      let e : row ≡ tabulate width (f rows) = filled ∙ ap (λ (n : ℕ). tabulate n (f rows)) lent in
       let full : length row ≡ width = ap length e ∙ length-tabulate width (f rows) in
       record {
         sized = part-length t (rows * width) width row inside full ∙ w .sized;

@@ -6,6 +6,7 @@ pub mod answers;
 pub mod bonds;
 pub mod checks;
 pub mod friends;
+pub mod needed;
 pub mod options;
 pub mod reads;
 pub mod tables;

@@ -1,24 +1,15 @@
-// Bonds into lent cells, row first, as wide as there are strands: strands by strands, and positions by strands. Whole tables, or only the cells
-// that a search reads.
+// Tables of bonds in lent cells, row first, as wide as there are strands: strands by strands, and positions by strands.
 use super::bonds::scaffold_bond;
 use super::bonds::strand_bond;
 use units::Ambient;
 ghost use mathlib.Core.Path.{_≡_};
-ghost use Prim.Native.Nat.{_+_, _*_, _-_, _<_, _≤_};
-ghost use lib.ListN.{length, getD};
+ghost use Prim.Native.Nat.{_*_, _≤_};
+ghost use lib.ListN.{length};
 ghost use lib.Ieee.{nan};
 ghost use Rattle.lists.specs.Build.{tabulate};
 ghost use Rattle.lists.specs.Grid.{Grid};
-ghost use Rattle.ensemble.specs.Layout.{Searchable};
 ghost use Rattle.design.specs.Design.{strandBond, scaffoldBond};
-ghost use Rattle.design.specs.Filling.{Among, siteBond, Kept, HeldAt, PairsHeld, SitesHeld};
-
-// A strand's number as an index. As a function of its own it asks the proofs for no bound on the byte.
-fn wide(number: u8) -> usize
-    ensures { λ r. ⌜ r ≡ number ⌝ }
-{
-    number as usize
-}
+ghost use Rattle.design.specs.Filling.{siteBond};
 
 // The bonds of strand x with each strand to the east of it.
 pub fn fill_strand_row(
