@@ -1,5 +1,5 @@
 -- Rows that a loop fills with the left choice of each friend and what that was compared as, by its strand. Assumes nothing.
-use mathlib.Core.Path.{_≡_, sym, ap, _∙_}
+use mathlib.Core.Path.{_≡_, sym, _∙_}
 use mathlib.Core.List.{List}
 use Prim.Native.Nat.{ℕ, _+_, _<_}
 use native.Mathlib.Nat.{not-suc-le-zero}

@@ -4,12 +4,12 @@ use mathlib.Core.Path.{_≡_, refl, sym, ap, _∙_, subst}
 use mathlib.Core.Logic.{_⊎_, inl, inr}
 use mathlib.Core.Bool.{Bool, true, false, cond}
 use mathlib.Core.List.{List, [], _∷_, _++_, List·Memᴰ, List·Memᴰ·head, List·Memᴰ·tail, List·Memᴰ·cases-cons, List·Memᴰ·append-cases, List·Memᴰ·eq-of-singleton}
-use Prim.Native.Nat.{ℕ, zero, suc, _+_, _*_, _<_, _≤_}
+use Prim.Native.Nat.{ℕ, zero, suc, _+_, _*_, _<_}
 use native.Mathlib.Nat.{le-refl, ne-of-lt, not-suc-le-zero}
 use native.Mathlib.Numerals.{add-one}
 use native.Mathlib.Decide.{ℕ-discrete}
 use native.Mathlib.Omega.{arith}
-use lib.ListN.{length, getD, set, replicate, length-append, length-set, List·getD-append}
+use lib.ListN.{length, getD, set, length-append, List·getD-append}
 use lib.Seq.{getD-set-same, getD-set-other, getD-append-seam}
 use lib.Ieee.{Float, nan, binary64, mul, lt}
 use borrow.Author.Count.{below-more}
@@ -24,7 +24,7 @@ use Rattle.model.specs.Search.{entry, compared, leftChoice, traced, product, op
 use Rattle.model.proofs.Traced.{traced-same}
 use Rattle.ensemble.specs.declared.attach.Attached.{Attached}
 use Rattle.ensemble.specs.Layout.{BondCells, Found}
-use Rattle.ensemble.specs.inner.Entries.{keyOf, Chosen, Known, tableBond, Low, Attachments, settledOf, Energies, choiceIn, LowTable, tracedBack}
+use Rattle.ensemble.specs.inner.Entries.{keyOf, Chosen, Known, tableBond, Attachments, settledOf, Energies, choiceIn, tracedBack}
 use Rattle.ensemble.proofs.Vector.{leftOptions, Left, Attaches, some-options, friend-attaches, empty-attaches, friend-entry, energies-more}
 
 -- ---- the one picked is one of the list

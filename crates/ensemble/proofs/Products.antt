@@ -1,6 +1,6 @@
 -- A product of numbers, as a loop over them meets it: multiplied up to a limit, and divided by one number after the other. Assumes nothing.
-use mathlib.Core.Path.{_≡_, refl, sym, ap, _∙_}
-use mathlib.Core.List.{List, [], _∷_}
+use mathlib.Core.Path.{_≡_, refl}
+use mathlib.Core.List.{List}
 use Prim.Native.Nat.{ℕ, zero, suc, _+_, _*_, _/_, _%_, _<_, _≤_, min}
 use native.Mathlib.Nat.{zero-mul, mul-zero, mul-comm, mul-div-cancel-left, mod-lt, div-lt-iff-lt-mul, zero-lt-suc}
 use native.Mathlib.Numerals.{add-one}

@@ -80,12 +80,13 @@ fn lowest_product(last: &[u8], energies: &[f64], rt: KcalPerMol) -> Attached
             energy: 0.0,
         };
     }
+    let factor = rt.0;
     let mut strand = last[0];
-    let mut energy = energies[0] * rt.0;
+    let mut energy = energies[0] * factor;
     let mut k = 1;
     while k < last.len() {
         let next = last[k];
-        let product = energies[k] * rt.0;
+        let product = energies[k] * factor;
         if product < energy {
             strand = next;
             energy = product;

@@ -1,8 +1,8 @@
 -- The left choices of a position's friends, each on its own, meet their contract. The invariant: the first k friends have theirs. Assumes nothing.
 use mathlib.Core.Path.{_≡_, sym, _∙_}
-use Prim.Native.Nat.{ℕ, _≤_, _<_, _+_, _-_}
+use Prim.Native.Nat.{_≤_, _<_, _-_}
 use native.Mathlib.Omega.{arith}
-use lib.ListN.{length, getD}
+use lib.ListN.{length}
 use borrow.Author.Needs.{needs}
 use Rattle.ensemble.specs.inner.Entries.{tableBond, Attachments}
 use Rattle.ensemble.proofs.Attachments.{attach-none, attach-more}

@@ -1,9 +1,9 @@
 -- One place of the chain sum meets its contract: the terms are added in the order of the definition. Assumes nothing.
 use borrow.Author.Needs.{needs}
-use mathlib.Core.Path.{_≡_, refl, sym, ap, ap₂, _∙_}
-use Prim.Native.Nat.{ℕ, _<_, _+_, _-_}
+use mathlib.Core.Path.{_≡_, ap, _∙_}
+use Prim.Native.Nat.{ℕ, _+_, _-_}
 use native.Mathlib.Omega.{arith}
-use lib.ListN.{length, getD}
+use lib.ListN.{getD}
 use lib.Ieee.{nan}
 use Rattle.model.specs.Energy.{leftOf}
 use Rattle.model.specs.Model.{occupant}

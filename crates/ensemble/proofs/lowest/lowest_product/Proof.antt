@@ -12,14 +12,14 @@ use Rattle.ensemble.proofs.lowest.lowest_product.Statement.{statement}
 use Rattle.ensemble.proofs.lowest.lowest_product.Tie as tie
 
 abbrev Inv-loop : tie.InvT-loop
-Inv-loop last energies rt strand₀ energy₀ k₀ strand energy k =
+Inv-loop last energies factor strand₀ energy₀ k₀ strand energy k =
     (1 ≤ k)
     × (k ≤ length last)
     × (strand < 64)
-    × ((key : ℕ → Float) → ((j : ℕ) → j < length last → mul binary64 (getD energies j nan) (rt .0) ≡ key (getD last j 0)) → Kept (orEarlier key) key last k strand energy)
+    × ((key : ℕ → Float) → ((j : ℕ) → j < length last → mul binary64 (getD energies j nan) factor ≡ key (getD last j 0)) → Kept (orEarlier key) key last k strand energy)
 
 abbrev μ-loop : tie.MeasureT-loop
-μ-loop last energies rt strand₀ energy₀ k₀ strand energy k = length last - k
+μ-loop last energies factor strand₀ energy₀ k₀ strand energy k = length last - k
 
 returns : tie.Need-returns Inv-loop μ-loop
 unfolding ofBits
@@ -33,11 +33,11 @@ shared-slice-read-energy c = search needs
 
 loop-holds : tie.Need-loop-holds Inv-loop μ-loop
 loop-holds c =
-    let some : 0 < length (c .before .before .before .before .args .last .now) = omega arith in (
+    let some : 0 < length (c .before .before .before .args .last .now) = omega arith in (
       omega arith,
       omega arith,
-      c .before .before .before .before .pre .0 0 some,
-      λ key keys. kept-first (orEarlier key) key (c .before .before .before .before .args .last .now) some (keys 0 (omega arith)),
+      c .before .before .before .pre .0 0 some,
+      λ key keys. kept-first (orEarlier key) key (c .before .before .before .args .last .now) some (keys 0 (omega arith)),
     )
 
 shared-slice-read-next : tie.Need-shared-slice-read-next Inv-loop μ-loop
@@ -57,11 +57,11 @@ loop-less c = search needs
 
 loop-again : tie.Need-loop-again Inv-loop μ-loop
 loop-again c =
-    let l = c .before .before .before .before .before .loop in
-    let inside : l .k < length (c .before .before .before .before .before .before .before .before .before .before .args .last .now) = c .before .before .before .before .loop-test .taken in (
+    let l = c .before .before .before .before .loop in
+    let inside : l .k < length (c .before .before .before .before .before .before .before .before .args .last .now) = c .before .before .before .loop-test .taken in (
       omega arith,
       omega arith,
-      elim (c .if2 .came) [ inl u ↦ rw (u .1) (c .before .before .before .before .before .before .before .before .before .before .pre .0 (l .k) inside) | inr u ↦ rw (u .1) (l .inv .2) ],
+      elim (c .if2 .came) [ inl u ↦ rw (u .1) (c .before .before .before .before .before .before .before .before .pre .0 (l .k) inside) | inr u ↦ rw (u .1) (l .inv .2) ],
       λ key keys.
           let w = l .inv .3 key keys in
           let new = keys (l .k) inside in

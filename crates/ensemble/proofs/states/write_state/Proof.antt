@@ -1,6 +1,6 @@
 -- The writing of the state at a rank meets its contract. The invariant: the occupants of the positions passed stand in front, and those
 -- left are the state of the later positions at the rank left. Assumes nothing.
-use mathlib.Core.Path.{_≡_, refl, sym, ap, _∙_}
+use mathlib.Core.Path.{_≡_, refl, sym, _∙_}
 use mathlib.Core.List.{List, []}
 use Prim.Native.Nat.{ℕ, _≤_, _<_, _+_, _-_, _*_, _/_, _%_}
 use native.Mathlib.Omega.{arith}

@@ -1,9 +1,9 @@
 -- The left choices of many friends meet their contract. The invariant: the first k friends have theirs. Assumes nothing.
 use mathlib.Core.Path.{_≡_, sym, ap, _∙_}
 use mathlib.Core.List.{List}
-use Prim.Native.Nat.{ℕ, _≤_, _<_, _+_, _-_}
+use Prim.Native.Nat.{ℕ, _≤_, _<_, _-_}
 use native.Mathlib.Omega.{arith}
-use lib.ListN.{length, getD}
+use lib.ListN.{length}
 use lib.Seq.{take-length}
 use borrow.Author.Needs.{needs}
 use Rattle.doubles.specs.Least.{lastLeast}

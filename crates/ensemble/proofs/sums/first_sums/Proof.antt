@@ -1,6 +1,6 @@
 -- The first sums meet their contract. Assumes nothing.
-use mathlib.Core.Path.{refl, sym}
-use Prim.Native.Nat.{ℕ, _≤_, _<_, _-_}
+use mathlib.Core.Path.{refl}
+use Prim.Native.Nat.{_≤_, _-_}
 use native.Mathlib.Omega.{arith}
 use lib.ListN.{length, getD}
 use lib.Ieee.{nan, binary64, add}

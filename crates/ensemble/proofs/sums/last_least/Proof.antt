@@ -1,6 +1,6 @@
 -- The left choice, found from the end, meets its contract. The invariant: it is the choice among the entries that are left. Assumes nothing.
 use mathlib.Core.Path.{_≡_, sym, ap, _∙_}
-use Prim.Native.Nat.{ℕ, suc, _≤_, _<_, _-_}
+use Prim.Native.Nat.{ℕ, suc, _<_, _-_}
 use native.Mathlib.Omega.{arith}
 use lib.ListN.{length, getD, take}
 use lib.Seq.{take-length}
