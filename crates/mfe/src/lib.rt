@@ -197,14 +197,9 @@ pub fn mfe_configuration(
     let own_size = configuration.len() != scaffold.len();
     match design_reply(own_size, scaffold, glues, dg, ds, potentials, ambient) {
         Reply::Refused(refusal, place) => EnergyAnswer::Refused(refusal, place),
-        Reply::Admitted => EnergyAnswer::Energy(searched(
-            scaffold,
-            glues,
-            dg,
-            ds,
-            potentials,
-            ambient,
-            configuration,
-        )),
+        Reply::Admitted => {
+            let energy = searched(scaffold, glues, dg, ds, potentials, ambient, configuration);
+            EnergyAnswer::Energy(energy)
+        }
     }
 }
