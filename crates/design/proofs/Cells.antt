@@ -9,7 +9,7 @@ use lib.ListN.{length, getD, length-append, List·getD-append}
 use lib.Ieee.{Float, nan}
 use Rattle.doubles.specs.Decimal.{zero}
 use Rattle.lists.proofs.Build.{length-tabulate}
-use Rattle.lists.proofs.Default.{getD-default}
+use Rattle.lists.proofs.Places.{getD-default}
 use Rattle.model.specs.Model as Model
 use Rattle.model.specs.Model.{Model, Friend, friendsAt}
 use Rattle.model.specs.Search.{optionsAt}

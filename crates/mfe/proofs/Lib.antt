@@ -1,8 +1,3 @@
-pub mod Choosing
-pub mod Here
-pub mod Rest
-pub mod Vector
-pub mod Positions
-pub mod Shown
 pub mod Replies
+pub mod Shown
 pub mod Answered

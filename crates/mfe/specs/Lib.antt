@@ -1,4 +1,2 @@
-pub mod Tables
-pub mod Entries
 pub mod Answers
 pub mod Answered

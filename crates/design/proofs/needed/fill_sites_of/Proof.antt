@@ -37,7 +37,6 @@ mul-cells c =
     let here = c .before .before .loop-test .taken in
     let low = c .before .before .before .before .before .before .before .before .before .before .before .pre .1 .1 .0 (c .before .before .before .loop .k) here in
     let sized = c .before .before .before .loop .inv .1 .sized in
-    
     let room : c .before .before .before .before .before .before .before .before .before .before .before .args .position * c .before .before .before .before .before .before .before .before .before .before .before .args .strands + c .before .before .before .before .before .before .before .before .before .before .before .args .strands ≤ length (c .before .before .before .before .before .before .before .before .before .before .before .args .cells .now) = c .before .before .before .before .before .before .before .before .before .before .before .pre .1 .1 .1 in
     let known = c .before .before .before .before .before .before .before .before .before .before .before .good in omega arith
 
@@ -49,7 +48,6 @@ add-cells c =
     let here = c .before .before .before .loop-test .taken in
     let low = c .before .before .before .before .before .before .before .before .before .before .before .before .pre .1 .1 .0 (c .before .before .before .before .loop .k) here in
     let sized = c .before .before .before .before .loop .inv .1 .sized in
-    
     let room : c .before .before .before .before .before .before .before .before .before .before .before .before .args .position * c .before .before .before .before .before .before .before .before .before .before .before .before .args .strands + c .before .before .before .before .before .before .before .before .before .before .before .before .args .strands ≤ length (c .before .before .before .before .before .before .before .before .before .before .before .before .args .cells .now) = c .before .before .before .before .before .before .before .before .before .before .before .before .pre .1 .1 .1 in
     let known = c .before .before .before .before .before .before .before .before .before .before .before .before .good in let y = c .wide .ensures in omega arith
 
@@ -58,7 +56,6 @@ mul-cells-2 c =
     let here = c .before .before .before .loop-test .taken in
     let low = c .before .before .before .before .before .before .before .before .before .before .before .before .pre .1 .1 .0 (c .before .before .before .before .loop .k) here in
     let sized = c .before .before .before .before .loop .inv .1 .sized in
-    
     let room : c .before .before .before .before .before .before .before .before .before .before .before .before .args .position * c .before .before .before .before .before .before .before .before .before .before .before .before .args .strands + c .before .before .before .before .before .before .before .before .before .before .before .before .args .strands ≤ length (c .before .before .before .before .before .before .before .before .before .before .before .before .args .cells .now) = c .before .before .before .before .before .before .before .before .before .before .before .before .pre .1 .1 .1 in
     let known = c .before .before .before .before .before .before .before .before .before .before .before .before .good in let y = c .wide .ensures in omega arith
 
@@ -67,7 +64,6 @@ slice-write-cells c =
     let here = c .before .before .before .loop-test .taken in
     let low = c .before .before .before .before .before .before .before .before .before .before .before .before .pre .1 .1 .0 (c .before .before .before .before .loop .k) here in
     let sized = c .before .before .before .before .loop .inv .1 .sized in
-    
     let room : c .before .before .before .before .before .before .before .before .before .before .before .before .args .position * c .before .before .before .before .before .before .before .before .before .before .before .before .args .strands + c .before .before .before .before .before .before .before .before .before .before .before .before .args .strands ≤ length (c .before .before .before .before .before .before .before .before .before .before .before .before .args .cells .now) = c .before .before .before .before .before .before .before .before .before .before .before .before .pre .1 .1 .1 in
     let y = c .wide .ensures in omega arith
 
@@ -82,7 +78,6 @@ loop-again c =
     let here = c .before .before .before .loop-test .taken in
     let low = c .before .before .before .before .before .before .before .before .before .before .before .before .pre .1 .1 .0 (c .before .before .before .before .loop .k) here in
     let sized = c .before .before .before .before .loop .inv .1 .sized in
-    
     let room : c .before .before .before .before .before .before .before .before .before .before .before .before .args .position * c .before .before .before .before .before .before .before .before .before .before .before .before .args .strands + c .before .before .before .before .before .before .before .before .before .before .before .before .args .strands ≤ length (c .before .before .before .before .before .before .before .before .before .before .before .before .args .cells .now) = c .before .before .before .before .before .before .before .before .before .before .before .before .pre .1 .1 .1 in
     let inside : c .before .before .before .before .before .before .before .before .before .before .before .before .args .position * c .before .before .before .before .before .before .before .before .before .before .before .before .args .strands + getD (c .before .before .before .before .before .before .before .before .before .before .before .before .args .friends .now) (c .before .before .before .before .loop .k) 0 < length (c .before .before .before .before .loop .cells) = omega arith in
     let is = c .before .scaffold-bond .ensures ∙ ap (λ (g : ℕ). scaffoldBond g (c .before .before .before .before .before .before .before .before .before .before .before .before .args .glues .now) (c .before .before .before .before .before .before .before .before .before .before .before .before .args .dg .now) (c .before .before .before .before .before .before .before .before .before .before .before .before .args .ds .now) (c .before .before .before .before .before .before .before .before .before .before .before .before .args .ambient) (getD (c .before .before .before .before .before .before .before .before .before .before .before .before .args .friends .now) (c .before .before .before .before .loop .k) 0)) (c .before .before .before .before .before .byte-at .ensures) in
