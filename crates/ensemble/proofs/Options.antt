@@ -1,25 +1,35 @@
 -- The options of a model in rows that are lent: how many ways they give, and which stand where. Assumes nothing.
 use mathlib.Core.Path.{_≡_, refl, sym, ap, _∙_}
-use mathlib.Core.List.{List, [], _∷_, map}
+use mathlib.Core.Logic.{_⊎_, inl, inr}
+use mathlib.Core.List.{List, [], _∷_, map, List·Memᴰ, List·Memᴰ·append-cases, List·Memᴰ·eq-of-singleton}
 use Prim.Native.Nat.{ℕ, _+_, _*_, _-_, _/_, _%_, _<_, _≤_}
 use native.Mathlib.Numerals.{add-one}
 use native.Mathlib.Omega.{arith}
 use lib.ListN.{length, getD, take, drop, length-append, length-drop, length-map, drop-of-length-le}
 use lib.Seq.{drop-cons, getD-take, getD-drop, take-take, take-at, length-take-le, ext-getD}
 use Rattle.lists.specs.Build.{product}
+<<<<<<< HEAD
 use Rattle.lists.proofs.Places.{drop-map, getD-map-lt}
+=======
+use Rattle.lists.proofs.Places.{drop-map, getD-map-lt}
+use Rattle.lists.proofs.Places.{mem-getD}
+>>>>>>> 26ce4e07a9009294bf545f9ea2aa15644c10afb6
 use Rattle.model.specs.Model as Model
-use Rattle.model.specs.Model.{Model, friendsAt, options, optionsOf}
+use Rattle.model.specs.Model.{Model, Friend, friendsAt, options, optionsOf}
 use Rattle.model.specs.States.{choices, choiceAt, count}
 use Rattle.model.specs.Search.{optionsAt}
 use Rattle.model.proofs.Count.{count-choices}
-use Rattle.ensemble.specs.Layout.{OptionRows, optionIn}
+use Rattle.ensemble.specs.Layout.{Readable, Searchable, OptionRows, optionIn}
 
 -- a row of 64 ends where the next begins
 pub row-inside : (i n : ℕ) → i < n → 64 * i + 64 ≤ 64 * n
 row-inside i n h = omega arith
 
 module _ {m : Model} {rows counts : List ℕ} (w : OptionRows m rows counts) where
+  -- what the code relies on
+  pub readable : Readable rows counts
+  readable = record { sized = rw (w .positions) (w .sized); few = λ i h. w .few i (rw (← w .positions) h) }
+
   -- a position's row
   pub options-are : (i : ℕ) → i < Model.positions m → take (getD counts i 0) (drop (64 * i) rows) ≡ optionsAt m i
   options-are i h = sym (take-take (getD counts i 0) 64 (drop (64 * i) rows) (w .few i h)) ∙ w .options i h
@@ -75,3 +85,23 @@ module _ {m : Model} {rows counts : List ℕ} (w : OptionRows m rows counts) whe
   pub choice-past : (i rank : ℕ) → Model.positions m ≤ i → choiceAt (drop i (options m)) rank ≡ []
   unfolding choiceAt
   choice-past i rank h = rw (drop-of-length-le (options m) (let l : length (options m) ≤ i = rw (length-map (m .friends) optionsOf) h in l)) refl
+
+-- what the search relies on, too
+pub searchable : {m : Model} {rows counts : List ℕ} (strands : ℕ) → OptionRows m rows counts → Model.positions m ≤ 128 → 0 < strands → strands ≤ 64 → ((i strand : ℕ) → Friend m i strand → strand < strands) → Searchable strands rows counts
+searchable {m} {rows} {counts} strands w short null few friends = record {
+  readable = readable w;
+  short = rw (w .positions) short;
+  few = few;
+  some = λ i h. let e = count-is w i (in-model i h) ∙ length-append (friendsAt m i) (0 ∷ []) in omega arith;
+  known = λ i k h l. rw (option-is w i k (in-model i h) l) (below i (getD (optionsAt m i) k 0) (mem-getD 0 (optionsAt m i) k (rw (← count-is w i (in-model i h)) l)));
+}
+  where
+    in-model : (i : ℕ) → i < length counts → i < Model.positions m
+    in-model i h = rw (← w .positions) h
+
+    below : (i x : ℕ) → List·Memᴰ x (optionsAt m i) → x < strands
+    below i x o = go (List·Memᴰ·append-cases (friendsAt m i) o)
+      where
+        go : Friend m i x ⊎ List·Memᴰ x (0 ∷ []) → x < strands
+        go (inl f) = friends i x f
+        go (inr z) = rw (List·Memᴰ·eq-of-singleton z) null

@@ -54,7 +54,7 @@ LeastSums bond left energies strands k best = (right : ℕ) → right < strands 
 abbrev pub Low : List ℕ → Type 0
 Low row = (k : ℕ) → getD row k 0 < 64
 
--- so at each of the first k friends
+-- two rows have so the left choices of the first k friends, and every choice in them is a strand number
 pub record Attachments (bond : ℕ → ℕ → Float) (left : List ℕ) (energies : List Float) (friends : List ℕ) (k : ℕ) (best : List Float) (choice : List ℕ) : Type 0 where
   pub wide : length best ≡ 64
   pub sized : length choice ≡ 64

@@ -337,7 +337,8 @@ trace-requires : tie.Need-trace-requires Inv-loop μ-loop
 trace-requires c κs =
     let short = c .before .before .before .before .before .before .before .before .before .before .before .before .pre .0 .short in
     let size = c .before .before .before .before .before .before .before .before .before .before .before .before .pre .1 .1 .1 in
-    (omega arith, (c .before .lowest-product .ensures .1, c .before .before .before .before .before .loop .inv .9))
+    let low = c .before .lowest-product .ensures .1 in
+    (omega arith, (omega arith, c .before .before .before .before .before .loop .inv .9))
 
 same-length : tie.Need-same-length Inv-loop μ-loop
 same-length c = search needs
