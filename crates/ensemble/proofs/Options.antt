@@ -8,12 +8,8 @@ use native.Mathlib.Omega.{arith}
 use lib.ListN.{length, getD, take, drop, length-append, length-drop, length-map, drop-of-length-le}
 use lib.Seq.{drop-cons, getD-take, getD-drop, take-take, take-at, length-take-le, ext-getD}
 use Rattle.lists.specs.Build.{product}
-<<<<<<< HEAD
-use Rattle.lists.proofs.Places.{drop-map, getD-map-lt}
-=======
 use Rattle.lists.proofs.Places.{drop-map, getD-map-lt}
 use Rattle.lists.proofs.Places.{mem-getD}
->>>>>>> 26ce4e07a9009294bf545f9ea2aa15644c10afb6
 use Rattle.model.specs.Model as Model
 use Rattle.model.specs.Model.{Model, Friend, friendsAt, options, optionsOf}
 use Rattle.model.specs.States.{choices, choiceAt, count}

@@ -1,0 +1,44 @@
+-- What the reply of a design's checks says of a call. Assumes nothing.
+use mathlib.Core.Path.{_≡_, sym, ap, _∙_}
+use mathlib.Core.Bool.{Bool, true, false, not}
+use mathlib.Core.List.{List, [], _∷_}
+use Prim.Native.Nat.{ℕ, _<_, _≤_, min}
+use native.Mathlib.Omega.{arith}
+use lib.Dec.{ltb, eqb}
+use lib.ListN.{length}
+use borrow.Author.Tests.{lt-ltb, le-ltb, eqb-true, not-false}
+use Rattle.reply.specs.First.{firstOf, _if_}
+use Rattle.reply.specs.declared.Refusal.the-variants.{NotAFriend}
+use Rattle.reply.specs.declared.Reply.{Reply}
+use Rattle.reply.specs.declared.Reply.the-variants as Reply
+use Rattle.design.specs.Design.{Design, positions}
+use Rattle.design.specs.Checks.{strangers, designChecks, energyChecks}
+use Rattle.design.proofs.Sizes.{Sized, sized}
+use Rattle.design.proofs.Replies.{passed}
+
+-- the reply as its list has it, where the code's test of a size is the list's
+pub replied : (d : Design) {a b : Bool} {r s : Reply} → r ≡ firstOf (designChecks a d []) → a ≡ b → r ≡ s → firstOf (designChecks b d []) ≡ s
+replied d e f g = ap (λ (t : Bool). firstOf (designChecks t d [])) (sym f) ∙ sym e ∙ g
+
+-- an admitted design's sizes
+pub sizes-of : (d : Design) {a : Bool} {r : Reply} → r ≡ firstOf (designChecks a d []) → r ≡ Reply.Admitted → Sized d
+sizes-of d {a} e g = sized d (passed a d [] (sym e ∙ g) .design .sizes)
+
+-- a configuration that a call takes has at most 128 places
+pub few-places : (d : Design) (s : List ℕ) → firstOf (energyChecks d s) ≡ Reply.Admitted → length s ≤ 128
+few-places d s e =
+    let p = passed (not (eqb (length s) (positions d))) d (NotAFriend if strangers d s ∷ []) e in
+    let same : length s ≡ positions d = eqb-true _ _ (not-false _ (p .size)) in
+    let short = sized d (p .design .sizes) .short in
+    omega arith
+
+-- a count that is held just past the limit
+module _ (n : ℕ) {r : ℕ} (held : r ≡ min n 1048577) where
+  pub too-many : 1048576 < r → ltb 1048576 n ≡ true
+  too-many h = lt-ltb 1048576 n (omega arith)
+
+  pub not-too-many : r ≤ 1048576 → ltb 1048576 n ≡ false
+  not-too-many h = le-ltb 1048576 n (omega arith)
+
+  pub counted : r ≤ 1048576 → r ≡ n
+  counted h = omega arith

@@ -1,0 +1,36 @@
+-- `bond_with_scaffold` meets its contract. Assumes nothing.
+use borrow.Author.Needs.{needs}
+use mathlib.Core.Path.{_≡_, sym, ap, _∙_}
+use Prim.Native.Nat.{ℕ}
+use Rattle.doubles.specs.Decimal.{zero}
+use Rattle.reply.specs.Figures.{given}
+use Rattle.reply.proofs.Figures.{answered-by, refused-by}
+use Rattle.design.specs.Design.{Design, lent, scaffoldBondIn, scaffoldBond}
+use Rattle.sdc1d.proofs.Calls.{replied}
+use Rattle.sdc1d.proofs.bond_with_scaffold.Statement.{statement}
+use Rattle.sdc1d.proofs.bond_with_scaffold.Tie as tie
+
+returns : tie.Need-returns
+returns c =
+    let a = @args in
+    let d : Design = lent (a .scaffold) (a .glues) (a .dg) (a .ds) (a .potentials) (a .ambient) in
+    refused-by zero (scaffoldBondIn d (a .position) (a .strand)) (replied d (@design-reply .ensures) (@either .ensures) (@refusal .given .1))
+
+returns-2 : tie.Need-returns-2
+returns-2 c =
+    let a = @args in
+    let d : Design = lent (a .scaffold) (a .glues) (a .dg) (a .ds) (a .potentials) (a .ambient) in
+    ap given (@scaffold-bond .ensures ∙ ap (λ (g : ℕ). scaffoldBond g (d .glues) (d .dg) (d .ds) (d .ambient) (a .strand)) (@byte-at .ensures)) ∙ answered-by zero (scaffoldBondIn d (a .position) (a .strand)) (replied d (@design-reply .ensures) (@either .ensures) (@enum-told .given .1))
+
+pub bond-with-scaffold-spec : {M : Type 1} → statement M
+bond-with-scaffold-spec =
+    tie.close
+    (tie.spec
+    (λ c κs. search needs)
+    (λ c κs. search needs)
+    (λ c. search needs)
+    (λ c. search needs)
+    (λ c κs. search needs)
+    (λ c κs. search needs)
+    returns
+    returns-2)
