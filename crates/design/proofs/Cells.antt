@@ -1,15 +1,19 @@
 -- What the fillers leave is what a search over the model of an admitted design reads. Assumes nothing.
-use mathlib.Core.Path.{_≡_, refl, sym, ap, _∙_}
+use mathlib.Core.Path.{_≡_, refl, sym, _∙_}
 use mathlib.Core.Logic.{_⊎_, inl, inr}
 use mathlib.Core.Bool.{Bool, true, false}
 use mathlib.Core.List.{List, [], _∷_, List·Memᴰ, List·Memᴰ·not-nil, List·Memᴰ·cases-cons}
-use Prim.Native.Nat.{ℕ, suc, _+_, _*_, _-_, _<_, _≤_}
+use Prim.Native.Nat.{ℕ, suc, _+_, _-_, _<_}
 use native.Mathlib.Omega.{arith}
 use lib.ListN.{length, getD, length-append, List·getD-append}
 use lib.Ieee.{Float, nan}
 use Rattle.doubles.specs.Decimal.{zero}
+<<<<<<< HEAD
 use Rattle.lists.proofs.Build.{length-tabulate}
 use Rattle.lists.proofs.Places.{getD-default}
+=======
+use Rattle.lists.proofs.Places.{getD-default}
+>>>>>>> 41ffa291294ce431be1de17fb4d870830e5e4a6b
 use Rattle.model.specs.Model as Model
 use Rattle.model.specs.Model.{Model, Friend, friendsAt}
 use Rattle.model.specs.Search.{optionsAt}

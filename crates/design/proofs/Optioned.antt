@@ -1,16 +1,16 @@
 -- The rows of options: one more, and what they are of a model of these friends. Assumes nothing.
-use mathlib.Core.Path.{_≡_, refl, sym, ap, subst, _∙_}
+use mathlib.Core.Path.{_≡_, sym, ap, _∙_}
 use mathlib.Core.Logic.{inl, inr}
 use mathlib.Core.Bool.{Bool, false, true, cond}
-use mathlib.Core.List.{List, [], _∷_, _++_, List·Memᴰ, List·Memᴰ·append-cases, List·Memᴰ·eq-of-singleton}
-use Prim.Native.Nat.{ℕ, zero, suc, _+_, _*_, _<_, _≤_}
+use mathlib.Core.List.{List, [], _∷_, _++_, List·Memᴰ·append-cases, List·Memᴰ·eq-of-singleton}
+use Prim.Native.Nat.{ℕ, suc, _+_, _*_, _<_, _≤_}
 use native.Mathlib.Nat.{ne-of-lt}
 use native.Mathlib.Omega.{arith}
 use lib.ListN.{length, getD, take, drop, set, length-append, length-drop}
 use lib.Seq.{getD-set-same, getD-set-other, getD-take, getD-drop, take-append-add, drop-cons, set-at}
 use lib.Ieee.{Float}
 use borrow.Author.Count.{below-more}
-use Rattle.lists.specs.Build.{tabulate, upTo, keep}
+use Rattle.lists.specs.Build.{upTo, keep}
 use Rattle.lists.proofs.Build.{length-tabulate, getD-tabulate, keep-later}
 use Rattle.lists.proofs.Keep.{kept-below}
 use Rattle.lists.proofs.Places.{mem-getD}

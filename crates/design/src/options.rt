@@ -4,7 +4,7 @@ ghost use mathlib.Core.Path.{_≡_};
 ghost use mathlib.Core.Bool.{false};
 ghost use mathlib.Core.List.{_++_};
 ghost use Prim.Native.Nat.{_+_, _*_, _<_, _≤_};
-ghost use lib.ListN.{length, getD, drop};
+ghost use lib.ListN.{length, drop};
 ghost use Rattle.model.specs.Model.{Model};
 ghost use Rattle.ensemble.specs.Layout.{Searchable, OptionRows};
 ghost use Rattle.design.specs.Design.{befriends, friendsTo, friendLists};

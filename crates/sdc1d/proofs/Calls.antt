@@ -7,11 +7,13 @@ use native.Mathlib.Omega.{arith}
 use lib.Dec.{ltb, eqb}
 use lib.ListN.{length}
 use borrow.Author.Tests.{lt-ltb, le-ltb, eqb-true, not-false}
+use Rattle.lists.proofs.Build.{length-tabulate}
 use Rattle.reply.specs.First.{firstOf, _if_}
 use Rattle.reply.specs.declared.Refusal.the-variants.{NotAFriend}
 use Rattle.reply.specs.declared.Reply.{Reply}
 use Rattle.reply.specs.declared.Reply.the-variants as Reply
-use Rattle.design.specs.Design.{Design, positions}
+use Rattle.ensemble.specs.Layout.{OptionRows}
+use Rattle.design.specs.Design.{Design, positions, friendsOf, modelOf}
 use Rattle.design.specs.Checks.{strangers, designChecks, energyChecks}
 use Rattle.design.proofs.Sizes.{Sized, sized}
 use Rattle.design.proofs.Replies.{passed}
@@ -31,6 +33,11 @@ few-places d s e =
     let same : length s ≡ positions d = eqb-true _ _ (not-false _ (p .size)) in
     let short = sized d (p .design .sizes) .short in
     omega arith
+
+-- the options have a row for each position
+pub placed : (d : Design) {rows counts : List ℕ} → OptionRows (modelOf d) rows counts → length counts ≡ positions d
+unfolding modelOf
+placed d o = o .positions ∙ length-tabulate (positions d) (friendsOf d)
 
 -- a count that is held just past the limit
 module _ (n : ℕ) {r : ℕ} (held : r ≡ min n 1048577) where

@@ -30,10 +30,14 @@ use strangers::first_stranger;
 use units::Ambient;
 ghost use mathlib.Core.Bool.{_||_};
 ghost use mathlib.Core.Path.{_≡_};
+ghost use Prim.Native.Nat.{_*_, _≤_, min};
+ghost use lib.ListN.{length};
 ghost use Rattle.reply.specs.First.{firstOf};
 ghost use Rattle.reply.specs.Figures.{replyFigures};
-ghost use Rattle.design.specs.Design.{lent};
-ghost use Rattle.design.specs.Checks.{energyChecks};
+ghost use Rattle.model.specs.States.{count};
+ghost use Rattle.ensemble.specs.Layout.{OptionRows};
+ghost use Rattle.design.specs.Design.{lent, modelOf};
+ghost use Rattle.design.specs.Checks.{Admitted, energyChecks};
 ghost use Rattle.design.specs.Answers.{bondFigures, countFigures, energyFigures, chainFigures, strandBondAnswer, scaffoldBondAnswer, friendsAnswer, friendsEntries, countAnswer, rankAnswer, rankEntries, stateEnergyAnswer, chainEnergyAnswer};
 
 // The options of all positions, a row of 64 for each.
@@ -44,6 +48,27 @@ fn either(a: bool, b: bool) -> bool
     ensures { λ r. ⌜ r ≡ (a || b) ⌝ }
 {
     a || b
+}
+
+// The options of an admitted design, a row of 64 for each position, and how many states they give; one past the limit where these are more.
+fn count_options(
+    scaffold: &[u8],
+    glues: &[u8],
+    dg: &[f64],
+    ds: &[f64],
+    potentials: &[f64],
+    ambient: Ambient,
+    rows: &mut [u8],
+    counts: &mut [u8],
+) -> u64
+    requires { ⌜ Admitted (lent scaffold glues dg ds potentials ambient) ⌝ }
+    requires { ⌜ 64 * length (now scaffold) ≤ length (now rows) ⌝ }
+    requires { ⌜ length (now counts) ≡ length (now scaffold) ⌝ }
+    ensures { λ r. ⌜ r ≡ min (count (modelOf (lent (scaffold .entry) (glues .entry) (dg .entry) (ds .entry) (potentials .entry) ambient))) 1048577 ⌝ }
+    ensures { λ r. ⌜ OptionRows (modelOf (lent (scaffold .entry) (glues .entry) (dg .entry) (ds .entry) (potentials .entry) ambient)) (now (rows .exit)) (now (counts .exit)) ⌝ }
+{
+    fill_options(scaffold, glues, dg, ds, potentials.len() as u8, rows, counts);
+    state_count(counts)
 }
 
 // The bond between strand x and strand y to the east of it.
@@ -132,9 +157,16 @@ pub fn number_of_states(
             let mut rows = [0u8; OPTIONS];
             let mut counts = [0u8; POSITIONS];
             let positions = scaffold.len();
-            let strands = potentials.len() as u8;
-            fill_options(scaffold, glues, dg, ds, strands, &mut rows, &mut counts[..positions]);
-            let number = state_count(&counts[..positions]);
+            let number = count_options(
+                scaffold,
+                glues,
+                dg,
+                ds,
+                potentials,
+                ambient,
+                &mut rows,
+                &mut counts[0..positions],
+            );
             if MOST_STATES < number {
                 return CountAnswer::Refused(Refusal::TooManyStates, Place::Nowhere);
             }
@@ -157,22 +189,30 @@ pub fn state_at_rank(
     ensures { λ r. ⌜ replyFigures r ≡ rankAnswer (lent (scaffold .entry) (glues .entry) (dg .entry) (ds .entry) (potentials .entry) ambient) rank (now (entries .entry)) ⌝ }
     ensures { λ r. ⌜ now (entries .exit) ≡ rankEntries (lent (scaffold .entry) (glues .entry) (dg .entry) (ds .entry) (potentials .entry) ambient) rank (now (entries .entry)) ⌝ }
 {
-    match design_reply(entries.len() != scaffold.len(), scaffold, glues, dg, ds, potentials, ambient) {
+    let wrong_size = entries.len() != scaffold.len();
+    match design_reply(wrong_size, scaffold, glues, dg, ds, potentials, ambient) {
         Reply::Refused(refusal, place) => Reply::Refused(refusal, place),
         Reply::Admitted => {
             let mut rows = [0u8; OPTIONS];
             let mut counts = [0u8; POSITIONS];
             let positions = scaffold.len();
-            let strands = potentials.len() as u8;
-            fill_options(scaffold, glues, dg, ds, strands, &mut rows, &mut counts[..positions]);
-            let number = state_count(&counts[..positions]);
+            let number = count_options(
+                scaffold,
+                glues,
+                dg,
+                ds,
+                potentials,
+                ambient,
+                &mut rows,
+                &mut counts[0..positions],
+            );
             if MOST_STATES < number {
                 return Reply::Refused(Refusal::TooManyStates, Place::Nowhere);
             }
             if number <= rank {
                 return Reply::Refused(Refusal::RankTooHigh, Place::Nowhere);
             }
-            write_state(&rows, &counts[..positions], number, rank, entries);
+            write_state(&rows, &counts[0..positions], number, rank, entries);
             Reply::Admitted
         }
     }

@@ -1,6 +1,6 @@
 -- `mfe_configuration` meets its contract: its reply is that of the first check that holds, only an admitted call writes, and what it writes and
 -- answers is the lowest configuration with its energy. Assumes nothing.
-use mathlib.Core.Path.{_≡_, refl, sym, ap, _∙_}
+use mathlib.Core.Path.{_≡_, sym, ap, _∙_}
 use mathlib.Core.Bool.{Bool, true, not}
 use mathlib.Core.List.{List, []}
 use Prim.Native.Nat.{ℕ}

@@ -1,5 +1,4 @@
 -- The table of strand bonds is large enough. Assumes nothing.
-use Prim.Native.Nat.{_*_, _≤_}
 use native.Mathlib.Nat.{mul-le-mul}
 use native.Mathlib.Omega.{arith}
 use borrow.Author.Needs.{needs}

@@ -1,7 +1,7 @@
 -- The filling of the cells of two neighbouring positions meets its contract. The invariant: those of the left options passed hold their bonds, and
 -- what held its bond still does. Assumes nothing.
 use mathlib.Core.Path.{_≡_}
-use Prim.Native.Nat.{ℕ, _+_, _*_, _-_, _<_, _≤_}
+use Prim.Native.Nat.{ℕ, _-_, _<_, _≤_}
 use native.Mathlib.Nat.{not-suc-le-zero}
 use native.Mathlib.Omega.{arith}
 use lib.ListN.{length, getD}

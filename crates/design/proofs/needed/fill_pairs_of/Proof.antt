@@ -1,6 +1,6 @@
 -- The filling of a row's cells that are read meets its contract. The invariant: those of the friends passed hold their bonds, and what held its bond
 -- still does. Assumes nothing.
-use mathlib.Core.Path.{_≡_, sym, ap, _∙_}
+use mathlib.Core.Path.{_≡_, ap}
 use Prim.Native.Nat.{ℕ, _+_, _*_, _-_, _<_, _≤_}
 use native.Mathlib.Nat.{not-suc-le-zero}
 use native.Mathlib.Omega.{arith}

@@ -1,12 +1,11 @@
 -- The filling of a row's cells that are read meets its contract. The invariant: those of the friends passed hold their bonds, and what held its bond
 -- still does. Assumes nothing.
-use mathlib.Core.Path.{_≡_, sym, ap, _∙_}
+use mathlib.Core.Path.{_≡_, ap, _∙_}
 use Prim.Native.Nat.{ℕ, _+_, _*_, _-_, _<_, _≤_}
 use native.Mathlib.Nat.{not-suc-le-zero}
 use native.Mathlib.Omega.{arith}
 use lib.ListN.{length, getD}
 use borrow.Author.Needs.{needs}
-use Rattle.lists.proofs.Grid.{row-end}
 use Rattle.design.specs.Design.{scaffoldBond}
 use Rattle.design.specs.Filling.{siteBond, Kept, HeldAt}
 use Rattle.design.proofs.Held.{kept-none, kept-then, stored-kept, held-more}

@@ -1,5 +1,5 @@
 -- The count of the strand bonds that are read meets its contract: each two neighbouring positions add at most 255 * 255. Assumes nothing.
-use Prim.Native.Nat.{_+_, _*_, _-_, _<_, _≤_}
+use Prim.Native.Nat.{_*_, _-_, _≤_}
 use native.Mathlib.Nat.{mul-le-mul}
 use native.Mathlib.Omega.{arith}
 use lib.ListN.{length}

@@ -1,8 +1,5 @@
 -- The filling of a row of options meets its contract. Assumes nothing.
-use mathlib.Core.Path.{_≡_, sym, _∙_}
-use Prim.Native.Nat.{_<_, _≤_}
 use native.Mathlib.Omega.{arith}
-use lib.ListN.{length}
 use borrow.Author.Needs.{needs}
 use Rattle.design.specs.Design.{friendsTo}
 use Rattle.design.proofs.Optioned.{friends-few, optioned}
