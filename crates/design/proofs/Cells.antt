@@ -8,12 +8,7 @@ use native.Mathlib.Omega.{arith}
 use lib.ListN.{length, getD, length-append, List·getD-append}
 use lib.Ieee.{Float, nan}
 use Rattle.doubles.specs.Decimal.{zero}
-<<<<<<< HEAD
-use Rattle.lists.proofs.Build.{length-tabulate}
 use Rattle.lists.proofs.Places.{getD-default}
-=======
-use Rattle.lists.proofs.Places.{getD-default}
->>>>>>> 41ffa291294ce431be1de17fb4d870830e5e4a6b
 use Rattle.model.specs.Model as Model
 use Rattle.model.specs.Model.{Model, Friend, friendsAt}
 use Rattle.model.specs.Search.{optionsAt}
