@@ -4,12 +4,10 @@ use mathlib.Core.Path.{_≡_, refl}
 use mathlib.Core.List.{[], _∷_}
 use Prim.Native.Nat.{ℕ}
 use lib.ListN.{replicate}
-use Rattle.doubles.specs.Decimal.{zero}
+use Rattle.doubles.specs.Decimal.{plus, minus, nearest, zero}
 use Rattle.lists.specs.Build.{tabulate}
 use Rattle.lists.specs.Find.{any, firstIndex}
 use Rattle.lists.specs.Fold.{foldl}
-use Rattle.reply.specs.Number.{numberOf, answered}
-use Rattle.reply.specs.declared.Refusal.the-variants.{UnknownName}
 use Rattle.sdc_common.specs.Names.{baseLength, baseOf, starsOf, sameName}
 use Rattle.sdc_common.specs.Lent.{namesOf, partOf, glueOf, gluesOf, unfitGlue, unfitNames}
 use Rattle.sdc_common.specs.Numbers.{learn, basesOf, baseNumber, glueNumber, numbersAmong}
@@ -38,23 +36,19 @@ oneStrand bytes =
       reporter = Nothing;
     }
 
--- what is lent: glues for strand 0, the strand, quencher and reporter, one scaffold glue, and two tables
+-- what is lent, with something in each place: glues for strand 0, the strand, quencher and reporter, one scaffold glue, and two tables
 abbrev pub lent : Outcome
-lent = record { number = 0; strandGlues = replicate 12 9; scaffoldGlues = 9 ∷ []; dg = replicate 4096 zero; ds = replicate 4096 zero }
+lent = record { number = 0; strandGlues = replicate 12 9; scaffoldGlues = 9 ∷ []; dg = replicate 4096 (nearest (minus 15 1)); ds = replicate 4096 (nearest (plus 25 2)) }
 
--- scaffold name `a**`, strands use `a`: 6
-pub line-a-two-stars : fromParams (oneStrand 3) lent .number ≡ numberOf UnknownName
+-- scaffold name `a**`, strands use `a`: 6, and all that was lent is as it was
+pub line-a-two-stars :
+    fromParams (oneStrand 3) lent ≡ record { number = 6; strandGlues = lent .strandGlues; scaffoldGlues = lent .scaffoldGlues; dg = lent .dg; ds = lent .ds }
 unfolding fromParams wrongSize unfitNames unfitGlue any tabulate gluesOf glueOf partOf isUnknown knownNames basesOf foldl learn baseOf baseLength sameName
 line-a-two-stars = refl
 
--- and the scaffold glue is as it was lent
-pub line-a-two-stars-kept : fromParams (oneStrand 3) lent .scaffoldGlues ≡ 9 ∷ []
-unfolding fromParams wrongSize unfitNames unfitGlue any tabulate gluesOf glueOf partOf isUnknown knownNames basesOf foldl learn baseOf baseLength sameName
-line-a-two-stars-kept = refl
-
--- the same with `a*` is answered: its glue is 2, that of the strand 1, and every cell is 0.0
+-- Added: the same with `a*` is answered. Its glue is 2, that of the strand 1, and every cell is 0.0.
 pub line-a-one-star :
     fromParams (oneStrand 2) lent
-    ≡ record { number = answered; strandGlues = 0 ∷ 0 ∷ 0 ∷ 1 ∷ 0 ∷ 0 ∷ 0 ∷ 0 ∷ 0 ∷ 0 ∷ 0 ∷ 0 ∷ []; scaffoldGlues = 2 ∷ []; dg = emptyTable; ds = emptyTable }
+    ≡ record { number = 0; strandGlues = 0 ∷ 0 ∷ 0 ∷ 1 ∷ 0 ∷ 0 ∷ 0 ∷ 0 ∷ 0 ∷ 0 ∷ 0 ∷ 0 ∷ []; scaffoldGlues = 2 ∷ []; dg = emptyTable; ds = emptyTable }
 unfolding fromParams wrongSize unfitNames unfitGlue any tabulate gluesOf glueOf partOf isUnknown knownNames basesOf foldl learn baseOf baseLength sameName writesOf duplicated strandGluesOf numbersAmong glueNumber baseNumber starsOf spelledNumber firstIndex dgTable dsTable
 line-a-one-star = refl

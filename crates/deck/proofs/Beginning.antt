@@ -10,10 +10,10 @@ use lib.Dec.{leb, eqb}
 use lib.ListN.{length, take, getD, replicate, length-replicate}
 use borrow.Author.Tests.{leb-true, eqb-true, eq-eqb, le-leb, not-true, not-false}
 use Rattle.lists.specs.Find.{any}
-use Rattle.lists.specs.Beginnings.{beginnings}
+use Rattle.lists.specs.Front.{beginnings}
 use Rattle.lists.proofs.Tests.{both, and-both}
 use Rattle.lists.proofs.Find.{any-replicate, first-le, fails-before, passes-first}
-use Rattle.lists.proofs.Beginnings.{length-beginnings, getD-beginnings}
+use Rattle.lists.proofs.Front.{length-beginnings, getD-beginnings}
 use Rattle.deck.specs.Word.{payloadOf}
 use Rattle.deck.specs.Form.{Form, Rules, nothing, together}
 use Rattle.deck.specs.Deck.{follow, positions, isDeck, CanBegin, begins, doesNotBegin, misfitOf, FirstMisfit, stretchesOf, deckOf, tooHigh}

@@ -5,7 +5,7 @@ use Prim.Native.Nat.{ℕ, _+_, _≤_, _<_}
 use native.Mathlib.Numerals.{add-one}
 use lib.ListN.{length, getD, drop, replicate, length-append, length-replicate, drop-of-length-le}
 use lib.Seq.{drop-cons, sets}
-use Rattle.lists.proofs.Over.{sets-append}
+use Rattle.lists.proofs.Front.{sets-append}
 use Rattle.deck.specs.Form.{Form}
 use Rattle.deck.specs.Deck.{laidOut}
 use Rattle.deck.specs.declared.form.Stretch.{Stretch}

@@ -8,8 +8,8 @@ use lib.Dec.{ltb, eqb}
 use lib.ListN.{length}
 use borrow.Author.Tests.{ltb-false, le-ltb, eqb-true, eq-eqb}
 use Rattle.lists.specs.Find.{any}
-use Rattle.lists.specs.Over.{over}
-use Rattle.lists.proofs.Over.{take-over}
+use Rattle.lists.specs.Front.{over}
+use Rattle.lists.proofs.Front.{take-over}
 use Rattle.reply.specs.Number.{numberOf, answered}
 use Rattle.reply.specs.First.{firstOf, answer, _if_}
 use Rattle.reply.proofs.Lowest.{lowest-given}

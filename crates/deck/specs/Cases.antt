@@ -4,7 +4,7 @@ use mathlib.Core.Path.{_≡_, refl}
 use Prim.Native.Nat.{ℕ}
 use lib.ListN.{replicate}
 use Rattle.lists.specs.Find.{firstIndex}
-use Rattle.lists.specs.Beginnings.{beginnings}
+use Rattle.lists.specs.Front.{beginnings}
 use Rattle.reply.specs.Number.{numberOf, answered}
 use Rattle.reply.specs.declared.Refusal.the-variants.{BadDeck}
 use Rattle.reply.specs.declared.Place.the-variants.{Nowhere, At}

@@ -6,7 +6,7 @@ use Prim.Native.Nat.{ℕ, suc, _+_, _≤_, _<_}
 use lib.Dec.{leb, ltb, eqb}
 use lib.ListN.{length, drop, take, replicate}
 use Rattle.lists.specs.Find.{firstIndex}
-use Rattle.lists.specs.Beginnings.{beginnings}
+use Rattle.lists.specs.Front.{beginnings}
 use Rattle.reply.specs.declared.Place.{Place}
 use Rattle.reply.specs.declared.Place.the-variants.{Nowhere, At}
 use Rattle.deck.specs.Word.{kindOf, payloadOf, wordOf}

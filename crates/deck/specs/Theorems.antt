@@ -6,7 +6,7 @@ use mathlib.Core.Path.{_≡_}
 use Prim.Native.Nat.{ℕ, _≤_}
 use lib.ListN.{length, take}
 use Rattle.lists.specs.Find.{any}
-use Rattle.lists.specs.Over.{over}
+use Rattle.lists.specs.Front.{over}
 use Rattle.reply.specs.Number.{numberOf, answered}
 use Rattle.reply.specs.First.{LowestGiven}
 use Rattle.reply.specs.declared.Refusal.the-variants.{BadDeck}

@@ -9,7 +9,7 @@ use lib.ListN.{length, getD}
 use lib.Ieee.{Float, nan, binary64, fits, sub, mul}
 use borrow.Author.Tests.{not-false}
 use Rattle.lists.specs.Find.{any}
-use Rattle.lists.proofs.Default.{getD-default}
+use Rattle.lists.proofs.Places.{getD-default}
 use Rattle.lists.proofs.Tests.{neither}
 use Rattle.lists.proofs.Any.{none-passes, none-below}
 use Rattle.lists.proofs.Build.{length-tabulate}

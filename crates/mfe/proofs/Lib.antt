@@ -5,3 +5,4 @@ pub mod Vector
 pub mod Positions
 pub mod Shown
 pub mod Replies
+pub mod Answered

@@ -5,7 +5,7 @@ use Prim.Native.Nat.{ℕ, _<_}
 use native.Mathlib.Omega.{arith}
 use lib.ListN.{getD, length}
 use lib.Ieee.{Float, nan}
-use Rattle.lists.proofs.Map.{getD-map-lt}
+use Rattle.lists.proofs.Places.{getD-map-lt}
 use Rattle.doubles.specs.Decimal.{nearest}
 use Rattle.utils.specs.Paper.{figure, noLoop, table4}
 use Rattle.utils.specs.Figures.{loopEntry}

@@ -6,7 +6,7 @@ use lib.ListN.{length}
 use borrow.Author.Needs.{needs}
 use borrow.Author.Tests.{eq-eqb, ne-eqb}
 use denote.Ref.{now}
-use Rattle.lists.proofs.Over.{sets-over}
+use Rattle.lists.proofs.Front.{sets-over}
 use Rattle.deck.specs.Form.{singles}
 use Rattle.deck.specs.Deck.{isDeck, configurationOf}
 use Rattle.deck.specs.Reading.{readFigures, readEntries}

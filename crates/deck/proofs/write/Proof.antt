@@ -5,7 +5,7 @@ use lib.ListN.{length}
 use borrow.Author.Tests.{lt-ltb, le-ltb, eq-eqb, ne-eqb}
 use denote.Ref.{now}
 use Rattle.lists.proofs.Find.{any-true, any-false}
-use Rattle.lists.proofs.Over.{sets-over}
+use Rattle.lists.proofs.Front.{sets-over}
 use Rattle.deck.specs.Form.{singles}
 use Rattle.deck.specs.Deck.{deckOf, tooHigh}
 use Rattle.deck.specs.Writing.{writeFigures, writeWords}

@@ -5,7 +5,7 @@ use native.Mathlib.Omega.{arith}
 use lib.ListN.{length, replicate, length-set}
 use lib.Seq.{sets}
 use borrow.Author.Needs.{needs}
-use Rattle.lists.proofs.Over.{sets-run, sets-none}
+use Rattle.lists.proofs.Front.{sets-run, sets-none}
 use Rattle.deck.proofs.reading.lay.Statement.{statement}
 use Rattle.deck.proofs.reading.lay.Tie as tie
 

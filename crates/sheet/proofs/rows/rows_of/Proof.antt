@@ -8,7 +8,7 @@ use native.Mathlib.Omega.{arith}
 use lib.ListN.{length, drop, take}
 use lib.Seq.{take-nil}
 use borrow.Author.Tests.{eq-eqb, ne-eqb, ltb-true, ltb-false}
-use Rattle.lists.specs.Over.{over}
+use Rattle.lists.specs.Front.{over}
 use Rattle.lists.specs.Build.{upTo, keep}
 use Rattle.lists.proofs.Build.{keep-here, keep-later, keep-past}
 use Rattle.lists.proofs.Front.{Front, front-none, front-length, front-step, front-same, front-whole}

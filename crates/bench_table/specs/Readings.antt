@@ -1,16 +1,16 @@
--- Two designs in which rounding makes energies equal: what the search and the walk give, where a reading that is wrong about ties differs.
+-- Designs on which two readings of document 01 part: what the search, the walk and both energies give, where the other reading gives something else.
 use mathlib.Core.Path.{_≡_}
 use mathlib.Core.Bool.{true}
-use mathlib.Core.List.{List, [], _∷_}
+use mathlib.Core.List.{[], _∷_}
 use Prim.Native.Nat.{ℕ}
 use lib.ListN.{set}
 use lib.IntN.{pos}
-use lib.Ieee.{fin, lt}
+use lib.Ieee.{fin, binary64, lt, toBits}
 use Rattle.doubles.specs.Decimal.{Decimal, plus, minus, nearest, zero}
 use Rattle.units.specs.declared.Ambient.{Ambient}
 use Rattle.model.specs.Energy.{walk, chainEnergy, chainProduct}
 use Rattle.design.specs.Design.{Design, design, modelOf}
-use Rattle.design.specs.Answers.{given}
+use Rattle.design.specs.Answers.{given, stateEnergyAnswer, chainEnergyAnswer}
 use Rattle.mfe.specs.Answers.{searchAnswer, searchEntries}
 use Rattle.bench_table.specs.Designs.{zeros}
 
@@ -43,3 +43,17 @@ pub record OneProduct : Type 0 where
   pub smaller : lt (chainEnergy (modelOf close) (2 ∷ [])) (chainEnergy (modelOf close) (1 ∷ [])) ≡ true
   pub same : chainProduct (modelOf close) (2 ∷ []) ≡ chainProduct (modelOf close) (1 ∷ [])
   pub configuration : (x : ℕ) → searchEntries close (x ∷ []) ≡ 1 ∷ []
+
+-- RT 1; two positions with a friend each: dG −0.1 on the scaffold, −0.3 between the two, potentials −0.3 and −0.1
+unfoldable pub parted : Design
+unfolding nearest
+parted =
+    design (1 ∷ 2 ∷ []) (0 ∷ 0 ∷ 0 ∷ 0 ∷ 1 ∷ 3 ∷ 3 ∷ 2 ∷ 0 ∷ []) (set (set (set zeros 65 (nearest (minus 1 1))) 130 (nearest (minus 1 1))) 195 (nearest (minus 3 1))) zeros
+    (zero ∷ nearest (minus 3 1) ∷ nearest (minus 1 1) ∷ []) (noExcess (plus 1 0))
+
+-- the search shows both friends with −0.1, and their state energy is −0.10000000000000003: the two sums round in different orders
+pub record TwoSums : Type 0 where
+  pub configuration : (x y : ℕ) → searchEntries parted (x ∷ y ∷ []) ≡ 1 ∷ 2 ∷ []
+  pub energy : (x y : ℕ) → toBits binary64 (searchAnswer parted (x ∷ y ∷ []) .figure) ≡ 0xbfb9_9999_9999_999a
+  pub chain : toBits binary64 (chainEnergyAnswer parted (1 ∷ 2 ∷ []) .figure .timesRt) ≡ 0xbfb9_9999_9999_999a
+  pub state : toBits binary64 (stateEnergyAnswer parted (1 ∷ 2 ∷ []) .figure) ≡ 0xbfb9_9999_9999_999c
