@@ -1,3 +1,4 @@
+pub mod AtTheEnd
 pub mod Letters
 pub mod ByBase
 pub mod Lengths

@@ -7,15 +7,15 @@ use lib.ListN.{getD, length}
 use lib.Ieee.{Float, nan}
 use Rattle.lists.proofs.Places.{getD-map-lt}
 use Rattle.doubles.specs.Decimal.{nearest}
-use Rattle.utils.specs.Paper.{figure, noLoop, table4}
-use Rattle.utils.specs.Figures.{loopEntry}
-use Rattle.utils.specs.Loops.{kindIndex}
+use Rattle.utils.specs.Paper.{loopFigure, noLoop}
+use Rattle.utils.specs.Figures.{loopRows, loopEntry}
+use Rattle.utils.specs.inner.Tables.{kindIndex}
 use Rattle.utils.specs.declared.tables.LoopKind.{LoopKind}
 use Rattle.utils.specs.declared.tables.LoopKind.the-variants.{Internal, Bulge, HairPin}
 use Rattle.utils.proofs.Lengths.{fifteen}
 
 abbrev pub energies : LoopKind → List Float
-energies kind = map (λ l. nearest (figure kind l)) table4
+energies kind = map (λ l. nearest (loopFigure kind l)) loopRows
 
 abbrev pub rows : List (List Float)
 rows = energies Internal ∷ energies Bulge ∷ energies HairPin ∷ []
@@ -24,8 +24,8 @@ entry-at : (kind : LoopKind) (at : ℕ) → at < 15 → getD (energies kind) at 
 unfolding loopEntry
 entry-at kind at h =
     let l = fifteen in
-    let k : at < length table4 = omega arith in
-    getD-map-lt (λ l. nearest (figure kind l)) table4 at noLoop nan k
+    let k : at < length loopRows = omega arith in
+    getD-map-lt (λ l. nearest (loopFigure kind l)) loopRows at noLoop nan k
 
 in-row : (kind : LoopKind) (at : ℕ) → at < 15 → getD (getD rows (kindIndex kind) []) at nan ≡ loopEntry kind at
 in-row Internal at h = entry-at Internal at h

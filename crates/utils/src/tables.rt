@@ -2,10 +2,8 @@
 ghost use mathlib.Core.Path.{_≡_};
 ghost use Prim.Native.Nat.{_<_};
 ghost use Rattle.lists.specs.Find.{firstIndex};
-ghost use Rattle.utils.specs.Paper.{table4};
-ghost use Rattle.utils.specs.Bases.{byTwo, byThree};
-ghost use Rattle.utils.specs.Figures.{stackDg, stackDs, StackOf, penalty, mismatchDg, isLength, loopEntry};
-ghost use Rattle.utils.specs.Loops.{kindIndex};
+ghost use Rattle.utils.specs.Figures.{stackDg, stackDs, penalty, mismatchDg, loopRows, isLength, loopEntry};
+ghost use Rattle.utils.specs.inner.Tables.{byTwo, byThree, StackAt, kindIndex};
 use crate::bases::DnaNucleotideBase;
 use crate::bases::good_match;
 use units::KcalPerMol;
@@ -140,7 +138,7 @@ impl LoopKind {
 pub(crate) fn dg_ds(energies: &[[f64; 4]; 4], entropies: &[[f64; 4]; 4], i: usize, j: usize) -> DgDs
     requires { ⌜ (now energies ≡ byTwo stackDg) × (now entropies ≡ byTwo stackDs) ⌝ }
     requires { ⌜ (i < 4) × (j < 4) ⌝ }
-    ensures { λ r. ⌜ StackOf i j (r .0 .0) (r .1 .0) ⌝ }
+    ensures { λ r. ⌜ StackAt i j (r .0 .0) (r .1 .0) ⌝ }
 {
     DgDs(
         KcalPerMol(energies[i][j]),
@@ -186,7 +184,7 @@ pub(crate) fn calculate_single_mismatch_penalty(
 
 // The place of a length among LENGTHS, or their number where it is none of them.
 pub(crate) fn length_position(length: usize) -> usize
-    ensures { λ r. ⌜ r ≡ firstIndex (isLength length) table4 ⌝ }
+    ensures { λ r. ⌜ r ≡ firstIndex (isLength length) loopRows ⌝ }
 {
     let mut i = 0;
     while i < 15 {

@@ -1,7 +1,9 @@
 -- `utils::loop_entry` meets its contract: the table holds the paper's loops, a row for each kind. Assumes nothing.
 use lib.Ieee.{ofBits}
 use Rattle.doubles.specs.Decimal.{nearest}
+use Rattle.lists.specs.Build.{keep}
 use Rattle.utils.specs.Paper.{table4}
+use Rattle.utils.specs.Figures.{loopRows}
 use Rattle.utils.proofs.Loops.{entry-in-row}
 use borrow.Author.Needs.{needs}
 use Rattle.utils.proofs.tables.loop_entry.Statement.{statement}
@@ -23,7 +25,7 @@ index-2-t14 : tie.Need-index-2-t14
 index-2-t14 c = search needs
 
 returns : tie.Need-returns
-unfolding table4 nearest ofBits
+unfolding loopRows keep table4 nearest ofBits
 returns c =
     let k = c .before in
     entry-in-row (k .before .args .kind) (k .index .result) (k .before .args .at) (k .index .ensures .0) (search needs)
