@@ -11,7 +11,7 @@ use borrow.Author.Tests.{ne-eqb}
 use Rattle.deck.specs.Form.{singles, stretch}
 use Rattle.deck.specs.Deck.{follow, stretchesOf}
 use Rattle.deck.proofs.Stretches.{in-front-single, run-in-front, follow-first}
-use Rattle.deck.proofs.Singles.{together-empties}
+use Rattle.deck.proofs.Singles.{same-run-empties}
 
 module _ (c : List ℕ) where
   -- a strand is a stretch of its own
@@ -41,7 +41,7 @@ module _ (c : List ℕ) where
   follow-ends end (at-length h) = rw (drop-of-length-le c h)
   follow-ends end (at-strand h n) =
       rw (drop-cons c end 0 h)
-      (follow-first singles (stretch 0 1) (getD c end 0) (drop (suc end) c) (together-empties 0 (getD c end 0) ∙ ne-eqb (getD c end 0) 0 n))
+      (follow-first singles (stretch 0 1) (getD c end 0) (drop (suc end) c) (same-run-empties 0 (getD c end 0) ∙ ne-eqb (getD c end 0) 0 n))
 
   -- they are one stretch
   pub empties-first : (at end : ℕ) → at < end → getD c at 0 ≡ 0 → Empties at end → Ends end → stretchesOf singles (drop at c) ≡ stretch (getD c at 0) (end - at) ∷ stretchesOf singles (drop (at + (end - at)) c)

@@ -6,3 +6,4 @@ pub mod Reading
 pub mod Writing
 pub mod Theorems
 pub mod Cases
+pub mod inner

@@ -1,4 +1,4 @@
-// Document 01's form: the kinds of words, what a word after the first tells of, and which may follow which.
+// Document 01's form: the kinds of words, what a word after the first stands for, and which may follow which.
 use super::word::Word;
 ghost use mathlib.Core.Path.{_≡_};
 ghost use Prim.Native.Nat.{_<_, _^_};
@@ -33,9 +33,9 @@ impl Stretch {
         }
     }
 
-    // What a word tells of, and nothing if it is no word of the form.
+    // The stretch that a word stands for, and nothing if it is no word of the form.
     pub(crate) fn of(bits: u32) -> Self
-        ensures { λ r. ⌜ r ≡ singles .told bits ⌝ }
+        ensures { λ r. ⌜ r ≡ singles .stretchOf bits ⌝ }
     {
         let word = Word::of(bits);
         let kind = word.kind;
@@ -66,10 +66,10 @@ impl Stretch {
         }
     }
 
-    // The word that tells of the stretch.
+    // The word that stands for the stretch.
     pub(crate) fn bits(self) -> u32
         requires { ⌜ self .run < 2 ^ 28 ⌝ }
-        ensures { λ r. ⌜ r ≡ singles .word self ⌝ }
+        ensures { λ r. ⌜ r ≡ singles .wordFor self ⌝ }
     {
         if self.occupant == 0 {
             Word {

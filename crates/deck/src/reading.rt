@@ -10,7 +10,8 @@ ghost use Prim.Native.Nat.{_+_, _≤_};
 ghost use lib.ListN.{length, replicate};
 ghost use lib.Seq.{sets};
 ghost use Rattle.deck.specs.Form.{singles};
-ghost use Rattle.deck.specs.Deck.{isDeck, faultOf, configurationOf};
+ghost use Rattle.deck.specs.Deck.{isDeck, configurationOf};
+ghost use Rattle.deck.specs.inner.Fault.{faultOf};
 
 // The place of the fault, and nowhere in a valid deck.
 pub(crate) fn fault(words: &[u32]) -> Place

@@ -49,7 +49,7 @@ pub(crate) fn pack(configuration: &[u8], words: &mut [u32]) -> usize
     count
 }
 
-// How many positions, from `at` on, one word tells of: one strand, or empties as far as they go.
+// How many positions, from `at` on, one word stands for: one strand, or empties as far as they go.
 fn run_at(configuration: &[u8], at: usize) -> usize
     requires { ⌜ at < length (now configuration) ⌝ }
     ensures { λ r. ⌜ (1 ≤ r) × (at + r ≤ length (now (configuration .entry))) × (stretchesOf singles (drop at (now (configuration .entry))) ≡ stretch (getD (now (configuration .entry)) at 0) r ∷ stretchesOf singles (drop (at + r) (now (configuration .entry)))) ⌝ }

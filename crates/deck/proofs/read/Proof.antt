@@ -1,4 +1,4 @@
--- `deck::read` meets its contract: where a fault is told of, it is the place; where none is, the deck is valid. Assumes nothing.
+-- `deck::read` meets its contract: a fault that was found is the place; where none was, the deck is valid. Assumes nothing.
 use mathlib.Core.Path.{_≡_, sym, _∙_}
 use mathlib.Core.Bool.{true}
 use native.Mathlib.Omega.{arith}
@@ -25,7 +25,7 @@ fault-requires c κs = search needs
 enum-told : tie.Need-enum-told
 enum-told c = search needs
 
--- where no fault is told of, the deck is valid
+-- where no fault was found, the deck is valid
 valid : (c : tie.After-enum-told) → isDeck singles (now (c .before .before .before .before .before .before .args .words)) ≡ true
 valid c = no-fault singles (now (c .before .before .before .before .before .before .args .words)) (sym (c .before .before .fault .ensures) ∙ c .enum-told .given .1)
 

@@ -11,7 +11,7 @@ use denote.Ref.{now}
 use Rattle.reply.specs.declared.Place.the-variants.{At}
 use Rattle.deck.specs.Word.{kindOf, payloadOf}
 use Rattle.deck.specs.Form.{singles, mayFollow}
-use Rattle.deck.specs.Deck.{faultOf}
+use Rattle.deck.specs.inner.Fault.{faultOf}
 use Rattle.deck.specs.declared.form.Stretch.{Stretch}
 use Rattle.deck.proofs.Walk.{walk, walk-on, walk-stops, walk-ends, fault-none, fault-first, fault-rest}
 use Rattle.deck.proofs.reading.fault.Statement.{statement}
@@ -19,7 +19,7 @@ use Rattle.deck.proofs.reading.fault.Tie as tie
 
 abbrev Inv-loop : tie.InvT-loop
 Inv-loop words left₀ before₀ i₀ left before i =
-    (i ≤ length words) × (faultOf singles words ≡ walk singles i before left (map (singles .told) (drop i words)))
+    (i ≤ length words) × (faultOf singles words ≡ walk singles i before left (map (singles .stretchOf) (drop i words)))
 
 abbrev μ-loop : tie.MeasureT-loop
 μ-loop words left₀ before₀ i₀ left before i = length words - i
@@ -70,7 +70,7 @@ may-follow-requires : tie.Need-may-follow-requires Inv-loop μ-loop
 may-follow-requires c κs = search needs
 
 -- whether the word's stretch may follow is what the call said
-follows : (c : tie.After-may-follow Inv-loop μ-loop) → mayFollow singles (c .before .before .before .before .loop .before) (singles .told (getD (now (c .before .before .before .before .before .before .before .before .before .before .before .before .before .before .args .words)) (c .before .before .before .before .loop .i) 0)) ≡ c .may-follow .result
+follows : (c : tie.After-may-follow Inv-loop μ-loop) → mayFollow singles (c .before .before .before .before .loop .before) (singles .stretchOf (getD (now (c .before .before .before .before .before .before .before .before .before .before .before .before .before .before .args .words)) (c .before .before .before .before .loop .i) 0)) ≡ c .may-follow .result
 follows c = ap (mayFollow singles (c .before .before .before .before .loop .before)) (sym (c .before .of2 .ensures)) ∙ sym (c .may-follow .ensures)
 
 returns-4 : tie.Need-returns-4 Inv-loop μ-loop
@@ -83,9 +83,9 @@ returns-5 : tie.Need-returns-5 Inv-loop μ-loop
 returns-5 c =
     let l = c .before .before .before .before .before .before .before .loop in
     let words = now (c .before .before .before .before .before .before .before .before .before .before .before .before .before .before .before .before .before .args .words) in
-    let run : c .before .before .before .before .of2 .result .run ≡ singles .told (getD words (l .i) 0) .run = ap (λ (s : Stretch). s .run) (c .before .before .before .before .of2 .ensures) in
+    let run : c .before .before .before .before .of2 .result .run ≡ singles .stretchOf (getD words (l .i) 0) .run = ap (λ (s : Stretch). s .run) (c .before .before .before .before .of2 .ensures) in
     sym (l .inv .1 ∙ walk-stops singles words (l .i) (l .before) (l .left) (c .before .before .before .before .before .before .loop-test .taken)
-    (rw (lt-leb (singles .told (getD words (l .i) 0) .run) (l .left) (omega arith)) (and-false (mayFollow singles (l .before) (singles .told (getD words (l .i) 0))))))
+    (rw (lt-leb (singles .stretchOf (getD words (l .i) 0) .run) (l .left) (omega arith)) (and-false (mayFollow singles (l .before) (singles .stretchOf (getD words (l .i) 0))))))
 
 add-i : tie.Need-add-i Inv-loop μ-loop
 add-i c = search needs
@@ -98,21 +98,21 @@ loop-again c =
     let l = c .before .before .before .before .before .before .before .before .loop in
     let words = now (c .before .before .before .before .before .before .before .before .before .before .before .before .before .before .before .before .before .before .args .words) in
     let e = c .before .before .before .before .before .of2 .ensures in
-    let run : c .before .before .before .before .before .of2 .result .run ≡ singles .told (getD words (l .i) 0) .run = ap (λ (s : Stretch). s .run) e in (
+    let run : c .before .before .before .before .before .of2 .result .run ≡ singles .stretchOf (getD words (l .i) 0) .run = ap (λ (s : Stretch). s .run) e in (
       omega arith,
       rw e (l .inv .1 ∙ walk-on singles words (l .i) (l .before) (l .left) (c .before .before .before .before .before .before .before .loop-test .taken)
-          (rw (follows (c .before .before .before .before), not-false (c .before .before .before .before .may-follow .result) (c .before .before .before .if4 .left), le-leb (singles .told (getD words (l .i) 0) .run) (l .left) (omega arith)))),
+          (rw (follows (c .before .before .before .before), not-false (c .before .before .before .before .may-follow .result) (c .before .before .before .if4 .left), le-leb (singles .stretchOf (getD words (l .i) 0) .run) (l .left) (omega arith)))),
     )
 
 returns-6 : tie.Need-returns-6 Inv-loop μ-loop
 returns-6 c =
     let l = c .before .before .loop in
-    sym (l .inv .1 ∙ walk-ends singles (now (c .before .before .before .before .before .before .before .before .before .before .before .before .args .words)) (l .i) (l .before) (l .left) (c .before .loop-test .left) ∙ rw (eq-eqb 0 (l .left) (sym (c .if6 .taken))))
+    sym (l .inv .1 ∙ walk-ends singles (now (c .before .before .before .before .before .before .before .before .before .before .before .before .args .words)) (l .i) (l .before) (l .left) (c .before .loop-test .left) ∙ rw (eq-eqb 0 (l .left) (omega arith)))
 
 returns-7 : tie.Need-returns-7 Inv-loop μ-loop
 returns-7 c =
     let l = c .before .before .loop in
-    sym (l .inv .1 ∙ walk-ends singles (now (c .before .before .before .before .before .before .before .before .before .before .before .before .args .words)) (l .i) (l .before) (l .left) (c .before .loop-test .left) ∙ rw (ne-eqb 0 (l .left) (λ e. c .if6 .left (sym e))) (ap At (omega arith)))
+    sym (l .inv .1 ∙ walk-ends singles (now (c .before .before .before .before .before .before .before .before .before .before .before .before .args .words)) (l .i) (l .before) (l .left) (c .before .loop-test .left) ∙ rw (ne-eqb 0 (l .left) (λ e. omega arith)) (ap At (omega arith)))
 
 pub fault-spec : {M : Type 1} → statement M
 fault-spec =

@@ -17,7 +17,7 @@ use Rattle.deck.proofs.reading.unpack.Tie as tie
 
 abbrev Inv-loop : tie.InvT-loop
 Inv-loop words entries₀ at₀ i₀ entries at i =
-    let rest = laidOut (map (singles .told) (drop i words)) in
+    let rest = laidOut (map (singles .stretchOf) (drop i words)) in
     (length entries ≡ length entries₀) × (at + length rest ≡ length (configurationOf singles words))
     × (sets entries at rest ≡ sets entries₀ 0 (configurationOf singles words))
 

@@ -1,4 +1,4 @@
--- `deck::writing::pack` meets its contract. The loop's invariant: the words still to come, stored from here on, give the whole. A word tells of
+-- `deck::writing::pack` meets its contract. The loop's invariant: the words still to come, stored from here on, give the whole. A word has
 -- a position at least, so there is room for it. Assumes nothing.
 use mathlib.Core.Path.{_≡_, refl, sym, ap, _∙_}
 use mathlib.Core.List.{List, [], _∷_, map}
@@ -16,7 +16,7 @@ use Rattle.deck.proofs.writing.pack.Tie as tie
 
 -- the words of what is left of a configuration
 abbrev wordsFrom : List ℕ → ℕ → List ℕ
-wordsFrom configuration at = map (singles .word) (stretchesOf singles (drop at configuration))
+wordsFrom configuration at = map (singles .wordFor) (stretchesOf singles (drop at configuration))
 
 abbrev Inv-loop : tie.InvT-loop
 Inv-loop configuration words₀ count₀ at₀ words count at =
@@ -37,7 +37,7 @@ slice-write-words : tie.Need-slice-write-words Inv-loop μ-loop
 slice-write-words c = search needs
 
 loop-holds : tie.Need-loop-holds Inv-loop μ-loop
-loop-holds c = (omega arith, omega arith, length-set (now (c .before .before .before .args .words)) 0 (c .bits .result) ∙ c .before .before .before .pre .1, refl, refl)
+loop-holds c = (omega arith, omega arith, simp length-set (c .before .before .before .pre .1), refl, refl)
 
 run-at-requires : tie.Need-run-at-requires Inv-loop μ-loop
 run-at-requires c κs = search needs
@@ -69,7 +69,7 @@ loop-again c =
     let l = c .before .before .before .before .loop in
     let run = c .before .before .run-at in
     let next : wordsFrom configuration (l .at) ≡ c .bits2 .result ∷ wordsFrom configuration (l .at + run .result) =
-    ap (map (singles .word)) (run .ensures .2) ∙ ap (_∷ wordsFrom configuration (l .at + run .result)) (sym (c .bits2 .ensures)) in (
+    ap (map (singles .wordFor)) (run .ensures .2) ∙ ap (_∷ wordsFrom configuration (l .at + run .result)) (sym (c .bits2 .ensures)) in (
       omega arith,
       omega arith,
       length-set (l .words) (l .count) (c .bits2 .result) ∙ l .inv .2,

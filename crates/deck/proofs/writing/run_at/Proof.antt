@@ -41,7 +41,7 @@ returns-2 : tie.Need-returns-2 Inv-loop μ-loop
 returns-2 c =
     let a = c .before .before .before .before .before .before .args in
     let l = c .before .before .before .loop in
-    (omega arith, omega arith, empties-first (now (a .configuration)) (a .at) (l .end) (l .inv .0) (c .before .before .before .before .if1 .left) (l .inv .2) (at-strand (c .before .before .loop-test .taken) (c .if2 .taken)))
+    (omega arith, omega arith, empties-first (now (a .configuration)) (a .at) (l .end) (l .inv .0) (c .before .before .before .before .if1 .left) (l .inv .2) (at-strand (c .before .before .loop-test .taken) (λ e. omega arith)))
 
 add-end-2 : tie.Need-add-end-2 Inv-loop μ-loop
 add-end-2 c = search needs
@@ -53,7 +53,7 @@ loop-again : tie.Need-loop-again Inv-loop μ-loop
 loop-again c =
     let a = c .before .before .before .before .before .before .args in
     let l = c .before .before .before .loop in
-    (omega arith, omega arith, empties-more (now (a .configuration)) (a .at) (l .end) (omega arith) (c .before .before .loop-test .taken) (c .if2 .left) (l .inv .2))
+    (omega arith, omega arith, empties-more (now (a .configuration)) (a .at) (l .end) (omega arith) (c .before .before .loop-test .taken) (omega arith) (l .inv .2))
 
 sub-result-2 : tie.Need-sub-result-2 Inv-loop μ-loop
 sub-result-2 c = search needs

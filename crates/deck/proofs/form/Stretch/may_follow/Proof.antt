@@ -1,7 +1,7 @@
--- `deck::form::Stretch::may_follow` meets its contract: only empties after empties are told of together. Assumes nothing.
+-- `deck::form::Stretch::may_follow` meets its contract: only empties after empties are of one run. Assumes nothing.
 use native.Mathlib.Omega.{arith}
 use borrow.Author.Tests.{le-leb, lt-leb, eq-eqb, ne-eqb}
-use Rattle.deck.proofs.Singles.{together-empties}
+use Rattle.deck.proofs.Singles.{same-run-empties}
 use Rattle.deck.proofs.form.Stretch.may_follow.Statement.{statement}
 use Rattle.deck.proofs.form.Stretch.may_follow.Tie as tie
 
@@ -16,12 +16,12 @@ returns-2 c =
 returns-3 : tie.Need-returns-3
 returns-3 c =
     let a = c .before .before .before .before .before .before .args in
-    rw (le-leb 1 (a .self .run) (omega arith), le-leb 1 (a .before .run) (omega arith), together-empties (a .before .occupant) (a .self .occupant), ne-eqb (a .before .occupant) 0 (c .if3 .taken))
+    rw (le-leb 1 (a .self .run) (omega arith), le-leb 1 (a .before .run) (omega arith), same-run-empties (a .before .occupant) (a .self .occupant), ne-eqb (a .before .occupant) 0 (c .if3 .taken))
 
 returns-4 : tie.Need-returns-4
 returns-4 c =
     let a = c .before .before .before .before .before .before .before .args in
-    rw (le-leb 1 (a .self .run) (omega arith), le-leb 1 (a .before .run) (omega arith), together-empties (a .before .occupant) (a .self .occupant), eq-eqb (a .before .occupant) 0 (c .before .if3 .left))
+    rw (le-leb 1 (a .self .run) (omega arith), le-leb 1 (a .before .run) (omega arith), same-run-empties (a .before .occupant) (a .self .occupant), eq-eqb (a .before .occupant) 0 (c .before .if3 .left))
 
 pub may-follow-spec : {M : Type 1} → statement M
 may-follow-spec = tie.close (tie.spec returns returns-2 returns-3 returns-4)
