@@ -4,3 +4,4 @@ pub mod Numbers
 pub mod Spelled
 pub mod Table
 pub mod Calls
+pub mod Laws
