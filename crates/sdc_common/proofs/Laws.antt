@@ -45,10 +45,13 @@ module _ (bases : List Name) (base : Name) (e : isKnown bases base ≡ false) wh
     where
       inside : (k : ℕ) → k < length bases → getD (bases ++ (base ∷ [])) k [] ≡ getD bases k []
       inside k m = List·getD-append bases (base ∷ []) [] k m
+
       last : (k : ℕ) → k ≡ length bases → getD (bases ++ (base ∷ [])) k [] ≡ base
       last k m = rw m (getD-append-seam bases base [] [])
+
       is-last : (k : ℕ) → k < length (bases ++ (base ∷ [])) → ltb k (length bases) ≡ false → k ≡ length bases
       is-last k m t = let at : length (bases ++ (base ∷ [])) ≡ length bases + 1 = length-append bases (base ∷ []) in omega (arith, ltb-false k (length bases) t)
+
       go : (t : Bool) → ltb i (length bases) ≡ t → (u : Bool) → ltb j (length bases) ≡ u → i ≡ j
       go true p true q = let a = ltb-true _ _ p in let b = ltb-true _ _ q in d i j a b (sym (inside i a) ∙ same ∙ inside j b)
       go true p false q = let a = ltb-true _ _ p in absurd (nowhere i a (sym (inside i a) ∙ same ∙ last j (is-last j l q)))
@@ -123,7 +126,7 @@ numbers-right strands =
       bare = no-stars (basesOf strands) (bases-bare strands);
       apart = apart (basesOf strands);
       known =
-        λ name. known-spelled name (basesOf strands) (bases-bare strands)
-        ∙ ap (isKnown (basesOf strands) (baseOf name) &&_) (fewer-than-two (starsOf name));
+          λ name. known-spelled name (basesOf strands) (bases-bare strands)
+          ∙ ap (isKnown (basesOf strands) (baseOf name) &&_) (fewer-than-two (starsOf name));
       spelled = spelled-number (basesOf strands) (bases-bare strands);
     }

@@ -28,8 +28,8 @@ pub record NumbersRight (strands : List Glue) : Type 0 where
   pub bare : Each (λ base. starsOf base ≡ 0) (basesOf strands)
   -- two names with the same number, other than 0, have the same base, and both an even or both an odd number of stars
   pub apart :
-    (x y : Name) → nameNumber (basesOf strands) x ≡ nameNumber (basesOf strands) y → (nameNumber (basesOf strands) x ≡ 0 → ⊥)
-    → (baseOf x ≡ baseOf y) × (starsOf x % 2 ≡ starsOf y % 2)
+      (x y : Name) → nameNumber (basesOf strands) x ≡ nameNumber (basesOf strands) y → (nameNumber (basesOf strands) x ≡ 0 → ⊥)
+      → (baseOf x ≡ baseOf y) × (starsOf x % 2 ≡ starsOf y % 2)
   -- a name is known as spelled exactly if its base is known and it has fewer than two stars
   pub known : (name : Name) → any (sameName name) (knownNames (basesOf strands)) ≡ (isKnown (basesOf strands) (baseOf name) && ltb (starsOf name) 2)
   -- and a scaffold's glue that is known as spelled has the number that a strand's has
