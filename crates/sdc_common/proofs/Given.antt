@@ -10,7 +10,7 @@ use Rattle.reply.specs.declared.Refusal.the-variants.{TooManyGlues}
 use Rattle.sdc_common.specs.Names.{Name}
 use Rattle.sdc_common.specs.Lent.{Names, gluesOf, unfitNames}
 use Rattle.sdc_common.specs.Numbers.{basesOf, glueNumber, numbersAmong}
-use Rattle.sdc_common.specs.Table.{held}
+use Rattle.sdc_common.specs.inner.Table.{held}
 use Rattle.sdc_common.specs.Calls.{unfitStrands, tooManyBases, givenNumbers, nameNumbers, numbersAfter, strandGlues, gluesAfter}
 use Rattle.sdc_common.proofs.Held.{held-length}
 

@@ -2,6 +2,7 @@
 //! Figures are the oracle's, refusals the judge's. `HEADER` has the layout.
 
 mod designs;
+mod limits;
 mod lines;
 
 use crate::judge::{parameters, sequences, temperature, Verdict};
@@ -219,6 +220,7 @@ fn answered(oracle: &mut Program) -> Result<Vec<Answered>, String> {
         list.push(Answered { question, answer });
     }
     list.append(&mut designs::designs(oracle)?);
+    list.append(&mut limits::limits());
     Ok(list)
 }
 
