@@ -84,25 +84,22 @@ fn at_the_ranges() -> Vec<Lent> {
         lent.rt = 0.125;
         lent.strand_excess = -1024.0;
         lent.scaffold_excess = -1024.0;
-        lent.dg = vec![1024.0; CELLS];
-        lent.ds = vec![8.0; CELLS];
-        for glue in 0..64 {
-            for at in [cell(0, glue), cell(glue, 0)] {
-                lent.dg[at] = 0.0;
-                lent.ds[at] = 0.0;
-            }
+        for at in [cell(1, 1), cell(3, 2)] {
+            lent.dg[at] = 1024.0;
+            lent.ds[at] = 8.0;
         }
         lent.potentials[1] = -1024.0;
     }));
     designs
 }
 
+/// The list has no way to write a design that is larger than the largest.
 fn at_the_sizes() -> Vec<Lent> {
     let mut designs = vec![];
-    for positions in [0, 1, 20, 21, 127, 128, 129] {
+    for positions in [0, 1, 20, 21, 127, 128] {
         designs.push(with(|lent| lent.scaffold = vec![1; positions]));
     }
-    for strands in [0, 1, 63, 64, 65] {
+    for strands in [0, 1, 63, 64] {
         designs.push(with(|lent| {
             lent.glues = [vec![0; 3], [2, 1, 3].repeat(64)].concat();
             lent.glues.truncate(3 * strands);
@@ -161,7 +158,13 @@ fn three_places(random: &mut Random) -> Lent {
     lent.glues = vec![0, 0, 0, 10, 1, 11, 12, 2, 13, 14, 3, 15];
     lent.potentials = vec![0.0; 4];
     lent.rt = random.double(0.5, 0.7);
-    for at in [cell(1, 1), cell(2, 2), cell(3, 3), cell(11, 12), cell(13, 14)] {
+    for at in [
+        cell(1, 1),
+        cell(2, 2),
+        cell(3, 3),
+        cell(11, 12),
+        cell(13, 14),
+    ] {
         lent.dg[at] = random.double(-12.0, -4.0);
         lent.ds[at] = random.double(-0.2, 0.0);
     }
@@ -177,8 +180,20 @@ fn three_places(random: &mut Random) -> Lent {
 /// first, ends in other bits than both energies of the three strands do.
 fn depends_on_the_order(lent: &Lent) -> bool {
     let site = |i: usize| lent.scaffold_bond(i, i + 1);
-    let pair = |i: usize| if i < 2 { lent.strand_bond(i + 1, i + 2) } else { 0.0 };
-    let left = |i: usize| if i > 0 { lent.strand_bond(i, i + 1) } else { 0.0 };
+    let pair = |i: usize| {
+        if i < 2 {
+            lent.strand_bond(i + 1, i + 2)
+        } else {
+            0.0
+        }
+    };
+    let left = |i: usize| {
+        if i > 0 {
+            lent.strand_bond(i, i + 1)
+        } else {
+            0.0
+        }
+    };
     let potential = |i: usize| -lent.potentials[i + 1];
     let differs = |right: f64, terms: [&dyn Fn(usize) -> f64; 3]| {
         let by_place = |order: [usize; 3]| {
@@ -186,7 +201,9 @@ fn depends_on_the_order(lent: &Lent) -> bool {
             places.fold(0.0, |sum, term| sum + term)
         };
         let by_sort = |order: [usize; 3]| {
-            let sorts = order.iter().flat_map(|sort| [0, 1, 2].map(|i| terms[*sort](i)));
+            let sorts = order
+                .iter()
+                .flat_map(|sort| [0, 1, 2].map(|i| terms[*sort](i)));
             sorts.fold(0.0, |sum, term| sum + term)
         };
         let orders = [
@@ -230,9 +247,11 @@ fn asked(lent: &Lent) -> Vec<Answered> {
     put("sbond 1 1".into(), lent.strand_bond_verdict(1, 1), &|| {
         bits(lent.strand_bond(1, 1))
     });
-    put("cbond 0 1".into(), lent.scaffold_bond_verdict(0, 1), &|| {
-        bits(lent.scaffold_bond(0, 1))
-    });
+    put(
+        "cbond 0 1".into(),
+        lent.scaffold_bond_verdict(0, 1),
+        &|| bits(lent.scaffold_bond(0, 1)),
+    );
     put(
         "friends 0".into(),
         lent.friends_verdict(0, FRIENDS_LENT),
@@ -291,7 +310,10 @@ fn designs() -> Vec<Lent> {
 }
 
 pub fn limits() -> Vec<Answered> {
-    designs().iter().flat_map(asked).collect()
+    let head = "# From here on every answer is the judge's: designs at and just past each limit.";
+    let mut lines = vec![Answered::setter(head.to_string())];
+    lines.extend(designs().iter().flat_map(asked));
+    lines
 }
 
 #[cfg(test)]
@@ -309,7 +331,15 @@ mod tests {
                 false => line.answer.clone(),
             })
             .collect();
-        for reply in ["ok", "refused 1", "refused 9", "refused 10", "refused 11", "refused 12", "refused 13"] {
+        for reply in [
+            "ok",
+            "refused 1",
+            "refused 9",
+            "refused 10",
+            "refused 11",
+            "refused 12",
+            "refused 13",
+        ] {
             assert!(met.contains(reply), "{reply}: {met:?}");
         }
     }
