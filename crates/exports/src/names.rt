@@ -1,7 +1,6 @@
 // Names and the numbers of strand glues as C functions. Each works out its whole call anew.
 ghost use mathlib.Core.Path.{_≡_};
 ghost use lib.ListN.{length};
-ghost use Rattle.reply.specs.Number.{replyNumber};
 ghost use Rattle.sdc_common.specs.Lent.{namesOf};
 ghost use Rattle.sdc_common.specs.Calls.{nameFigures, selfAndInverse, strandGlues, gluesAfter};
 ghost use Rattle.exports.specs.Flag.{flag};
@@ -90,7 +89,7 @@ pub extern "C" fn mj_strand_glues_reply(
     marks: &[u8],
     glues: &mut [u8],
 ) -> u32
-    ensures { λ r. ⌜ r ≡ replyNumber (strandGlues users (now (text .entry)) (namesOf (now (starts .entry)) (now (lengths .entry)) (now (marks .entry))) (length (now (glues .entry)))) ⌝ }
+    ensures { λ r. ⌜ r ≡ strandGlues users (now (text .entry)) (namesOf (now (starts .entry)) (now (lengths .entry)) (now (marks .entry))) (length (now (glues .entry))) ⌝ }
     ensures { λ r. ⌜ now (glues .exit) ≡ gluesAfter users (now (text .entry)) (namesOf (now (starts .entry)) (now (lengths .entry)) (now (marks .entry))) (now (glues .entry)) ⌝ }
 {
     sdc_common::strand_glues(text, users, starts, lengths, marks, glues).number()

@@ -5,7 +5,7 @@ use Prim.Native.Nat.{ℕ, _<_}
 use lib.ListN.{length, getD}
 use Rattle.sdc_common.specs.Lent.{gluesOf}
 use Rattle.sdc_common.specs.Spelled.{spelledNumber}
-use Rattle.sdc1d_params.specs.Cells.{cellAt, InTables}
+use Rattle.sdc1d_params.specs.inner.Cells.{cellAt, InTables}
 use Rattle.sdc1d_params.specs.Params.{Params, bases, entryCount, cellAtEntry}
 
 -- the numbers are those of the scaffold's names as spelled, the rows and columns those of the entries' cells, and all lie in the tables

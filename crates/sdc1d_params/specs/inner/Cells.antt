@@ -10,7 +10,7 @@ use Rattle.sdc1d_params.specs.Entries.{Cell, cell, Energies, entryAt, is
 use Rattle.sdc1d_params.specs.Tables.{Write, writeOf, placeOf}
 use Rattle.sdc1d_params.specs.declared.cells.RefOrPair.{RefOrPair}
 use Rattle.sdc1d_params.specs.declared.cells.RefOrPair.the-variants.{Ref, Pair}
-use Rattle.sdc1d_params.specs.declared.cells.Place.{Place}
+use Rattle.sdc1d_params.specs.declared.cells.RowColumn.{RowColumn}
 
 -- the number of the base of a name that has this number: a base has the odd one of two
 abbrev pub baseAt : ℕ → ℕ
@@ -53,8 +53,8 @@ abbrev pub cellAt : List ℕ → List ℕ → ℕ → Cell
 cellAt rows columns i = cell (getD rows i 0) (getD columns i 0)
 
 -- the code's row and column as a cell
-abbrev pub placeCell : Place → Cell
-placeCell p = cell (p .0) (p .1)
+abbrev pub cellFound : RowColumn → Cell
+cellFound at = cell (at .0) (at .1)
 
 -- ---- cells that were met, marked in a table of 64 by 64
 
