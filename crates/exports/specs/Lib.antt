@@ -2,3 +2,4 @@ pub mod Copied
 pub mod Flag
 pub mod Lent
 pub mod Place
+pub mod Told

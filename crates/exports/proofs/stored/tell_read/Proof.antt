@@ -1,0 +1,38 @@
+-- `exports::stored::tell_read` meets its contract: what is given, and 0 where it is refused. Assumes nothing.
+use mathlib.Core.Path.{refl}
+use borrow.Author.Needs.{needs}
+use Rattle.exports.proofs.stored.tell_read.Statement.{statement}
+use Rattle.exports.proofs.stored.tell_read.Tie as tie
+
+enum-known-answer : tie.Need-enum-known-answer
+enum-known-answer c = search needs
+
+number-requires : tie.Need-number-requires
+number-requires c κs = search needs
+
+enum-known-answer-2 : tie.Need-enum-known-answer-2
+enum-known-answer-2 c = search needs
+
+number-requires-2 : tie.Need-number-requires-2
+number-requires-2 c κs = search needs
+
+number-requires-3 : tie.Need-number-requires-3
+number-requires-3 c κs = search needs
+
+returns : tie.Need-returns
+returns c = rw (c .before .before .answer .given .1) (c .number .ensures, (refl, refl))
+
+returns-2 : tie.Need-returns-2
+returns-2 c = rw (c .before .before .before .answer2 .given .1) (c .number3 .ensures, (c .before .number2 .ensures, refl))
+
+pub tell-read-spec : {M : Type 1} → statement M
+tell-read-spec =
+    tie.close
+    (tie.spec
+    enum-known-answer
+    number-requires
+    enum-known-answer-2
+    number-requires-2
+    number-requires-3
+    returns
+    returns-2)
