@@ -90,7 +90,7 @@ pub extern "C" fn mj_pair(a: &[u8], b: &[u8], dg: &mut f64, ds: &mut f64) -> u32
 
 // A loop.
 #[no_mangle]
-pub extern "C" fn mj_loop(length: usize, kind: u32, dg: &mut f64) -> u32
+pub extern "C" fn mj_loop_penalty(length: usize, kind: u32, dg: &mut f64) -> u32
     ensures { λ r. ⌜ r ≡ loopPenalty length kind .number ⌝ }
     ensures { λ r. ⌜ now (dg .exit) ≡ loopPenalty length kind .dg ⌝ }
 {

@@ -2,6 +2,7 @@
 ghost use mathlib.Core.Path.{_≡_};
 ghost use Rattle.mfe.specs.Answers.{searchAnswer, searchEntries};
 ghost use Rattle.exports.specs.Lent.{lentAt};
+ghost use Rattle.exports.specs.Lowest.{LowestTold};
 ghost use Rattle.exports.specs.Told.{Told};
 use super::answers;
 use super::designs::ambient;
@@ -23,6 +24,7 @@ pub extern "C" fn mj_search(
 ) -> u32
     ensures { λ r. ⌜ Told (searchAnswer (lentAt (scaffold .entry) (glues .entry) (dg .entry) (ds .entry) (potentials .entry) rt «strand_excess» «scaffold_excess») (now (configuration .entry))) r (now (place .exit)) (now (energy .exit)) ⌝ }
     ensures { λ r. ⌜ now (configuration .exit) ≡ searchEntries (lentAt (scaffold .entry) (glues .entry) (dg .entry) (ds .entry) (potentials .entry) rt «strand_excess» «scaffold_excess») (now (configuration .entry)) ⌝ }
+    ensures { λ r. ⌜ LowestTold (lentAt (scaffold .entry) (glues .entry) (dg .entry) (ds .entry) (potentials .entry) rt «strand_excess» «scaffold_excess») r (now (configuration .exit)) (now (energy .exit)) ⌝ }
 {
     answers::tell_settled(
         mfe::mfe_configuration(

@@ -5,24 +5,6 @@ use borrow.Author.Needs.{needs}
 use Rattle.exports.proofs.answers.tell_bond.Statement.{statement}
 use Rattle.exports.proofs.answers.tell_bond.Tie as tie
 
-enum-known-answer : tie.Need-enum-known-answer
-enum-known-answer c = search needs
-
-number-requires : tie.Need-number-requires
-number-requires c κs = search needs
-
-enum-known-answer-2 : tie.Need-enum-known-answer-2
-enum-known-answer-2 c = search needs
-
-number-requires-2 : tie.Need-number-requires-2
-number-requires-2 c κs = search needs
-
-number-requires-3 : tie.Need-number-requires-3
-number-requires-3 c κs = search needs
-
-returns : tie.Need-returns
-returns c = search needs
-
 returns-2 : tie.Need-returns-2
 unfolding ofBits
 returns-2 c = rw (c .before .before .before .answer2 .given .1) (record { number = c .number3 .ensures; place = c .before .number2 .ensures; figure = refl })
@@ -31,10 +13,10 @@ pub tell-bond-spec : {M : Type 1} → statement M
 tell-bond-spec =
     tie.close
     (tie.spec
-    enum-known-answer
-    number-requires
-    enum-known-answer-2
-    number-requires-2
-    number-requires-3
-    returns
+    (λ c. search needs)
+    (λ c κs. search needs)
+    (λ c. search needs)
+    (λ c κs. search needs)
+    (λ c κs. search needs)
+    (λ c. search needs)
     returns-2)

@@ -4,21 +4,6 @@ use borrow.Author.Needs.{needs}
 use Rattle.exports.proofs.names.tell_name.Statement.{statement}
 use Rattle.exports.proofs.names.tell_name.Tie as tie
 
-enum-known-answer : tie.Need-enum-known-answer
-enum-known-answer c = search needs
-
-cast-is-base : tie.Need-cast-is-base
-cast-is-base c = search needs
-
-number-requires : tie.Need-number-requires
-number-requires c κs = search needs
-
-enum-known-answer-2 : tie.Need-enum-known-answer-2
-enum-known-answer-2 c = search needs
-
-number-requires-2 : tie.Need-number-requires-2
-number-requires-2 c κs = search needs
-
 returns : tie.Need-returns
 returns c = rw (c .before .before .answer .given .1) (c .number .ensures, (refl, (refl, refl)))
 
@@ -29,10 +14,10 @@ pub tell-name-spec : {M : Type 1} → statement M
 tell-name-spec =
     tie.close
     (tie.spec
-    enum-known-answer
-    cast-is-base
-    number-requires
-    enum-known-answer-2
-    number-requires-2
+    (λ c. search needs)
+    (λ c. search needs)
+    (λ c κs. search needs)
+    (λ c. search needs)
+    (λ c κs. search needs)
     returns
     returns-2)

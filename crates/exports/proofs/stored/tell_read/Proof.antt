@@ -4,21 +4,6 @@ use borrow.Author.Needs.{needs}
 use Rattle.exports.proofs.stored.tell_read.Statement.{statement}
 use Rattle.exports.proofs.stored.tell_read.Tie as tie
 
-enum-known-answer : tie.Need-enum-known-answer
-enum-known-answer c = search needs
-
-number-requires : tie.Need-number-requires
-number-requires c κs = search needs
-
-enum-known-answer-2 : tie.Need-enum-known-answer-2
-enum-known-answer-2 c = search needs
-
-number-requires-2 : tie.Need-number-requires-2
-number-requires-2 c κs = search needs
-
-number-requires-3 : tie.Need-number-requires-3
-number-requires-3 c κs = search needs
-
 returns : tie.Need-returns
 returns c = rw (c .before .before .answer .given .1) (c .number .ensures, (refl, refl))
 
@@ -29,10 +14,10 @@ pub tell-read-spec : {M : Type 1} → statement M
 tell-read-spec =
     tie.close
     (tie.spec
-    enum-known-answer
-    number-requires
-    enum-known-answer-2
-    number-requires-2
-    number-requires-3
+    (λ c. search needs)
+    (λ c κs. search needs)
+    (λ c. search needs)
+    (λ c κs. search needs)
+    (λ c κs. search needs)
     returns
     returns-2)
