@@ -133,9 +133,9 @@ pub(crate) fn tell_settled(answer: Settled, place: &mut u64, energy: &mut f64) -
     ensures { λ r. ⌜ Told (settledFigures answer) r (now (place .exit)) (now (energy .exit)) ⌝ }
 {
     match answer {
-        Settled::Energy(given) => {
+        Settled::Energy(lowest) => {
             *place = place::NOWHERE;
-            *energy = given.0;
+            *energy = lowest.0;
             Reply::Admitted.number()
         }
         Settled::Refused(refusal, at) => {

@@ -276,7 +276,48 @@ fn bonds_and_friends(checks: &mut Checks, design: mj::Design) {
     checks.count("friends", written, format!("{:?}", &entries[..2]));
 }
 
-@@STATES@@
+fn states_and_energies(checks: &mut Checks, design: mj::Design) {
+    let (mut place, mut count) = (WHOLE, WHOLE);
+    let number = mj::states(design, &mut place, &mut count);
+    checks.reply("states", number, 0);
+    checks.place("their place", place, mj::NOWHERE);
+    checks.count("their count", count == 4, format!("{count}, not 4"));
+    let mut state = [9; 2];
+    place = WHOLE;
+    let number = mj::state(design, 4, &mut state, &mut place);
+    checks.reply("rank 4", number, 13);
+    checks.place("its place", place, mj::NOWHERE);
+    checks.count("entries", state == [9; 2], "not kept".to_string());
+    let number = mj::state(design, 2, &mut state, &mut place);
+    checks.reply("rank 2", number, 0);
+    checks.count("its state", state == [0, 2], format!("{state:?}"));
+    let (mut sum, mut energy) = (DOUBLE, DOUBLE);
+    let number = mj::state_energy(design, &[1, 2], &mut place, &mut energy);
+    checks.reply("a state energy", number, 0);
+    checks.figure("it", energy, -1.5);
+    let number = mj::state_energy(design, &[2, 2], &mut place, &mut energy);
+    checks.reply("a stranger", number, 11);
+    checks.figure("its energy", energy, 0.0);
+    let number = mj::chain_energy(design, &[1, 2], &mut place, &mut sum, &mut energy);
+    checks.reply("a chain energy", number, 0);
+    checks.figure("it", energy, -1.5);
+    checks.figure("its sum", sum, -3.0);
+    let number = mj::chain_energy(design, &[2, 2], &mut place, &mut sum, &mut energy);
+    checks.reply("a stranger", number, 11);
+    checks.figure("its energy", energy, 0.0);
+    checks.figure("its sum", sum, 0.0);
+    let mut settled = [9; 2];
+    (place, energy) = (WHOLE, DOUBLE);
+    let number = mj::search(design, &mut settled[..1], &mut place, &mut energy);
+    checks.reply("too few entries", number, 1);
+    checks.place("its place", place, mj::NOWHERE);
+    checks.figure("its energy", energy, 0.0);
+    checks.count("entries", settled == [9; 2], "not kept".to_string());
+    let number = mj::search(design, &mut settled, &mut place, &mut energy);
+    checks.reply("a search", number, 0);
+    checks.count("its state", settled == [0, 2], format!("{settled:?}"));
+    checks.figure("its energy", energy, -1.5);
+}
 /// One strand with glues a, b* and c**, at the start of the text; after them two bases.
 const TEXT: &[u8] = b"ab*c**AC";
 const STRANDS: mj::Names = mj::Names {

@@ -1,5 +1,4 @@
 -- `exports::designs::mj_chain_energy` meets its contract, from the contract of the call. Assumes nothing.
-use mathlib.Core.Path.{sym}
 use borrow.Author.Needs.{needs}
 use Rattle.exports.proofs.designs.mj_chain_energy.Statement.{statement}
 use Rattle.exports.proofs.designs.mj_chain_energy.Tie as tie
@@ -14,7 +13,9 @@ tell-chain-requires : tie.Need-tell-chain-requires
 tell-chain-requires c κs = search needs
 
 returns : tie.Need-returns
-returns c = rw (sym (c .before .before .before .before .before .ambient .ensures)) (rw (c .before .before .before .before .chain-energy .ensures) at (c .tell-chain .ensures))
+returns c =
+    let answer = c .before .before .before .before in
+    rw (answer .chain-energy .ensures, answer .before .ambient .ensures) at (c .tell-chain .ensures)
 
 pub mj-chain-energy-spec : {M : Type 1} → statement M
 mj-chain-energy-spec =

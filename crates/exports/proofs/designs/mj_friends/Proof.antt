@@ -1,5 +1,4 @@
 -- `exports::designs::mj_friends` meets its contract, from the contract of the call. Assumes nothing.
-use mathlib.Core.Path.{sym}
 use borrow.Author.Needs.{needs}
 use Rattle.exports.proofs.designs.mj_friends.Statement.{statement}
 use Rattle.exports.proofs.designs.mj_friends.Tie as tie
@@ -17,7 +16,10 @@ same-length : tie.Need-same-length
 same-length c = search needs
 
 returns : tie.Need-returns
-returns c = rw (sym (c .before .before .before .before .before .before .before .ambient .ensures)) (rw (c .before .before .before .before .before .friends-btm .ensures .0) at (c .tell-friends .ensures), c .before .before .before .before .before .friends-btm .ensures .1)
+returns c =
+    let answer = c .before .before .before .before .before in
+    let ambient = answer .before .before .ambient .ensures in
+    (rw (answer .friends-btm .ensures .0, ambient) at (c .tell-friends .ensures), rw ambient at (answer .friends-btm .ensures .1))
 
 pub mj-friends-spec : {M : Type 1} → statement M
 mj-friends-spec =

@@ -1,5 +1,4 @@
 -- `exports::designs::mj_state` meets its contract, from the contract of the call. Assumes nothing.
-use mathlib.Core.Path.{sym}
 use borrow.Author.Needs.{needs}
 use Rattle.exports.proofs.designs.mj_state.Statement.{statement}
 use Rattle.exports.proofs.designs.mj_state.Tie as tie
@@ -17,7 +16,10 @@ same-length : tie.Need-same-length
 same-length c = search needs
 
 returns : tie.Need-returns
-returns c = rw (sym (c .before .before .before .before .before .before .ambient .ensures)) (rw (c .before .before .before .before .state-at-rank .ensures .0) at (c .tell-state .ensures), c .before .before .before .before .state-at-rank .ensures .1)
+returns c =
+    let answer = c .before .before .before .before in
+    let ambient = answer .before .before .ambient .ensures in
+    (rw (answer .state-at-rank .ensures .0, ambient) at (c .tell-state .ensures), rw ambient at (answer .state-at-rank .ensures .1))
 
 pub mj-state-spec : {M : Type 1} → statement M
 mj-state-spec =

@@ -1,5 +1,4 @@
 -- `exports::designs::mj_state_energy` meets its contract, from the contract of the call. Assumes nothing.
-use mathlib.Core.Path.{sym}
 use borrow.Author.Needs.{needs}
 use Rattle.exports.proofs.designs.mj_state_energy.Statement.{statement}
 use Rattle.exports.proofs.designs.mj_state_energy.Tie as tie
@@ -14,7 +13,9 @@ tell-energy-requires : tie.Need-tell-energy-requires
 tell-energy-requires c κs = search needs
 
 returns : tie.Need-returns
-returns c = rw (sym (c .before .before .before .before .ambient .ensures)) (rw (c .before .before .before .g-system .ensures) at (c .tell-energy .ensures))
+returns c =
+    let answer = c .before .before .before in
+    rw (answer .g-system .ensures, answer .before .ambient .ensures) at (c .tell-energy .ensures)
 
 pub mj-state-energy-spec : {M : Type 1} → statement M
 mj-state-energy-spec =

@@ -1,5 +1,4 @@
 -- `exports::designs::mj_states` meets its contract, from the contract of the call. Assumes nothing.
-use mathlib.Core.Path.{sym}
 use borrow.Author.Needs.{needs}
 use Rattle.exports.proofs.designs.mj_states.Statement.{statement}
 use Rattle.exports.proofs.designs.mj_states.Tie as tie
@@ -14,7 +13,9 @@ tell-count-requires : tie.Need-tell-count-requires
 tell-count-requires c κs = search needs
 
 returns : tie.Need-returns
-returns c = rw (sym (c .before .before .before .before .ambient .ensures)) (rw (c .before .before .before .number-of-states .ensures) at (c .tell-count .ensures))
+returns c =
+    let answer = c .before .before .before in
+    rw (answer .number-of-states .ensures, answer .before .ambient .ensures) at (c .tell-count .ensures)
 
 pub mj-states-spec : {M : Type 1} → statement M
 mj-states-spec =

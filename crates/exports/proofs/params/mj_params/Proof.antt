@@ -1,13 +1,13 @@
 -- `exports::params::mj_params` meets its contract, from the contract of the call. Assumes nothing.
-use mathlib.Core.Path.{sym}
 use borrow.Author.Needs.{needs}
 use Rattle.exports.proofs.params.mj_params.Statement.{statement}
 use Rattle.exports.proofs.params.mj_params.Tie as tie
 
 returns : tie.Need-returns
 returns c =
-    rw (c .number .ensures, sym (c .before .before .before .before .before .before .before .before .before .before .before .before .before .before .copied2 .ensures), sym (c .before .before .before .before .before .before .before .before .before .before .before .before .before .before .before .copied .ensures))
-    (c .before .before .before .before .before .before .before .before .before .from-params .ensures)
+    let answer = c .before .before .before .before .before .before .before .before .before in
+    let second = answer .before .before .before .before .before in
+    rw (c .number .ensures) (rw (second .before .copied .ensures, second .copied2 .ensures) at (answer .from-params .ensures))
 
 pub mj-params-spec : {M : Type 1} → statement M
 mj-params-spec =

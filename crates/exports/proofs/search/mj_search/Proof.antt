@@ -1,18 +1,19 @@
 -- `exports::search::mj_search` meets its contract, from the contract of the call. Assumes nothing.
-use mathlib.Core.Path.{sym, _∙_}
 use borrow.Author.Needs.{needs}
-use Rattle.exports.proofs.Answered.{search-answered}
+use Rattle.exports.proofs.Answered.{lowest-told}
 use Rattle.exports.proofs.search.mj_search.Statement.{statement}
 use Rattle.exports.proofs.search.mj_search.Tie as tie
 
 returns : tie.Need-returns
 returns c =
-    let k = c .before .before .before .before .before in
-    let answer = k .mfe-configuration .ensures in
-    let entries = k .before .before .before .before .before .before .before .before .before .args .configuration .now in
-    let told = rw (answer .0) at (c .tell-settled .ensures) in
-    rw (sym (k .before .before .ambient .ensures))
-    (told, (answer .1 .0, λ zero. let ok = search-answered _ entries (sym (told .number) ∙ zero) in rw (c .tell-settled .ensures .figure) (answer .1 .1 (ok .0) (ok .1))))
+    let answer = c .before .before .before .before .before in
+    let entries = answer .before .before .before .before .before .before .before .before .before .args .configuration .now in
+    let ambient = answer .before .before .ambient .ensures in
+    let ensured = answer .mfe-configuration .ensures in
+    let told = rw (ensured .0) at (c .tell-settled .ensures) in (
+      rw ambient at told,
+      (rw ambient at (ensured .1 .0), rw ambient at (lowest-told _ entries (ensured .1 .1) (told .number) (c .tell-settled .ensures .figure))),
+    )
 
 pub mj-search-spec : {M : Type 1} → statement M
 mj-search-spec =
