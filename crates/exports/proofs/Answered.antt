@@ -15,7 +15,7 @@ use Rattle.reply.specs.declared.Refusal.the-variants.{WrongSize}
 use Rattle.reply.specs.declared.Reply.the-variants as Reply
 use Rattle.reply.proofs.Answer.{is-admitted}
 use Rattle.model.specs.Search.{search}
-use Rattle.model.specs.Lowest.{LowestConfiguration}
+use Rattle.model.specs.LowestConfiguration.{LowestConfiguration}
 use Rattle.design.specs.Design.{Design, positions, modelOf}
 use Rattle.design.specs.Checks.{Admitted, designChecks}
 use Rattle.design.specs.Answers.{Figures, given, refused}

@@ -4,7 +4,7 @@ use mathlib.Core.List.{List}
 use Prim.Native.Nat.{ℕ}
 use lib.Ieee.{Float}
 use Rattle.reply.specs.Number.{answered}
-use Rattle.model.specs.Lowest.{LowestConfiguration}
+use Rattle.model.specs.LowestConfiguration.{LowestConfiguration}
 use Rattle.design.specs.Design.{Design, modelOf}
 
 -- where it answers 0, the configuration written and the energy told are lowest

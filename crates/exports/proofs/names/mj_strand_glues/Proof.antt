@@ -1,6 +1,5 @@
 -- `exports::names::mj_strand_glues` meets its contract, from the contract of the call. Assumes nothing.
-use mathlib.Core.Path.{ap, _∙_}
-use Rattle.reply.specs.Number.{replyNumber}
+use mathlib.Core.Path.{_∙_}
 use borrow.Author.Needs.{needs}
 use Rattle.exports.proofs.names.mj_strand_glues.Statement.{statement}
 use Rattle.exports.proofs.names.mj_strand_glues.Tie as tie
@@ -15,7 +14,7 @@ same-length : tie.Need-same-length
 same-length c = search needs
 
 returns : tie.Need-returns
-returns c = (c .number .ensures ∙ ap replyNumber (c .before .before .before .strand-glues .ensures .0), c .before .before .before .strand-glues .ensures .1)
+returns c = (c .number .ensures ∙ c .before .before .before .strand-glues .ensures .0, c .before .before .before .strand-glues .ensures .1)
 
 pub mj-strand-glues-spec : {M : Type 1} → statement M
 mj-strand-glues-spec =
