@@ -9,12 +9,12 @@ ghost use lib.ListN.{length};
 ghost use Rattle.lists.specs.Find.{any};
 ghost use Rattle.reply.specs.First.{firstOf};
 ghost use Rattle.utils.specs.Bases.{notABase, bases};
-ghost use Rattle.utils.specs.Figures.{stackDg, stackDs, penalty, hasLength, loopDg};
+ghost use Rattle.utils.specs.Figures.{stackDg, stackDs, hasLength, loopDg};
 ghost use Rattle.utils.specs.Answers.{dgFigures, dgDsFigures};
 ghost use Rattle.utils.specs.Loops.{kindOf, loopPenalty};
 ghost use Rattle.utils.specs.Single.{stackSum, sequenceChecks, stringDnaDgDs};
 ghost use Rattle.utils.specs.Pair.{window, good, afterGood, afterBad, pairSums, lacksLoop, strandChecks, sequencePairDgDs};
-ghost use Rattle.utils.specs.inner.Tables.{byTwo, byThree};
+ghost use Rattle.utils.specs.inner.Tables.{byTwo, byThree, hundredths};
 ghost use Rattle.utils.specs.inner.Code.{sumsOf, flagged};
 ghost use Rattle.utils.specs.declared.tables.LoopKind.the-variants.{Internal};
 ghost use Rattle.utils.specs.Strength.{strengthAt, excessInRange, sequenceStrength, pairStrength};
@@ -207,13 +207,13 @@ fn good_window(
 // The sums after a bad window: the mismatch's energy, and no entropy.
 fn after_bad(
     s: Sums,
-    penalties: &[[[f64; 4]; 4]; 4],
+    penalties: &[[[i16; 4]; 4]; 4],
     a1: DnaNucleotideBase,
     a2: DnaNucleotideBase,
     b1: DnaNucleotideBase,
     b2: DnaNucleotideBase,
 ) -> Sums
-    requires { ⌜ (s .bad < 4096) × (now penalties ≡ byThree penalty) ⌝ }
+    requires { ⌜ (s .bad < 4096) × (now penalties ≡ byThree hundredths) ⌝ }
     ensures { λ r. ⌜ (sumsOf r ≡ afterBad (loopDg Internal) hasLength (sumsOf s) (window a1 a2 b1 b2)) × (r .missing ≡ s .missing) ⌝ }
 {
     let ds = s.ds;

@@ -11,9 +11,10 @@ use borrow.Author.Needs.{needs}
 use Rattle.utils.specs.Bases.{bases}
 use Rattle.doubles.specs.Decimal.{nearest}
 use Rattle.utils.specs.Paper.{stackOf, find, table1, mismatchOf, table2}
-use Rattle.utils.specs.Figures.{stackDg, stackDs, entropyOf, penalty}
+use Rattle.utils.specs.Figures.{stackDg, stackDs, entropyOf}
 use Rattle.utils.specs.Pair.{Sums, window, step, pairSums, lacksLoop}
 use Rattle.utils.specs.inner.Code.{sumsOf, flagAfter}
+use Rattle.utils.specs.inner.Tables.{hundredths}
 use Rattle.utils.specs.declared.Sums as Code
 use Rattle.utils.proofs.Letters.{base-here}
 use Rattle.utils.proofs.Windows.{good-window, bad-window, good-flag, bad-flag, windowsAt, sumsAt, lacksAt, windowAt, badAfter, sums-more, sums-done, lacks-more, lacks-done, step-bad, bad-grows}
@@ -87,7 +88,7 @@ unfolding stackDg stackDs entropyOf stackOf find table1 nearest ofBits
 after-good-requires c κs = (refl, refl)
 
 after-bad-requires : tie.Need-after-bad-requires Inv-loop μ-loop
-unfolding penalty mismatchOf table2 nearest ofBits
+unfolding hundredths mismatchOf table2
 after-bad-requires c κs = (omega arith, refl)
 
 add-i : tie.Need-add-i Inv-loop μ-loop
