@@ -38,7 +38,10 @@ impl Parting {
     pub fn said(&self) -> Result<String, String> {
         let seen = self.seen.borrow();
         let (pairs, largest) = (seen.pairs, seen.largest);
-        let said = format!("state energy and RT times chain energy at most {largest:e} apart, of {pairs} states; 2^-16 is {ALLOWED:e}");
+        let said = format!(
+            "state energy and RT times chain energy at most {largest:e} apart, of {pairs} states; \
+             2^-16 is {ALLOWED:e}"
+        );
         match pairs > 0 && largest <= ALLOWED {
             true => Ok(said),
             false => Err(said),
@@ -65,7 +68,10 @@ mod tests {
         parting.see("gsys 0,2", &bits(1.0));
         parting.see("raw.chain 1,2", &format!("{} {}", bits(2.0), bits(2.0)));
         let said = parting.said().unwrap();
-        assert!(said.contains("at most 2.7755575615628914e-17 apart, of 1 states"), "{said}");
+        assert!(
+            said.contains("at most 2.7755575615628914e-17 apart, of 1 states"),
+            "{said}"
+        );
         parting.see("gsys 1", &bits(1.0));
         parting.see("raw.chain 1", &format!("{} {}", bits(1.5), bits(1.5)));
         assert!(parting.said().is_err());
