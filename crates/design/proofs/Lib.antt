@@ -6,3 +6,4 @@ pub mod Replies
 pub mod Passed
 pub mod Finite
 pub mod Unread
+pub mod NullBonds

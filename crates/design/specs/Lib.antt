@@ -4,3 +4,4 @@ pub mod Answers
 pub mod Laws
 pub mod Finite
 pub mod Unread
+pub mod TwoEnergies

@@ -1,6 +1,6 @@
 -- The search's answer, of every design and all that is lent. Assumes nothing.
 use mathlib.Core.Path.{_≡_, refl, sym, ap, ap₂}
-use mathlib.Core.Bool.{Bool, not, false}
+use mathlib.Core.Bool.{Bool, not}
 use mathlib.Core.List.{List, []}
 use Prim.Native.Nat.{ℕ}
 use lib.Dec.{eqb}
@@ -20,30 +20,30 @@ use Rattle.design.specs.Design.{Design, positions, strands, modelOf}
 use Rattle.design.specs.Checks.{Admitted}
 use Rattle.design.specs.Answers.{Figures, given, refused}
 use Rattle.design.specs.Laws.{Doubles}
-use Rattle.design.specs.Unread.{withPotentials, ReadAlike}
+use Rattle.design.specs.Unread.{withPotentials}
 use Rattle.design.proofs.Replies.{design-admitted}
 use Rattle.design.proofs.BoundLaws.{bounds-right}
 use Rattle.design.proofs.Passed.{Passed, passed, by-reply}
 use Rattle.design.proofs.Finite.{zero-in}
 use Rattle.design.proofs.Unread.{same-design-reply, same-models}
 use Rattle.mfe.specs.Answers.{searchChecks, searchAnswer, searchEntries}
-use Rattle.mfe.specs.Answered.{SearchAnswered, SearchAnswers, SearchUnread, UnreadBySearch}
+use Rattle.mfe.specs.Answered.{SearchAnswers, UnreadBySearch}
 
 module _ (d : Design) (entries : List ℕ) where
   abbrev ownSize : Bool
   ownSize = not (eqb (length entries) (positions d))
 
   -- number 0 is that of a call that no check refuses
-  number-passed : searchAnswer d entries .number ≡ 0 → Passed d ownSize []
+  pub number-passed : searchAnswer d entries .number ≡ 0 → Passed d ownSize []
   number-passed e =
       passed d ownSize []
       (is-admitted (λ (f : Figures Float). f .number) (refused zero) (λ n. refl) (given (Search.search (modelOf d) .energy)) (firstOf (searchChecks d entries)) (searchAnswer d entries) e refl .0)
 
-  lent-right : Passed d ownSize [] → length entries ≡ positions d
+  pub lent-right : Passed d ownSize [] → length entries ≡ positions d
   lent-right p = eqb-true _ _ (not-false _ (p .size))
 
   module _ (a : Admitted d) (l : length entries ≡ positions d) where
-    reply : firstOf (searchChecks d entries) ≡ Reply.Admitted
+    pub reply : firstOf (searchChecks d entries) ≡ Reply.Admitted
     reply = design-admitted d ownSize [] (ap not (eq-eqb _ _ l)) a
 
     number : searchAnswer d entries .number ≡ 0

@@ -6,3 +6,4 @@ pub mod Positions
 pub mod Shown
 pub mod Replies
 pub mod Answered
+pub mod NearLowest
