@@ -8,6 +8,8 @@ pub mod Walk
 pub mod Faults
 pub mod Laying
 pub mod FirstRun
+pub mod Neighbours
 pub mod Valid
+pub mod ValidRuns
 pub mod Theorems
 pub mod Moves

@@ -19,11 +19,12 @@ use Rattle.deck.specs.Form.{Form, Rules, singles, runs}
 use Rattle.deck.specs.Deck.{isDeck, FirstMisfit, misfitOf, configurationOf, deckOf, tooHigh}
 use Rattle.deck.specs.Reading.{ReadFigures, readChecks, readRefused, readFigures, readEntries}
 use Rattle.deck.specs.Writing.{writeChecks, writeRefused, writeFigures, writeWords}
-use Rattle.deck.specs.Theorems.{Document, Configuration, Decks, Places, Replies, Refusals, Calls, given}
+use Rattle.deck.specs.Theorems.{Document, DocumentRuns, Configuration, Decks, Places, Replies, Refusals, Calls, given}
 use Rattle.deck.proofs.Singles.{singles-rules}
 use Rattle.deck.proofs.Runs.{runs-rules}
 use Rattle.deck.proofs.Decks.{deck-valid, deck-configuration, configuration-few, configuration-strands, configuration-deck}
 use Rattle.deck.proofs.Valid.{valid-right}
+use Rattle.deck.proofs.ValidRuns.{valid-runs-right}
 use Rattle.deck.proofs.Beginning.{begins-right, misfit-right}
 
 pub replies : (form : Form) → Replies form
@@ -182,6 +183,9 @@ pub singles-calls : Calls singles
 singles-calls = calls singles singles-rules
 
 -- ---- the form with runs
+
+pub document-runs : DocumentRuns
+document-runs = record { valid = valid-runs-right }
 
 pub runs-decks : Decks runs
 runs-decks = decks runs runs-rules

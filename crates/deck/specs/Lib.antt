@@ -9,4 +9,5 @@ pub mod Writing
 pub mod Moving
 pub mod Theorems
 pub mod Cases
+pub mod CasesRuns
 pub mod inner
