@@ -1,4 +1,6 @@
 pub mod Copied
 pub mod Flag
 pub mod Lent
+pub mod Lowest
 pub mod Place
+pub mod Told
