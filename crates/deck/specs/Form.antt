@@ -54,7 +54,7 @@ singles =
       inRuns = λ occupant. eqb occupant 0;
     }
 
--- kind 4: "payload strand (1 to 63) + 64 times (run − 1), the run maximal and at least 1"
+-- kind 4: a strand, and 64 for each position of its run after the first
 abbrev pub strandRun : ℕ → Stretch
 strandRun payload = cond (eqb (payload % 64) 0) nothing (stretch (payload % 64) (payload / 64 + 1))
 

@@ -22,7 +22,7 @@ use Rattle.deck.specs.declared.DeckMoved.the-variants.{Words, Refused}
 abbrev pub movedWords : Form → Form → List ℕ → List ℕ
 movedWords from to words = deckOf to (configurationOf from words)
 
--- "every valid deck of either form moves to that of the same configuration in the other, and back to the same words"
+-- the other words are the valid deck of the same configuration in the other form, and they move back to these
 pub record MovesTo (from to : Form) (words other : List ℕ) : Type 0 where
   pub valid : isDeck to other ≡ true
   pub same : configurationOf to other ≡ configurationOf from words
@@ -43,7 +43,7 @@ moveFiguresOf (Refused refusal place) = record { number = numberOf refusal; coun
 abbrev pub wrongWords : List ℕ → Bool
 wrongWords lent = not (eqb (length lent) 129)
 
--- when moving refuses, sorted by number; a fault is read "by the rules of the form named"
+-- when moving refuses, sorted by number; a fault is one by the rules of the form that the deck is in
 abbrev pub moveChecks : Form → List ℕ → List ℕ → List Check
 moveChecks from words lent = WrongSize if wrongWords lent ∷ BadDeck if badDeck from words ∷ []
 

@@ -114,7 +114,7 @@ pub record MoveThenBack (from to : Form) (words lent again : List ℕ) : Type 0 
       ≡ record { number = answered; count = length words; place = Nowhere }
   pub written : moveWords to from (given (moveFigures from to words lent .count) (moveWords from to words lent)) again ≡ over words again
 
--- "Every valid deck of either form moves to that of the same configuration in the other, and back to the same words."
+-- a valid deck moves to that of the same configuration in the other form, and from there back to the same words
 pub record Moves (from to : Form) : Type 0 where
   pub moves : (words : List ℕ) → isDeck from words ≡ true → MovesTo from to words (movedWords from to words)
   -- there is no other such deck

@@ -1,10 +1,10 @@
--- Document 02's rules for a valid deck with runs, one by one and in its words; nothing here speaks of forms.
+-- Document 02's rules for a valid deck with runs, one by one; nothing here speaks of forms.
 use mathlib.Core.List.{List, [], _∷_, _++_}
 use mathlib.Core.Path.{_≡_}
 use Prim.Native.Nat.{ℕ, _+_, _-_, _*_, _≤_}
 use Rattle.deck.specs.Word.{kindOf, payloadOf}
 
--- kind 4: "payload strand (1 to 63) + 64 times (run − 1), the run maximal and at least 1"
+-- kind 4: a run of one strand; the payload is the strand, and 64 for each position after the first
 pub record StrandRun (word strand run : ℕ) : Type 0 where
   pub kind : kindOf word ≡ 4
   pub least : 1 ≤ strand
@@ -12,7 +12,7 @@ pub record StrandRun (word strand run : ℕ) : Type 0 where
   pub some : 1 ≤ run
   pub payload : payloadOf word ≡ strand + 64 * (run - 1)
 
--- "kinds 1 and 3 continue": a run of empties, payload 1 or more
+-- kind 3, as in document 01's form: a run of empties
 pub record EmptyRun (word run : ℕ) : Type 0 where
   pub kind : kindOf word ≡ 3
   pub some : 1 ≤ run
@@ -34,7 +34,7 @@ pub record ValidRuns (words : List ℕ) : Type 0 where
   pub most : payloadOf first ≤ 128
   -- positions must add up
   pub sum : Total rest (payloadOf first)
-  -- "neighbouring words of kind 4 name different strands", so that a run is maximal
+  -- a run is maximal: words of kind 4 side by side have different strands
   pub differ : (front back : List ℕ) (left right strand leftRun rightRun : ℕ) → rest ≡ front ++ left ∷ right ∷ back
       → StrandRun left strand leftRun → StrandRun right strand rightRun → ⊥
   -- a run of empties is never next to another

@@ -27,6 +27,7 @@ pub enum DeckForm {
 }
 
 impl DeckForm {
+    // The form that a deck is moved to.
     pub fn other(self) -> Self
         ensures { λ r. ⌜ r ≡ otherForm self ⌝ }
     {

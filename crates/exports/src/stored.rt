@@ -23,6 +23,7 @@ pub enum NamedForm {
 }
 
 impl NamedForm {
+    // 0 and 1 name a form each.
     fn of(number: u32) -> Self
         ensures { λ r. ⌜ r ≡ formNumbered number ⌝ }
     {

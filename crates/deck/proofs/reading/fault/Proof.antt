@@ -26,7 +26,11 @@ abbrev μ-loop : tie.MeasureT-loop
 μ-loop form words left₀ before₀ i₀ left before i = length words - i
 
 returns : tie.Need-returns Inv-loop μ-loop
-returns c = sym (fault-none (formOf (c .before .before .args .form)) (now (c .before .before .args .words)) (c .if1 .taken))
+returns c =
+    let a = c .before .before .args in
+    let form = formOf (a .form) in
+    let words = now (a .words) in
+    sym (fault-none form words (c .if1 .taken))
 
 shared-slice-read-of : tie.Need-shared-slice-read-of Inv-loop μ-loop
 shared-slice-read-of c = search needs
@@ -36,27 +40,33 @@ of-requires c κs = search needs
 
 returns-2 : tie.Need-returns-2 Inv-loop μ-loop
 returns-2 c =
-    let words = now (c .before .before .before .before .before .before .args .words) in
+    let a = c .before .before .before .before .before .before .args in
+    let form = formOf (a .form) in
+    let words = now (a .words) in
     let e = c .before .before .of .ensures in
-    sym (fault-first (formOf (c .before .before .before .before .before .before .args .form)) words (omega arith) (rw (ne-eqb (kindOf (getD words 0 0)) 1 (λ k. c .if2 .taken (e .0 ∙ k)))))
+    sym (fault-first form words (omega arith) (rw (ne-eqb (kindOf (getD words 0 0)) 1 (λ k. c .if2 .taken (e .0 ∙ k)))))
 
 cast-left : tie.Need-cast-left Inv-loop μ-loop
 cast-left c = search needs
 
 returns-3 : tie.Need-returns-3 Inv-loop μ-loop
 returns-3 c =
-    let words = now (c .before .before .before .before .before .before .before .before .args .words) in
+    let a = c .before .before .before .before .before .before .before .before .args in
+    let form = formOf (a .form) in
+    let words = now (a .words) in
     let e = c .before .before .before .before .of .ensures in
-    sym (fault-first (formOf (c .before .before .before .before .before .before .before .before .args .form)) words (omega arith) (rw (sym (e .0) ∙ c .before .before .if2 .left, lt-leb (payloadOf (getD words 0 0)) 128 (omega arith))))
+    sym (fault-first form words (omega arith) (rw (sym (e .0) ∙ c .before .before .if2 .left, lt-leb (payloadOf (getD words 0 0)) 128 (omega arith))))
 
 nothing-requires : tie.Need-nothing-requires Inv-loop μ-loop
 nothing-requires c κs = search needs
 
 loop-holds : tie.Need-loop-holds Inv-loop μ-loop
 loop-holds c =
-    let words = now (c .before .before .before .before .before .before .before .before .before .args .words) in
+    let a = c .before .before .before .before .before .before .before .before .before .args in
+    let form = formOf (a .form) in
+    let words = now (a .words) in
     let e = c .before .before .before .before .before .of .ensures in
-    (omega arith, rw (c .nothing .ensures, e .1) (fault-rest (formOf (c .before .before .before .before .before .before .before .before .before .args .form)) words (omega arith) (rw (sym (e .0) ∙ c .before .before .before .if2 .left, le-leb (payloadOf (getD words 0 0)) 128 (omega arith)))))
+    (omega arith, rw (c .nothing .ensures, e .1) (fault-rest form words (omega arith) (rw (sym (e .0) ∙ c .before .before .before .if2 .left, le-leb (payloadOf (getD words 0 0)) 128 (omega arith)))))
 
 mul-of : tie.Need-mul-of Inv-loop μ-loop
 mul-of c = search needs
@@ -76,17 +86,22 @@ follows c = ap (mayFollow (formOf (c .before .before .before .before .before .be
 
 returns-4 : tie.Need-returns-4 Inv-loop μ-loop
 returns-4 c =
+    let a = c .before .before .before .before .before .before .before .before .before .before .before .before .before .before .before .args in
+    let form = formOf (a .form) in
+    let words = now (a .words) in
     let l = c .before .before .before .before .before .loop in
-    sym (l .inv .1 ∙ walk-stops (formOf (c .before .before .before .before .before .before .before .before .before .before .before .before .before .before .before .args .form)) (now (c .before .before .before .before .before .before .before .before .before .before .before .before .before .before .before .args .words)) (l .i) (l .before) (l .left) (c .before .before .before .before .loop-test .taken)
+    sym (l .inv .1 ∙ walk-stops form words (l .i) (l .before) (l .left) (c .before .before .before .before .loop-test .taken)
     (rw (follows (c .before), not-true (c .before .may-follow .result) (c .if4 .taken))))
 
 returns-5 : tie.Need-returns-5 Inv-loop μ-loop
 returns-5 c =
+    let a = c .before .before .before .before .before .before .before .before .before .before .before .before .before .before .before .before .before .args in
+    let form = formOf (a .form) in
+    let words = now (a .words) in
     let l = c .before .before .before .before .before .before .before .loop in
-    let words = now (c .before .before .before .before .before .before .before .before .before .before .before .before .before .before .before .before .before .args .words) in
-    let run : c .before .before .before .before .of2 .result .run ≡ formOf (c .before .before .before .before .before .before .before .before .before .before .before .before .before .before .before .before .before .args .form) .stretchOf (getD words (l .i) 0) .run = ap (λ (s : Stretch). s .run) (c .before .before .before .before .of2 .ensures) in
-    sym (l .inv .1 ∙ walk-stops (formOf (c .before .before .before .before .before .before .before .before .before .before .before .before .before .before .before .before .before .args .form)) words (l .i) (l .before) (l .left) (c .before .before .before .before .before .before .loop-test .taken)
-    (rw (lt-leb (formOf (c .before .before .before .before .before .before .before .before .before .before .before .before .before .before .before .before .before .args .form) .stretchOf (getD words (l .i) 0) .run) (l .left) (omega arith)) (and-false (mayFollow (formOf (c .before .before .before .before .before .before .before .before .before .before .before .before .before .before .before .before .before .args .form)) (l .before) (formOf (c .before .before .before .before .before .before .before .before .before .before .before .before .before .before .before .before .before .args .form) .stretchOf (getD words (l .i) 0))))))
+    let run : c .before .before .before .before .of2 .result .run ≡ form .stretchOf (getD words (l .i) 0) .run = ap (λ (s : Stretch). s .run) (c .before .before .before .before .of2 .ensures) in
+    sym (l .inv .1 ∙ walk-stops form words (l .i) (l .before) (l .left) (c .before .before .before .before .before .before .loop-test .taken)
+    (rw (lt-leb (form .stretchOf (getD words (l .i) 0) .run) (l .left) (omega arith)) (and-false (mayFollow form (l .before) (form .stretchOf (getD words (l .i) 0))))))
 
 add-i : tie.Need-add-i Inv-loop μ-loop
 add-i c = search needs
@@ -96,24 +111,32 @@ loop-less c = search needs
 
 loop-again : tie.Need-loop-again Inv-loop μ-loop
 loop-again c =
+    let a = c .before .before .before .before .before .before .before .before .before .before .before .before .before .before .before .before .before .before .args in
+    let form = formOf (a .form) in
+    let words = now (a .words) in
     let l = c .before .before .before .before .before .before .before .before .loop in
-    let words = now (c .before .before .before .before .before .before .before .before .before .before .before .before .before .before .before .before .before .before .args .words) in
     let e = c .before .before .before .before .before .of2 .ensures in
-    let run : c .before .before .before .before .before .of2 .result .run ≡ formOf (c .before .before .before .before .before .before .before .before .before .before .before .before .before .before .before .before .before .before .args .form) .stretchOf (getD words (l .i) 0) .run = ap (λ (s : Stretch). s .run) e in (
+    let run : c .before .before .before .before .before .of2 .result .run ≡ form .stretchOf (getD words (l .i) 0) .run = ap (λ (s : Stretch). s .run) e in (
       omega arith,
-      rw e (l .inv .1 ∙ walk-on (formOf (c .before .before .before .before .before .before .before .before .before .before .before .before .before .before .before .before .before .before .args .form)) words (l .i) (l .before) (l .left) (c .before .before .before .before .before .before .before .loop-test .taken)
-          (rw (follows (c .before .before .before .before), not-false (c .before .before .before .before .may-follow .result) (c .before .before .before .if4 .left), le-leb (formOf (c .before .before .before .before .before .before .before .before .before .before .before .before .before .before .before .before .before .before .args .form) .stretchOf (getD words (l .i) 0) .run) (l .left) (omega arith)))),
+      rw e (l .inv .1 ∙ walk-on form words (l .i) (l .before) (l .left) (c .before .before .before .before .before .before .before .loop-test .taken)
+          (rw (follows (c .before .before .before .before), not-false (c .before .before .before .before .may-follow .result) (c .before .before .before .if4 .left), le-leb (form .stretchOf (getD words (l .i) 0) .run) (l .left) (omega arith)))),
     )
 
 returns-6 : tie.Need-returns-6 Inv-loop μ-loop
 returns-6 c =
+    let a = c .before .before .before .before .before .before .before .before .before .before .before .before .args in
+    let form = formOf (a .form) in
+    let words = now (a .words) in
     let l = c .before .before .loop in
-    sym (l .inv .1 ∙ walk-ends (formOf (c .before .before .before .before .before .before .before .before .before .before .before .before .args .form)) (now (c .before .before .before .before .before .before .before .before .before .before .before .before .args .words)) (l .i) (l .before) (l .left) (c .before .loop-test .left) ∙ rw (eq-eqb 0 (l .left) (omega arith)))
+    sym (l .inv .1 ∙ walk-ends form words (l .i) (l .before) (l .left) (c .before .loop-test .left) ∙ rw (eq-eqb 0 (l .left) (omega arith)))
 
 returns-7 : tie.Need-returns-7 Inv-loop μ-loop
 returns-7 c =
+    let a = c .before .before .before .before .before .before .before .before .before .before .before .before .args in
+    let form = formOf (a .form) in
+    let words = now (a .words) in
     let l = c .before .before .loop in
-    sym (l .inv .1 ∙ walk-ends (formOf (c .before .before .before .before .before .before .before .before .before .before .before .before .args .form)) (now (c .before .before .before .before .before .before .before .before .before .before .before .before .args .words)) (l .i) (l .before) (l .left) (c .before .loop-test .left) ∙ rw (ne-eqb 0 (l .left) (λ e. omega arith)) (ap At (omega arith)))
+    sym (l .inv .1 ∙ walk-ends form words (l .i) (l .before) (l .left) (c .before .loop-test .left) ∙ rw (ne-eqb 0 (l .left) (λ e. omega arith)) (ap At (omega arith)))
 
 pub fault-spec : {M : Type 1} → statement M
 fault-spec =
