@@ -138,12 +138,7 @@ pub fn chain_energy(
     unsafe { mj_chain_energy(design, start, n, place, sum, energy) }
 }
 
-pub fn search(
-    design: Design,
-    configuration: &mut [u8],
-    place: &mut u64,
-    energy: &mut f64,
-) -> u32 {
+pub fn search(design: Design, configuration: &mut [u8], place: &mut u64, energy: &mut f64) -> u32 {
     let (start, lent) = (configuration.as_mut_ptr(), configuration.len());
     unsafe { mj_search(design, start, lent, place, energy) }
 }

@@ -18,12 +18,8 @@ mod c {
         pub fn mj_pair_dg(a: *const u8, m: usize, b: *const u8, n: usize) -> u64;
         pub fn mj_pair_ds(a: *const u8, m: usize, b: *const u8, n: usize) -> u64;
         pub fn mj_loop_penalty(length: usize, kind: u32, dg: *mut f64) -> u32;
-        pub fn mj_sequence_strength(
-            s: *const u8,
-            n: usize,
-            excess: f64,
-            strength: *mut f64,
-        ) -> u32;
+        pub fn mj_sequence_strength(s: *const u8, n: usize, excess: f64, strength: *mut f64)
+            -> u32;
         pub fn mj_pair_strength(
             a: *const u8,
             m: usize,

@@ -34,7 +34,9 @@ fn base(text: &[u8], start: usize, length: usize, full: bool) -> Result<Reply, C
     if full {
         return Ok(Reply::Ok(format!("{from} {size} {is_base}")));
     }
-    let base = text.get(from as usize..).and_then(|rest| rest.get(..size as usize));
+    let base = text
+        .get(from as usize..)
+        .and_then(|rest| rest.get(..size as usize));
     let base = base.ok_or("the base leaves the text")?;
     Ok(Reply::Ok(format!("{} {is_base}", sequence_word(base))))
 }

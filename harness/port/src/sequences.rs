@@ -11,7 +11,11 @@ pub fn answer(words: Words) -> Result<Reply, Complaint> {
             let s = sequence(words[1])?;
             let (mut dg, mut ds) = (DOUBLE, DOUBLE);
             let number = mj::sequence(&s, &mut dg, &mut ds);
-            let one_by_one = (mj::sequence_reply(&s), mj::sequence_dg(&s), mj::sequence_ds(&s));
+            let one_by_one = (
+                mj::sequence_reply(&s),
+                mj::sequence_dg(&s),
+                mj::sequence_ds(&s),
+            );
             told(number, [dg, ds], one_by_one)
         }
         "pair" => {
@@ -19,7 +23,11 @@ pub fn answer(words: Words) -> Result<Reply, Complaint> {
             let (a, b) = (sequence(words[1])?, sequence(words[2])?);
             let (mut dg, mut ds) = (DOUBLE, DOUBLE);
             let number = mj::pair(&a, &b, &mut dg, &mut ds);
-            let one_by_one = (mj::pair_reply(&a, &b), mj::pair_dg(&a, &b), mj::pair_ds(&a, &b));
+            let one_by_one = (
+                mj::pair_reply(&a, &b),
+                mj::pair_dg(&a, &b),
+                mj::pair_ds(&a, &b),
+            );
             told(number, [dg, ds], one_by_one)
         }
         "loop" => {
@@ -43,11 +51,7 @@ pub fn answer(words: Words) -> Result<Reply, Complaint> {
 }
 
 /// One call tells all that the functions of one figure do.
-fn told(
-    number: u32,
-    [dg, ds]: [f64; 2],
-    one_by_one: (u32, u64, u64),
-) -> Result<Reply, Complaint> {
+fn told(number: u32, [dg, ds]: [f64; 2], one_by_one: (u32, u64, u64)) -> Result<Reply, Complaint> {
     match (number, dg.to_bits(), ds.to_bits()) == one_by_one {
         true => Ok(reply(number, &[dg, ds])),
         false => Err("the functions of one call answer differently".to_string()),

@@ -36,16 +36,32 @@ pub fn call(random: &mut Random, tally: &mut Tally) {
     match random.below(7) {
         0 => {
             let number = mj::sequence(&a, x.lent(), y.lent());
-            let one_by_one = (mj::sequence_reply(&a), mj::sequence_dg(&a), mj::sequence_ds(&a));
+            let one_by_one = (
+                mj::sequence_reply(&a),
+                mj::sequence_dg(&a),
+                mj::sequence_ds(&a),
+            );
             let alike = one_by_one == (number, x.told().to_bits(), y.told().to_bits());
-            tally.call("sequence", number, x.is_fit(number) && y.is_fit(number) && alike);
+            tally.call(
+                "sequence",
+                number,
+                x.is_fit(number) && y.is_fit(number) && alike,
+            );
         }
         1 => {
             let b = if random.once_in(2) { &a } else { &b };
             let number = mj::pair(&a, b, x.lent(), y.lent());
-            let one_by_one = (mj::pair_reply(&a, b), mj::pair_dg(&a, b), mj::pair_ds(&a, b));
+            let one_by_one = (
+                mj::pair_reply(&a, b),
+                mj::pair_dg(&a, b),
+                mj::pair_ds(&a, b),
+            );
             let alike = one_by_one == (number, x.told().to_bits(), y.told().to_bits());
-            tally.call("pair", number, x.is_fit(number) && y.is_fit(number) && alike);
+            tally.call(
+                "pair",
+                number,
+                x.is_fit(number) && y.is_fit(number) && alike,
+            );
         }
         2 => {
             let any = random.below(40);
@@ -98,5 +114,9 @@ fn deck(random: &mut Random, tally: &mut Tally) {
     let mut words = Guarded::new(near(random, 129), 0xa5a5_a5a5);
     let mut count = Figure::whole();
     let number = mj::deck_write(form, &configuration, words.lent(), count.lent());
-    tally.call("deck_write", number, words.is_fit(number) && count.is_fit(number));
+    tally.call(
+        "deck_write",
+        number,
+        words.is_fit(number) && count.is_fit(number),
+    );
 }

@@ -53,6 +53,7 @@ fn main() -> ExitCode {
     designs(&mut checks);
     names(&mut checks);
     params(&mut checks);
+    stack(&mut checks);
     println!("client: {} passed, {} failed", checks.passed, checks.failed);
     if checks.failed == 0 {
         ExitCode::SUCCESS
@@ -363,6 +364,40 @@ fn states_and_energies(checks: &mut Checks, design: mj::Design) {
     checks.count("its state", settled == [0, 2], format!("{settled:?}"));
     checks.figure("its energy", energy, -1.5);
 }
+/// The stack that the header asks for is enough for the largest search, of 128 positions with 63
+/// friends each.
+fn stack(checks: &mut Checks) {
+    let searched = std::thread::Builder::new()
+        .stack_size(256 * 1024)
+        .spawn(|| {
+            let mut dg = vec![0.0; 4096];
+            dg[65] = -1.0;
+            let glues: Vec<u8> = [[0, 0, 0]]
+                .into_iter()
+                .chain([[2, 1, 2]; 63])
+                .flatten()
+                .collect();
+            let design = mj::Design {
+                scaffold: &[1; 128],
+                glues: &glues,
+                dg: &dg,
+                ds: &vec![0.0; 4096],
+                potentials: &[0.0; 64],
+                rt: 0.5,
+                strand_excess: 0.0,
+                scaffold_excess: 0.0,
+            };
+            let (mut entries, mut place, mut energy) = ([0; 128], WHOLE, DOUBLE);
+            (
+                mj::search(design, &mut entries, &mut place, &mut energy),
+                energy,
+            )
+        });
+    let (number, energy) = searched.expect("a thread").join().expect("an answer");
+    checks.reply("a search on 256 KiB", number, 0);
+    checks.figure("its energy", energy, -128.0);
+}
+
 /// One strand with glues a, b* and c**, at the start of the text; after them two bases.
 const TEXT: &[u8] = b"ab*c**AC";
 const STRANDS: mj::Names = mj::Names {
@@ -390,11 +425,7 @@ fn names(checks: &mut Checks) {
     let number = mj::strand_glues(TEXT, 1, STRANDS, &mut glues[..2]);
     checks.reply("too few glues", number, 1);
     checks.count("glues kept", glues == [9; 3], format!("{glues:?}"));
-    checks.reply(
-        "glues",
-        mj::strand_glues(TEXT, 1, STRANDS, &mut glues),
-        0,
-    );
+    checks.reply("glues", mj::strand_glues(TEXT, 1, STRANDS, &mut glues), 0);
     checks.count("their numbers", glues == [1, 4, 5], format!("{glues:?}"));
 }
 
