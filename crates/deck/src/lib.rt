@@ -102,7 +102,9 @@ pub fn write(form: DeckForm, configuration: &[u8], words: &mut [u32]) -> DeckWri
 
 // Moves a deck's words, any number of them, into the other form: the deck of the same configuration, in 129 lent words.
 pub fn move_deck(from: DeckForm, words: &[u32], moved: &mut [u32]) -> DeckMoved
-    ensures { λ r. ⌜ (moveFiguresOf r ≡ moveFigures (formOf from) (formOf (otherForm from)) (now (words .entry)) (now (moved .entry))) × (now (moved .exit) ≡ moveWords (formOf from) (formOf (otherForm from)) (now (words .entry)) (now (moved .entry))) × (moveFiguresOf r .number ≡ answered → MovesTo (formOf from) (formOf (otherForm from)) (now (words .entry)) (take (moveFiguresOf r .count) (now (moved .exit)))) ⌝ }
+    ensures { λ r. ⌜ moveFiguresOf r ≡ moveFigures (formOf from) (formOf (otherForm from)) (now (words .entry)) (now (moved .entry)) ⌝ }
+    ensures { λ r. ⌜ now (moved .exit) ≡ moveWords (formOf from) (formOf (otherForm from)) (now (words .entry)) (now (moved .entry)) ⌝ }
+    ensures { λ r. ⌜ (moveFiguresOf r .number ≡ answered → MovesTo (formOf from) (formOf (otherForm from)) (now (words .entry)) (take (moveFiguresOf r .count) (now (moved .exit)))) ⌝ }
 {
     if moved.len() != WORDS {
         return DeckMoved::Refused(Refusal::WrongSize, Place::Nowhere);

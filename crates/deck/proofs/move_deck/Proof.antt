@@ -24,7 +24,7 @@ returns : tie.Need-returns
 unfolding moveFigures moveWords
 returns c =
     let t = ne-eqb (length (now (c .before .before .before .args .moved))) 129 (c .if1 .taken) in
-    (rw t, rw t, λ e. absurd (omega arith))
+    (rw t, (rw t, λ e. absurd (omega arith)))
 
 fault-requires : tie.Need-fault-requires
 fault-requires c κs = search needs
@@ -100,7 +100,7 @@ returns-2 c =
     p .1 ∙ ap (sets moved 0) deck ∙ sets-over (movedWords from to words) moved (omega arith) in
     let result : take (c .before .before .pack .result) (c .before .before .pack .last .1 .1 .0) ≡ movedWords from to words =
     ap₂ take count written ∙ take-over (movedWords from to words) moved in
-    (rw (t, v, count), rw (t, v) written, λ e. rw result (moves-to from to (form-decks (a .from)) (form-decks (otherForm (a .from))) words v))
+    (rw (t, v, count), (rw (t, v) written, λ e. rw result (moves-to from to (form-decks (a .from)) (form-decks (otherForm (a .from))) words v)))
 
 returns-3 : tie.Need-returns-3
 unfolding moveFigures moveWords
@@ -108,7 +108,7 @@ returns-3 c =
     let a = c .before .before .before .before .before .before .before .args in
     let t = eq-eqb (length (now (a .moved))) 129 (c .before .before .before .before .if1 .left) in
     let f = fault-at (formOf (a .from)) (now (a .words)) (sym (c .before .before .before .fault .ensures) ∙ c .before .place .given .1) in
-    (rw (t, f .0, f .1), rw (t, f .0), λ e. absurd (omega arith))
+    (rw (t, f .0, f .1), (rw (t, f .0), λ e. absurd (omega arith)))
 
 pub move-deck-spec : {M : Type 1} → statement M
 move-deck-spec =

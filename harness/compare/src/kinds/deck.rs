@@ -53,7 +53,11 @@ impl Kind for Decks {
         for form in FORMS {
             for _ in 0..IN_A_ROUND {
                 let valid = valid(form, random);
-                ask(reading(form.number(), &decks::damaged(&valid, random), READING_LENDS));
+                ask(reading(
+                    form.number(),
+                    &decks::damaged(&valid, random),
+                    READING_LENDS,
+                ));
                 ask(reading(form.number(), &valid, READING_LENDS));
                 ask(reading(form.number(), &decks::long(random), READING_LENDS));
                 let config = decks::configuration(random);
@@ -67,7 +71,11 @@ impl Kind for Decks {
                 let there = form.moved(&valid).expect("the judge admits it");
                 ask(moving(form.number(), &valid, WRITING_LENDS));
                 ask(back(form, &there, &valid));
-                ask(moving(form.number(), &decks::damaged(&valid, random), WRITING_LENDS));
+                ask(moving(
+                    form.number(),
+                    &decks::damaged(&valid, random),
+                    WRITING_LENDS,
+                ));
             }
         }
     }

@@ -32,7 +32,7 @@ returns c =
     let answer = c .before .before .before .before .before .move-deck .ensures in
     let told = rw (answer .0) at (c .tell-moved .ensures) in
     let moved = c .tell-moved .ensures in
-    rw form (told .0, (told .1 .0, (told .1 .1, (answer .1, λ e. rw (moved .1 .1) (answer .2 (sym (moved .0) ∙ e))))))
+    rw form (told .0, (told .1 .0, (told .1 .1, (answer .1 .0, λ e. rw (moved .1 .1) (answer .1 .1 (sym (moved .0) ∙ e))))))
 
 returns-2 : tie.Need-returns-2
 returns-2 c =

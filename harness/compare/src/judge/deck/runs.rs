@@ -16,8 +16,8 @@ pub fn write(config: &[u8]) -> Vec<u32> {
     let mut words = vec![join(FIRST, config.len() as u32)];
     let mut at = 0;
     while at < config.len() {
-        let run = config[at..].iter().take_while(|entry| **entry == config[at]);
-        let run = run.count();
+        let same = |entry: &&u8| **entry == config[at];
+        let run = config[at..].iter().take_while(same).count();
         words.push(match config[at] {
             0 => join(EMPTIES, run as u32),
             strand => strand_run(u32::from(strand), run as u32),
@@ -42,7 +42,8 @@ fn said(word: u32) -> Option<Said> {
             run: u64::from(run),
         }),
         (STRAND_RUN, payload) => {
-            let strand = (1..=63).find(|strand| payload >= *strand && (payload - strand) % 64 == 0)?;
+            let strand =
+                (1..=63).find(|strand| payload >= *strand && (payload - strand) % 64 == 0)?;
             Some(Said {
                 strand: Some(strand),
                 run: u64::from((payload - strand) / 64) + 1,

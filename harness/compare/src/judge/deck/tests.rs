@@ -9,9 +9,10 @@ fn with_strands(first: u32, strands: usize) -> Vec<u32> {
 /// Places worked out by hand from "the first word with which no valid deck can begin so".
 #[test]
 fn the_places_are_those_of_the_table() {
-    let place = |words: &[u32]| Form::Singles.read(words).expect_err("this deck has a fault");
+    let read = |words: &[u32]| Form::Singles.read(words);
+    let place = |words: &[u32]| read(words).expect_err("this deck has a fault");
     assert_eq!(place(&[]), 0);
-    assert_eq!(Form::Singles.read(&[0x1000_0000]), Ok(vec![]));
+    assert_eq!(read(&[0x1000_0000]), Ok(vec![]));
     assert_eq!(place(&[0x1000_0000, 0x3000_0001]), 1);
     assert_eq!(place(&[0x1000_0000, 0x1000_0000]), 1);
     assert_eq!(place(&[0x1000_0081]), 0);
@@ -35,7 +36,7 @@ fn the_places_are_those_of_the_table() {
     );
     assert_eq!(place(&[0x1000_0003, 0x2000_0001, 0x3000_0001]), 3);
     assert_eq!(place(&with_strands(0x1000_0080, 127)), 128);
-    assert_eq!(Form::Singles.read(&with_strands(0x1000_0080, 128)), Ok(vec![1; 128]));
+    assert_eq!(read(&with_strands(0x1000_0080, 128)), Ok(vec![1; 128]));
     assert_eq!(place(&with_strands(0x1000_0080, 129)), 129);
     assert_eq!(place(&with_strands(0x1000_0080, 200)), 129);
 }
@@ -57,7 +58,10 @@ fn the_bench_lines_hold() {
     let deck = [0x1000_0004, 0x2000_0001, 0x3000_0002, 0x2000_0002];
     assert_eq!(Form::Singles.write(&[1, 0, 0, 2]), deck);
     assert_eq!(Form::Singles.read(&deck), Ok(vec![1, 0, 0, 2]));
-    assert_eq!(Form::Singles.read(&[0x1000_0002, 0x3000_0001, 0x3000_0001]), Err(2));
+    assert_eq!(
+        Form::Singles.read(&[0x1000_0002, 0x3000_0001, 0x3000_0001]),
+        Err(2)
+    );
 }
 
 /// The same of the form with runs.
