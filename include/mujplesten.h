@@ -97,11 +97,18 @@ uint32_t mj_ambient(double kelvin, double *rt, double *strand_excess, double *sc
 /* Stored configurations. Reading takes a deck of n words and is lent 128 entries, of which it fills
  * as many as there are positions (count); writing takes the n entries of a configuration, 0 to 128,
  * and is lent 129 words, of which it fills count. What lies past the result is kept, and on a refusal
- * all is. The place is the index of the faulty word, with reply 14 alone. Replies 1, 14 and 1, 9. */
-uint32_t mj_deck_read(const uint32_t *words, size_t n, uint8_t *entries, size_t lent,
+ * all is. The place is the index of the faulty word, with reply 14 alone. Replies 1, 14 and 1, 9.
+ *
+ * A deck has one of two forms: 0 has a word for each strand, 1 a word for each run of one strand; any
+ * other number is refused with 1. Moving takes a deck of n words in a form and is lent 129 words, into
+ * which it writes the deck of the same configuration in the other form. Replies 1, 14, the latter by
+ * the rules of the form that the deck is in. */
+uint32_t mj_deck_read(uint32_t form, const uint32_t *words, size_t n, uint8_t *entries, size_t lent,
                       uint64_t *place, uint64_t *count);
-uint32_t mj_deck_write(const uint8_t *configuration, size_t n, uint32_t *words, size_t lent,
-                       uint64_t *count);
+uint32_t mj_deck_write(uint32_t form, const uint8_t *configuration, size_t n, uint32_t *words,
+                       size_t lent, uint64_t *count);
+uint32_t mj_deck_move(uint32_t form, const uint32_t *words, size_t n, uint32_t *moved, size_t lent,
+                      uint64_t *place, uint64_t *count);
 
 /* Names. All names lie in one text; each is a start and a length in it, and lists of names have a
  * mark for each beside them: 0 absent, 1 present. The start and length of an absent name are not

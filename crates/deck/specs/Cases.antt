@@ -1,5 +1,5 @@
--- Decks and what reading them answers, and configurations and what writing them answers, worked out by hand and computed from the definitions.
--- The numbers are document 01's own, written out.
+-- Decks of document 01's form and what reading them answers, and configurations and what writing them answers, worked out by hand and computed
+-- from the definitions. The numbers are document 01's own, written out.
 use mathlib.Core.List.{List, [], _∷_, map}
 use mathlib.Core.Path.{_≡_, refl}
 use Prim.Native.Nat.{ℕ}

@@ -1,8 +1,9 @@
--- A form says what the words after a deck's first one stand for, and which of them may follow which. Document 01 has one form, `singles`.
+-- A form says what the words after a deck's first one stand for, and which of them may follow which. Document 01 has one form, `singles`; document 02
+-- adds `runs`.
 -- What is shown of decks is shown of every form that keeps `Rules`.
-use mathlib.Core.Bool.{Bool, false, cond, not, _&&_}
+use mathlib.Core.Bool.{Bool, true, false, cond, not, _&&_}
 use mathlib.Core.Path.{_≡_}
-use Prim.Native.Nat.{ℕ, _≤_}
+use Prim.Native.Nat.{ℕ, _+_, _-_, _*_, _/_, _%_, _≤_}
 use lib.Dec.{leb, eqb}
 use Rattle.deck.specs.Word.{kindOf, payloadOf, wordOf}
 use Rattle.deck.specs.declared.form.Stretch.{Stretch}
@@ -51,6 +52,19 @@ singles =
       stretchOf = λ word. cond (eqb (kindOf word) 2) (oneStrand (payloadOf word)) (cond (eqb (kindOf word) 3) (empties (payloadOf word)) nothing);
       wordFor = λ s. cond (eqb (s .occupant) 0) (wordOf 3 (s .run)) (wordOf 2 (s .occupant));
       inRuns = λ occupant. eqb occupant 0;
+    }
+
+-- kind 4: a strand, and 64 for each position of its run after the first
+abbrev pub strandRun : ℕ → Stretch
+strandRun payload = cond (eqb (payload % 64) 0) nothing (stretch (payload % 64) (payload / 64 + 1))
+
+-- the form with runs: neighbours with one occupant, a strand or empty, have one word
+abbrev pub runs : Form
+runs =
+    record {
+      stretchOf = λ word. cond (eqb (kindOf word) 4) (strandRun (payloadOf word)) (cond (eqb (kindOf word) 3) (empties (payloadOf word)) nothing);
+      wordFor = λ s. cond (eqb (s .occupant) 0) (wordOf 3 (s .run)) (wordOf 4 (s .occupant + 64 * (s .run - 1)));
+      inRuns = λ occupant. true;
     }
 
 -- a stretch that has a word in a form

@@ -3,4 +3,5 @@ pub mod Flag
 pub mod Lent
 pub mod Lowest
 pub mod Place
+pub mod Stored
 pub mod Told

@@ -14,7 +14,7 @@ mod params;
 mod sequences;
 mod temperature;
 
-pub use deck::{deck_read, deck_write};
+pub use deck::{deck_move, deck_read, deck_write};
 pub use design::{
     chain_energy, friends, scaffold_bond, search, state, state_energy, states, strand_bond, Design,
 };

@@ -180,24 +180,55 @@ static void decks(void)
     uint64_t place = unread, n = unread;
     memset(entries, 0xa5, sizeof entries);
     memset(words, 0xa5, sizeof words);
-    reply("a faulty deck", mj_deck_read(faulty, 3, entries, 128, &place, &n), 14);
+    reply("a faulty deck", mj_deck_read(0, faulty, 3, entries, 128, &place, &n), 14);
     count("its place", place == 2);
     count("its count", n == 0);
-    reply("too few entries", mj_deck_read(deck, 4, entries, 127, &place, &n), 1);
+    reply("too few entries", mj_deck_read(0, deck, 4, entries, 127, &place, &n), 1);
     count("its place", place == MJ_NOWHERE);
     count("entries are kept", entries[0] == 0xa5);
     place = unread;
-    reply("a deck", mj_deck_read(deck, 4, entries, 128, &place, &n), 0);
+    reply("a deck", mj_deck_read(0, deck, 4, entries, 128, &place, &n), 0);
     count("its count", n == 4);
     count("its place", place == MJ_NOWHERE);
     count("its configuration", memcmp(entries, configuration, 4) == 0 && entries[4] == 0xa5);
     entries[0] = 64;
-    reply("a strand of 64", mj_deck_write(entries, 1, words, 129, &n), 9);
+    reply("a strand of 64", mj_deck_write(0, entries, 1, words, 129, &n), 9);
     count("its count", n == 0);
     count("words are kept", words[0] == 0xa5a5a5a5);
-    reply("a configuration", mj_deck_write(configuration, 4, words, 129, &n), 0);
+    reply("a configuration", mj_deck_write(0, configuration, 4, words, 129, &n), 0);
     count("its count", n == 4);
     count("its deck", memcmp(words, deck, sizeof deck) == 0 && words[4] == 0xa5a5a5a5);
+}
+
+/* The form with runs: a deck of it, the same deck in document 01's form, and back. */
+static void decks_with_runs(void)
+{
+    static const uint32_t singles[] = {0x10000004, 0x30000001, 0x20000007, 0x20000007, 0x20000007};
+    static const uint32_t runs[] = {0x10000004, 0x30000001, 0x40000087};
+    static const uint8_t configuration[] = {0, 7, 7, 7};
+    uint8_t entries[128];
+    uint32_t words[129], back[129];
+    uint64_t place = unread, n = unread;
+    memset(entries, 0xa5, sizeof entries);
+    memset(words, 0xa5, sizeof words);
+    memset(back, 0xa5, sizeof back);
+    reply("a deck with runs", mj_deck_read(1, runs, 3, entries, 128, &place, &n), 0);
+    count("its count", n == 4);
+    count("its configuration", memcmp(entries, configuration, 4) == 0 && entries[4] == 0xa5);
+    reply("runs in document 01's form", mj_deck_read(0, runs, 3, entries, 128, &place, &n), 14);
+    count("its place", place == 2);
+    reply("an unknown form", mj_deck_read(2, runs, 3, entries, 128, &place, &n), 1);
+    count("its place", place == MJ_NOWHERE);
+    reply("a configuration with a run", mj_deck_write(1, configuration, 4, words, 129, &n), 0);
+    count("its deck", memcmp(words, runs, sizeof runs) == 0 && words[3] == 0xa5a5a5a5);
+    reply("moving a deck with runs", mj_deck_move(1, runs, 3, words, 129, &place, &n), 0);
+    count("its count", n == 5);
+    count("its place", place == MJ_NOWHERE);
+    count("its words", memcmp(words, singles, sizeof singles) == 0 && words[5] == 0xa5a5a5a5);
+    reply("moving it back", mj_deck_move(0, words, 5, back, 129, &place, &n), 0);
+    count("its words", memcmp(back, runs, sizeof runs) == 0 && back[3] == 0xa5a5a5a5);
+    reply("moving it by the other rules", mj_deck_move(0, runs, 3, back, 129, &place, &n), 14);
+    count("its place", place == 2);
 }
 
 /* The bench table's two positions: strand 1 with dG -0.5, then strand 2 with dG -2, potentials -1,
@@ -345,6 +376,7 @@ int main(void)
     strengths();
     ambients();
     decks();
+    decks_with_runs();
     designs();
     names();
     params();

@@ -24,7 +24,7 @@ fn answer(lent: &mut Lent, words: Words) -> Result<Option<Reply>, Complaint> {
     match words[0] {
         "seq" | "pair" | "loop" | "strengthx" => sequences::answer(words).map(Some),
         "ambient" => temperature::answer(words).map(Some),
-        "deck.read" | "deck.write" => deck::answer(words).map(Some),
+        "deck.read" | "deck.write" | "deck.move" => deck::answer(words).map(Some),
         "params" => params::answer(words).map(Some),
         "name" | "raw.name" | "raw.glues" => names::answer(words).map(Some),
         _ => lent.answer(words),

@@ -88,22 +88,32 @@ pub fn call(random: &mut Random, tally: &mut Tally) {
 }
 
 fn deck(random: &mut Random, tally: &mut Tally) {
-    let deck = decks::deck(random);
+    let form = random.below(5) as u32 / 2;
+    let deck = match form {
+        0 => decks::deck(random),
+        _ => decks::deck_with_runs(random),
+    };
     let words = match random.below(4) {
         0 => decks::damaged(&deck, random),
         1 => decks::long(random),
         _ => deck,
     };
+    let mut moved = Guarded::new(near(random, 129), 0xa5a5_a5a5);
+    let [mut place, mut count] = [Figure::whole(), Figure::whole()];
+    let number = mj::deck_move(form, &words, moved.lent(), place.lent(), count.lent());
+    let placed = place.is_place(number) && (number == 14) == (place.told() != mj::NOWHERE);
+    let fit = moved.is_fit(number) && placed && count.is_fit(number);
+    tally.call("deck_move", number, fit);
     let mut entries = Guarded::new(near(random, 128), 0xa5);
     let [mut place, mut count] = [Figure::whole(), Figure::whole()];
-    let number = mj::deck_read(&words, entries.lent(), place.lent(), count.lent());
+    let number = mj::deck_read(form, &words, entries.lent(), place.lent(), count.lent());
     let placed = place.is_place(number) && (number == 14) == (place.told() != mj::NOWHERE);
     let fit = entries.is_fit(number) && placed && count.is_fit(number);
     tally.call("deck_read", number, fit);
     let configuration = any_configuration(random);
     let mut words = Guarded::new(near(random, 129), 0xa5a5_a5a5);
     let mut count = Figure::whole();
-    let number = mj::deck_write(&configuration, words.lent(), count.lent());
+    let number = mj::deck_write(form, &configuration, words.lent(), count.lent());
     tally.call(
         "deck_write",
         number,

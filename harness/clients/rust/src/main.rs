@@ -49,6 +49,7 @@ fn main() -> ExitCode {
     strengths(&mut checks);
     ambients(&mut checks);
     decks(&mut checks);
+    decks_with_runs(&mut checks);
     designs(&mut checks);
     names(&mut checks);
     params(&mut checks);
@@ -189,31 +190,75 @@ fn decks(checks: &mut Checks) {
     let faulty = [0x1000_0002, 0x3000_0001, 0x3000_0001];
     let mut entries = [0xa5; 128];
     let (mut place, mut count) = (WHOLE, WHOLE);
-    let number = mj::deck_read(&faulty, &mut entries, &mut place, &mut count);
+    let number = mj::deck_read(0, &faulty, &mut entries, &mut place, &mut count);
     checks.reply("a faulty deck", number, 14);
     checks.place("its place", place, 2);
     checks.count("its count", count == 0, format!("{count}, not 0"));
-    let number = mj::deck_read(&deck, &mut entries[..127], &mut place, &mut count);
+    let number = mj::deck_read(0, &deck, &mut entries[..127], &mut place, &mut count);
     checks.reply("too few entries", number, 1);
     checks.place("its place", place, mj::NOWHERE);
     checks.count("entries", entries == [0xa5; 128], "not kept".to_string());
     (place, count) = (WHOLE, WHOLE);
-    let number = mj::deck_read(&deck, &mut entries, &mut place, &mut count);
+    let number = mj::deck_read(0, &deck, &mut entries, &mut place, &mut count);
     checks.reply("a deck", number, 0);
     checks.place("its place", place, mj::NOWHERE);
     checks.count("its count", count == 4, format!("{count}, not 4"));
     let read = entries[..5] == [1, 0, 0, 2, 0xa5];
     checks.count("its configuration", read, format!("{:?}", &entries[..5]));
     let mut words = [u32::MAX; 129];
-    let number = mj::deck_write(&[64], &mut words, &mut count);
+    let number = mj::deck_write(0, &[64], &mut words, &mut count);
     checks.reply("a strand of 64", number, 9);
     checks.count("its count", count == 0, format!("{count}, not 0"));
     checks.count("words", words == [u32::MAX; 129], "not kept".to_string());
-    let number = mj::deck_write(&[1, 0, 0, 2], &mut words, &mut count);
+    let number = mj::deck_write(0, &[1, 0, 0, 2], &mut words, &mut count);
     checks.reply("a configuration", number, 0);
     checks.count("its count", count == 4, format!("{count}, not 4"));
     let written = words[..4] == deck && words[4] == u32::MAX;
     checks.count("its deck", written, format!("{:x?}", &words[..5]));
+}
+
+/// The form with runs: a deck of it, the same deck in document 01's form, and back.
+fn decks_with_runs(checks: &mut Checks) {
+    let singles = [
+        0x1000_0004,
+        0x3000_0001,
+        0x2000_0007,
+        0x2000_0007,
+        0x2000_0007,
+    ];
+    let runs = [0x1000_0004, 0x3000_0001, 0x4000_0087];
+    let mut entries = [0xa5; 128];
+    let (mut place, mut count) = (WHOLE, WHOLE);
+    let number = mj::deck_read(1, &runs, &mut entries, &mut place, &mut count);
+    checks.reply("a deck with runs", number, 0);
+    checks.count("its count", count == 4, format!("{count}, not 4"));
+    let read = entries[..5] == [0, 7, 7, 7, 0xa5];
+    checks.count("its configuration", read, format!("{:?}", &entries[..5]));
+    let number = mj::deck_read(0, &runs, &mut entries, &mut place, &mut count);
+    checks.reply("runs in document 01's form", number, 14);
+    checks.place("its place", place, 2);
+    let number = mj::deck_read(2, &runs, &mut entries, &mut place, &mut count);
+    checks.reply("an unknown form", number, 1);
+    checks.place("its place", place, mj::NOWHERE);
+    let mut words = [u32::MAX; 129];
+    let number = mj::deck_write(1, &[0, 7, 7, 7], &mut words, &mut count);
+    checks.reply("a configuration with a run", number, 0);
+    let written = words[..3] == runs && words[3] == u32::MAX;
+    checks.count("its deck", written, format!("{:x?}", &words[..4]));
+    let mut moved = [u32::MAX; 129];
+    let number = mj::deck_move(1, &runs, &mut moved, &mut place, &mut count);
+    checks.reply("moving a deck with runs", number, 0);
+    checks.place("its place", place, mj::NOWHERE);
+    checks.count("its count", count == 5, format!("{count}, not 5"));
+    let there = moved[..5] == singles && moved[5] == u32::MAX;
+    checks.count("its words", there, format!("{:x?}", &moved[..6]));
+    let mut back = [u32::MAX; 129];
+    let number = mj::deck_move(0, &moved[..5], &mut back, &mut place, &mut count);
+    checks.reply("moving it back", number, 0);
+    checks.count("its words", back[..3] == runs, format!("{:x?}", &back[..4]));
+    let number = mj::deck_move(0, &runs, &mut back, &mut place, &mut count);
+    checks.reply("moving it by the other rules", number, 14);
+    checks.place("its place", place, 2);
 }
 
 /// The bench table's two positions: strand 1 with dG −0.5, then strand 2 with dG −2, potentials −1,
