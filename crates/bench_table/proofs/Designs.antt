@@ -15,11 +15,12 @@ use Rattle.model.specs.States.{eachBefore, listing, choices, choiceAt, states, 
 use Rattle.model.specs.Energy.{stateTerms, stateEnergy, chainTerms, chainEnergy, chainProduct, walk}
 use Rattle.model.specs.Search.{leastLeft, leftChoice, traced, searchOver, search}
 use Rattle.design.specs.Design.{strandBond, scaffoldBond, befriends, friendsTo, modelOf}
-use Rattle.design.specs.Checks.{strangers, wrongSizes, cellsOut, ambientOut, somewhere, potentialsOut, nullBinds}
-use Rattle.design.specs.Answers.{given, refused, countAnswer, rankAnswer, rankEntries, stateEnergyAnswer, chainEnergyAnswer}
+use Rattle.design.specs.Checks.{wrongSizes, cellsOut, ambientOut, somewhere, potentialsOut, nullBinds}
+use Rattle.reply.specs.Figures.{given, refused}
+use Rattle.design.specs.Answers.{countAnswer, rankAnswer, rankEntries}
 use Rattle.mfe.specs.Answers.{searchAnswer, searchEntries}
 use Rattle.bench_table.specs.Designs.{bare, onePosition, twoPositions}
-use Rattle.bench_table.specs.Readings.{tiny, TwoZeros, close, OneProduct, parted, TwoSums}
+use Rattle.bench_table.specs.Readings.{tiny, TwoZeros, close, OneProduct, parted, TwoSums, lower, LowerState}
 
 -- What a line unfolds: the checks of a design, and the model that it gives.
 unfoldable checked : ℕ
@@ -115,13 +116,28 @@ parted-energy : (x y : ℕ) → toBits binary64 (searchAnswer parted (x ∷ y �
 unfolding searched parted toBits
 parted-energy x y = refl
 
-parted-chain : toBits binary64 (chainEnergyAnswer parted (1 ∷ 2 ∷ []) .figure .timesRt) ≡ 0xbfb9_9999_9999_999a
-unfolding walked parted strangers toBits
+parted-chain : toBits binary64 (chainProduct (modelOf parted) (1 ∷ 2 ∷ [])) ≡ 0xbfb9_9999_9999_999a
+unfolding walked parted toBits
 parted-chain = refl
 
-parted-state : toBits binary64 (stateEnergyAnswer parted (1 ∷ 2 ∷ []) .figure) ≡ 0xbfb9_9999_9999_999c
-unfolding searched parted strangers stateTerms stateEnergy sumFrom toBits
+parted-state : toBits binary64 (stateEnergy (modelOf parted) (1 ∷ 2 ∷ [])) ≡ 0xbfb9_9999_9999_999c
+unfolding searched parted stateTerms stateEnergy sumFrom toBits
 parted-state = refl
 
 pub two-sums : TwoSums
 two-sums = record { configuration = parted-configuration; energy = parted-energy; chain = parted-chain; state = parted-state }
+
+lower-configuration : (x y : ℕ) → searchEntries lower (x ∷ y ∷ []) ≡ 1 ∷ 3 ∷ []
+unfolding searched lower
+lower-configuration x y = refl
+
+lower-shown : toBits binary64 (stateEnergy (modelOf lower) (1 ∷ 3 ∷ [])) ≡ 0xbfd9_9999_9999_999b
+unfolding searched lower stateTerms stateEnergy sumFrom toBits
+lower-shown = refl
+
+lower-other : toBits binary64 (stateEnergy (modelOf lower) (1 ∷ 2 ∷ [])) ≡ 0xbfd9_9999_9999_999c
+unfolding searched lower stateTerms stateEnergy sumFrom toBits
+lower-other = refl
+
+pub lower-state : LowerState
+lower-state = record { configuration = lower-configuration; shown = lower-shown; other = lower-other }

@@ -8,9 +8,9 @@ use lib.IntN.{pos}
 use lib.Ieee.{fin, binary64, lt, toBits}
 use Rattle.doubles.specs.Decimal.{Decimal, plus, minus, nearest, zero}
 use Rattle.units.specs.declared.Ambient.{Ambient}
-use Rattle.model.specs.Energy.{walk, chainEnergy, chainProduct}
+use Rattle.model.specs.Energy.{walk, stateEnergy, chainEnergy, chainProduct}
 use Rattle.design.specs.Design.{Design, design, modelOf}
-use Rattle.design.specs.Answers.{given, stateEnergyAnswer, chainEnergyAnswer}
+use Rattle.reply.specs.Figures.{given}
 use Rattle.mfe.specs.Answers.{searchAnswer, searchEntries}
 use Rattle.bench_table.specs.Designs.{zeros}
 
@@ -55,5 +55,19 @@ parted =
 pub record TwoSums : Type 0 where
   pub configuration : (x y : ℕ) → searchEntries parted (x ∷ y ∷ []) ≡ 1 ∷ 2 ∷ []
   pub energy : (x y : ℕ) → toBits binary64 (searchAnswer parted (x ∷ y ∷ []) .figure) ≡ 0xbfb9_9999_9999_999a
-  pub chain : toBits binary64 (chainEnergyAnswer parted (1 ∷ 2 ∷ []) .figure .timesRt) ≡ 0xbfb9_9999_9999_999a
-  pub state : toBits binary64 (stateEnergyAnswer parted (1 ∷ 2 ∷ []) .figure) ≡ 0xbfb9_9999_9999_999c
+  pub chain : toBits binary64 (chainProduct (modelOf parted) (1 ∷ 2 ∷ [])) ≡ 0xbfb9_9999_9999_999a
+  pub state : toBits binary64 (stateEnergy (modelOf parted) (1 ∷ 2 ∷ [])) ≡ 0xbfb9_9999_9999_999c
+
+-- RT 1; strand 1 on the first position, with dG −0.3, strands 2 and 3 on the second, with −0.9 and −0.4, and −0.5 between neighbours
+unfoldable pub lower : Design
+unfolding nearest
+lower =
+    design (1 ∷ 2 ∷ []) (0 ∷ 0 ∷ 0 ∷ 0 ∷ 1 ∷ 3 ∷ 3 ∷ 2 ∷ 0 ∷ 3 ∷ 4 ∷ 0 ∷ [])
+    (set (set (set (set zeros 65 (nearest (minus 3 1))) 130 (nearest (minus 9 1))) 132 (nearest (minus 4 1))) 195 (nearest (minus 5 1))) zeros
+    (zero ∷ nearest (minus 5 1) ∷ nearest (minus 8 1) ∷ nearest (minus 3 1) ∷ []) (noExcess (plus 1 0))
+
+-- the search shows [1, 3], whose state energy is −0.4000000000000001, and that of [1, 2] is lower, −0.40000000000000013
+pub record LowerState : Type 0 where
+  pub configuration : (x y : ℕ) → searchEntries lower (x ∷ y ∷ []) ≡ 1 ∷ 3 ∷ []
+  pub shown : toBits binary64 (stateEnergy (modelOf lower) (1 ∷ 3 ∷ [])) ≡ 0xbfd9_9999_9999_999b
+  pub other : toBits binary64 (stateEnergy (modelOf lower) (1 ∷ 2 ∷ [])) ≡ 0xbfd9_9999_9999_999c

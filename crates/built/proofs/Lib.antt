@@ -7,3 +7,4 @@ pub mod Fits
 pub mod Entries
 pub mod Order
 pub mod Ambients
+pub mod Bench

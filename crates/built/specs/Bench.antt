@@ -1,9 +1,10 @@
 -- Document 01's bench table: the line on names that is marked as proved, through the whole of `from_params`. Letters are their bytes: a is 97,
 -- the star 42.
 use mathlib.Core.Path.{_≡_, refl}
-use mathlib.Core.List.{[], _∷_}
+use mathlib.Core.List.{List, [], _∷_}
 use Prim.Native.Nat.{ℕ}
-use lib.ListN.{replicate}
+use lib.ListN.{replicate, set}
+use lib.Ieee.{Float}
 use Rattle.doubles.specs.Decimal.{plus, minus, nearest, zero}
 use Rattle.lists.specs.Build.{tabulate}
 use Rattle.lists.specs.Find.{any, firstIndex}
@@ -16,6 +17,9 @@ use Rattle.sdc1d_params.specs.Entries.{energiesOf}
 use Rattle.sdc1d_params.specs.Tables.{duplicated, emptyTable, dgTable, dsTable}
 use Rattle.sdc1d_params.specs.Params.{Params, Outcome, writesOf, wrongSize, strandGluesOf, fromParams}
 use Rattle.sdc1d_params.specs.declared.Copied.the-variants.{Nothing}
+use Rattle.units.specs.declared.Ambient.{Ambient}
+use Rattle.design.specs.Design.{design}
+use Rattle.built.specs.Fits.{designOf, WrittenSymmetric}
 
 -- The text is `a**`. One strand, whose west glue is the `a`; one scaffold position, whose name is the first so many bytes; no energy entry,
 -- no penalty, no quencher and no reporter.
@@ -52,3 +56,15 @@ pub line-a-one-star :
     ≡ record { number = 0; strandGlues = 0 ∷ 0 ∷ 0 ∷ 1 ∷ 0 ∷ 0 ∷ 0 ∷ 0 ∷ 0 ∷ 0 ∷ 0 ∷ 0 ∷ []; scaffoldGlues = 2 ∷ []; dg = emptyTable; ds = emptyTable }
 unfolding fromParams wrongSize unfitNames unfitGlue any tabulate gluesOf glueOf partOf isUnknown knownNames basesOf foldl learn baseOf baseLength sameName writesOf duplicated strandGluesOf numbersAmong glueNumber baseNumber starsOf spelledNumber firstIndex dgTable dsTable
 line-a-one-star = refl
+
+-- the same lent, but with a table of dG that is not symmetric: another double at [1][2]
+abbrev pub odd : Outcome
+odd = record { number = 0; strandGlues = lent .strandGlues; scaffoldGlues = lent .scaffoldGlues; dg = set (lent .dg) 66 zero; ds = lent .ds }
+
+-- Added: what is handed on as what, and what is not said of a refusal.
+pub record HandedOn : Type 0 where
+  -- each of the four slices has its place in the design, dG and dS their own
+  pub made : (potentials : List Float) (ambient : Ambient) → designOf lent potentials ambient ≡ design (9 ∷ []) (replicate 12 9) (lent .dg) (lent .ds) potentials ambient
+  -- a refused build leaves what was lent, symmetric or not, and `WrittenSymmetric` claims nothing of it
+  pub kept : fromParams (oneStrand 3) odd .dg ≡ odd .dg
+  pub unclaimed : WrittenSymmetric (oneStrand 3) odd

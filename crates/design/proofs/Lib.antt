@@ -9,3 +9,4 @@ pub mod Lowest
 pub mod Replies
 pub mod Finite
 pub mod Unread
+pub mod NullBonds

@@ -5,3 +5,4 @@ pub mod Laws
 pub mod Finite
 pub mod Unread
 pub mod Filling
+pub mod TwoEnergies

@@ -1,6 +1,6 @@
 -- The search's answer, of every design and all that is lent. Assumes nothing.
 use mathlib.Core.Path.{_≡_, refl, sym, ap, ap₂}
-use mathlib.Core.Bool.{Bool, not, false}
+use mathlib.Core.Bool.{Bool, not}
 use mathlib.Core.List.{List, []}
 use Prim.Native.Nat.{ℕ}
 use lib.Dec.{eqb}
@@ -20,28 +20,28 @@ use Rattle.model.proofs.Search.{search-lowest}
 use Rattle.design.specs.Design.{Design, positions, strands, modelOf}
 use Rattle.design.specs.Checks.{Admitted}
 use Rattle.design.specs.Laws.{Doubles}
-use Rattle.design.specs.Unread.{withPotentials, ReadAlike}
+use Rattle.design.specs.Unread.{withPotentials}
 use Rattle.design.proofs.Replies.{Passed, passed, own-decide}
 use Rattle.design.proofs.BoundLaws.{bounds-right}
 use Rattle.design.proofs.Finite.{zero-in}
 use Rattle.design.proofs.Unread.{same-design-reply, same-models}
 use Rattle.mfe.specs.Answers.{searchChecks, searchAnswer, searchEntries}
-use Rattle.mfe.specs.Answered.{SearchAnswered, SearchAnswers, SearchUnread, UnreadBySearch}
+use Rattle.mfe.specs.Answered.{SearchAnswers, UnreadBySearch}
 
 module _ (d : Design) (entries : List ℕ) where
   abbrev ownSize : Bool
   ownSize = not (eqb (length entries) (positions d))
 
   -- number 0 is that of a call that no check refuses
-  number-passed : searchAnswer d entries .number ≡ 0 → Passed ownSize d []
+  pub number-passed : searchAnswer d entries .number ≡ 0 → Passed ownSize d []
   number-passed e =
       passed ownSize d [] (number-admitted (firstOf (searchChecks d entries)) zero (Search.search (modelOf d) .energy) e)
 
-  lent-right : Passed ownSize d [] → length entries ≡ positions d
+  pub lent-right : Passed ownSize d [] → length entries ≡ positions d
   lent-right p = eqb-true _ _ (not-false _ (p .size))
 
   module _ (a : Admitted d) (l : length entries ≡ positions d) where
-    reply : firstOf (searchChecks d entries) ≡ Reply.Admitted
+    pub reply : firstOf (searchChecks d entries) ≡ Reply.Admitted
     reply = own-decide ownSize d [] (ap not (eq-eqb _ _ l)) a
 
     number : searchAnswer d entries .number ≡ 0

@@ -46,7 +46,7 @@ abbrev pub Small : List Float → Type 0
 Small terms = Each (Within binary64 80000) terms
 
 module _ (m : Model) (n : ℕ) (b : Bounded m n) where
-  strand-below : (i x : ℕ) → (x ≡ 0) ⊎ Friend m i x → x < n
+  pub strand-below : (i x : ℕ) → (x ≡ 0) ⊎ Friend m i x → x < n
   strand-below i x (inl e) = omega (arith, b .null)
   strand-below i x (inr f) = b .known i x f
 

@@ -9,3 +9,4 @@ pub mod Optimal
 pub mod Walk
 pub mod Search
 pub mod Read
+pub mod TwoEnergies

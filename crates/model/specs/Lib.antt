@@ -7,3 +7,4 @@ pub mod Search
 pub mod LowestConfiguration
 pub mod Read
 pub mod Bits
+pub mod TwoEnergies

@@ -21,6 +21,10 @@ given figure = record { number = answered; place = Nowhere; figure = figure }
 abbrev pub refusedWith : {A : Type 0} → A → Refusal → Place → Figures A
 refusedWith blank refusal place = record { number = numberOf refusal; place = place; figure = blank }
 
+-- a refusal by its number, without a place
+abbrev pub refused : {A : Type 0} → A → ℕ → Figures A
+refused blank number = record { number = number; place = Nowhere; figure = blank }
+
 -- what a call answers by its reply: its figure where it is admitted, and otherwise the refusal
 abbrev pub figuresOf : {A : Type 0} → Reply → A → A → Figures A
 figuresOf Admitted blank figure = given figure

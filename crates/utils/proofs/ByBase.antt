@@ -3,7 +3,8 @@ use mathlib.Core.Path.{_≡_, refl}
 use mathlib.Core.List.{List, []}
 use Prim.Native.Nat.{ℕ}
 use lib.ListN.{getD}
-use Rattle.utils.specs.Bases.{Base, indexOf, byBase, byTwo, byThree}
+use Rattle.utils.specs.Bases.{Base, indexOf}
+use Rattle.utils.specs.inner.Tables.{byBase, byTwo, byThree}
 use Rattle.utils.specs.declared.bases.DnaNucleotideBase.the-variants.{A, T, G, C}
 
 pub at-base : {X : Type 0} (f : Base → X) (d : X) (b : Base) → getD (byBase f) (indexOf b) d ≡ f b

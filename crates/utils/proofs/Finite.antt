@@ -28,7 +28,7 @@ use Rattle.reply.proofs.First.{passes}
 use Rattle.utils.specs.Answers.{DgDsFigures, refusedDgDs, DgFigures, refusedDg}
 use Rattle.utils.specs.Bases.{Base, bases, notABase}
 use Rattle.utils.specs.Figures.{stackDg, stackDs, startDg, startDs, hasLength, loopDg}
-use Rattle.utils.specs.Single.{Neighbours, neighbours, figureOf, stackSum, tooLong, tooShort, sequenceChecks, stringDnaDgDs}
+use Rattle.utils.specs.Single.{Neighbours, neighbours, atNeighbours, stackSum, tooLong, tooShort, sequenceChecks, stringDnaDgDs}
 use Rattle.utils.specs.Pair.{Window, windows, good, Sums, endsLoop, withLoop, afterGood, afterBad, noSums, step, pairSums, lacksLoop, pairChecks, sequencePairDgDs}
 use Rattle.utils.specs.Strength.{strengthAt, excessInRange, excessChecks, sequenceStrength, pairStrength}
 use Rattle.utils.specs.Finite.{SumsFinite, AnswersFinite}
@@ -57,19 +57,19 @@ few-neighbours (a ∷ b ∷ s) = omega (arith, few-neighbours (b ∷ s))
 one-energy : (s : List Base) → length s ≤ 256 → Within binary64 765 (stackSum stackDg s)
 unfolding stackSum
 one-energy s h =
-    let terms = map (figureOf stackDg) (neighbours s) in
+    let terms = map (atNeighbours stackDg) (neighbours s) in
     let few : length terms ≤ 255 = simp length-map (omega (arith, few-neighbours s)) in
     let most : 0 + length terms * 3 ≤ 765 = omega arith in
     weaken 765 most
     (sum-within 3 0 Decimal.zero terms zero-within
-    (each-map (λ n. Unit) (Within binary64 3) (figureOf stackDg) (λ n u. stack-energy (n .first) (n .second)) (neighbours s) (each-all (λ n. Unit) (λ n. tt) (neighbours s)))
+    (each-map (λ n. Unit) (Within binary64 3) (atNeighbours stackDg) (λ n u. stack-energy (n .first) (n .second)) (neighbours s) (each-all (λ n. Unit) (λ n. tt) (neighbours s)))
     (le-trans most (lit≤ tt)))
 
-entropies : (n : ℕ) (sum : Float) (rest : List Neighbours) → n + length rest ≤ 255 → Parts binary64 n sum → Parts binary64 255 (sumFrom sum (map (figureOf stackDs) rest))
+entropies : (n : ℕ) (sum : Float) (rest : List Neighbours) → n + length rest ≤ 255 → Parts binary64 n sum → Parts binary64 255 (sumFrom sum (map (atNeighbours stackDs) rest))
 unfolding sumFrom
 entropies n sum [] h p = weaken-parts 255 (omega arith) p
 entropies n sum (x ∷ rest) h p =
-    entropies (suc n) (add binary64 sum (figureOf stackDs x)) rest (omega arith) (entropy-sum n sum (figureOf stackDs x) (omega arith) p (stack-entropy (x .first) (x .second)))
+    entropies (suc n) (add binary64 sum (atNeighbours stackDs x)) rest (omega arith) (entropy-sum n sum (atNeighbours stackDs x) (omega arith) p (stack-entropy (x .first) (x .second)))
 
 one-entropy : (s : List Base) → length s ≤ 256 → Parts binary64 255 (stackSum stackDs s)
 unfolding stackSum

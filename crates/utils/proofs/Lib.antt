@@ -1,6 +1,8 @@
+pub mod AtTheEnd
 pub mod Letters
 pub mod ByBase
 pub mod Lengths
+pub mod Divided
 pub mod Loops
 pub mod Neighbours
 pub mod Windows

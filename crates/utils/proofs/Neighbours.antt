@@ -10,7 +10,7 @@ use lib.ListN.{length, getD, drop, length-map, List·getD-map}
 use lib.Seq.{drop-cons}
 use Rattle.doubles.specs.Sum.{sumFrom}
 use Rattle.utils.specs.Bases.{Base, baseOf, bases}
-use Rattle.utils.specs.Single.{neighbours, figureOf}
+use Rattle.utils.specs.Single.{neighbours, atNeighbours}
 
 -- the byte's base at a place of the sequence
 pub base-at : (s : List ℕ) (i : ℕ) → getD (bases s) i (baseOf 0) ≡ baseOf (getD s i 0)
@@ -29,7 +29,7 @@ bases-cons s i h =
 
 -- the sum of what is left when the code is at place i, of which the place before is still wanted
 unfoldable pub sumAt : (Base → Base → Float) → Float → List ℕ → ℕ → Float
-sumAt f sum s i = sumFrom sum (map (figureOf f) (neighbours (drop (i - 1) (bases s))))
+sumAt f sum s i = sumFrom sum (map (atNeighbours f) (neighbours (drop (i - 1) (bases s))))
 
 sum-more : (f : Base → Base → Float) (sum : Float) (s : List ℕ) (i : ℕ) → 1 ≤ i → i < length s
     → sumAt f sum s i ≡ sumAt f (add binary64 sum (f (baseOf (getD s (i - 1) 0)) (baseOf (getD s i 0)))) s (i + 1)
@@ -44,7 +44,7 @@ pub carry-on : (f : Base → Base → Float) (sum : Float) (s : List ℕ) (i : �
     → next ≡ add binary64 sum (f (baseOf (getD s (i - 1) 0)) (baseOf (getD s i 0))) → total ≡ sumAt f next s (i + 1)
 carry-on f sum s i l h e n = e ∙ sum-more f sum s i l h ∙ ap (λ (x : Float). sumAt f x s (i + 1)) (sym n)
 
-sum-none : (f : Base → Base → Float) (sum : Float) (s : List Base) → length s ≤ 1 → sumFrom sum (map (figureOf f) (neighbours s)) ≡ sum
+sum-none : (f : Base → Base → Float) (sum : Float) (s : List Base) → length s ≤ 1 → sumFrom sum (map (atNeighbours f) (neighbours s)) ≡ sum
 unfolding sumFrom neighbours
 sum-none f sum [] h = refl
 sum-none f sum (a ∷ []) h = refl

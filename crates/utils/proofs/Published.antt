@@ -1,16 +1,17 @@
 -- The energies are the paper's where Published.antt says so: each entry is worked out and compared. Assumes nothing.
 use mathlib.Core.Path.{_≡_, refl, ap}
-use mathlib.Core.Bool.{Bool, true, false, cond, _&&_, _||_, true≢false}
+use mathlib.Core.Bool.{Bool, true, false, cond, not, _&&_, _||_, true≢false}
 use Prim.Native.Nat.{ℕ, zero, suc, _<_}
 use native.Mathlib.Nat.{le-of-suc-le-suc, not-suc-le-zero}
 use lib.Ieee.{neg}
 use lib.ListN.{getD, length}
+use Rattle.lists.specs.Build.{keep}
 use Rattle.lists.specs.Find.{firstIndex}
 use Rattle.doubles.specs.Decimal.{Decimal, minus, nearest}
 use Rattle.utils.specs.Bases.{Base, complement, same}
-use Rattle.utils.specs.Paper.{table1, absent, find, stackOf, kilo, initiationDg, initiationDs, table4, noLoop}
-use Rattle.utils.specs.Figures.{stackDg, stackDs, entropyOf, startDg, startDs, penalty, mismatchDg, isLength, loopEntry, loopDg}
-use Rattle.utils.specs.Published.{parts, AsPublished}
+use Rattle.utils.specs.Paper.{table1, isFor, absent, find, stackOf, kilo, initiationDg, initiationDs, table4, noLoop}
+use Rattle.utils.specs.Figures.{stackDg, stackDs, entropyOf, startDg, startDs, penalty, mismatchDg, loopRows, isLength, loopEntry, loopDg}
+use Rattle.utils.specs.Published.{parts, AsPublished, agrees, Consistent}
 use Rattle.utils.specs.declared.bases.DnaNucleotideBase.the-variants.{A, T, G, C}
 
 -- what holds for each base holds for every base
@@ -29,6 +30,13 @@ below : (n : ℕ) (P : ℕ → Type 0) → Each n P → (k : ℕ) → k < n → 
 below zero P e k h = absurd (not-suc-le-zero h)
 below (suc n) P e zero h = e .0
 below (suc n) P e (suc k) h = below n (λ j. P (suc j)) (e .1) k (le-of-suc-le-suc h)
+
+once-row : (a : Base) → ((b : Base) → length (keep (isFor a b) table1) ≡ 1)
+unfolding keep table1
+once-row A = every-base (λ b. length (keep (isFor A b) table1) ≡ 1) refl refl refl refl
+once-row T = every-base (λ b. length (keep (isFor T b) table1) ≡ 1) refl refl refl refl
+once-row G = every-base (λ b. length (keep (isFor G b) table1) ≡ 1) refl refl refl refl
+once-row C = every-base (λ b. length (keep (isFor C b) table1) ≡ 1) refl refl refl refl
 
 printed : (i : ℕ) → i < length table1 → stackOf (getD table1 i absent .first) (getD table1 i absent .second) ≡ getD table1 i absent
 unfolding stackOf find table1
@@ -55,16 +63,17 @@ entropy a b h =
     (last (same a T && same b A) (same a G && same b G) (same a C && same b C) (minus 213 1) (minus 199 1) (stackOf a b .ds) h)
 
 -- each entry of the loop table is the first with its length
-first-of-length : (i : ℕ) → i < length table4 → firstIndex (isLength (getD table4 i noLoop .length)) table4 ≡ i
-unfolding table4 firstIndex
+first-of-length : (i : ℕ) → i < length loopRows → firstIndex (isLength (getD loopRows i noLoop .length)) loopRows ≡ i
+unfolding loopRows keep table4 firstIndex
 first-of-length =
-    below 15 (λ i. firstIndex (isLength (getD table4 i noLoop .length)) table4 ≡ i)
+    below 15 (λ i. firstIndex (isLength (getD loopRows i noLoop .length)) loopRows ≡ i)
     (refl, (refl, (refl, (refl, (refl, (refl, (refl, (refl, (refl, (refl, (refl, (refl, (refl, (refl, (refl, tt)))))))))))))))
 
 pub as-published : AsPublished
-unfolding stackDg stackDs entropyOf stackOf find table1 startDg startDs initiationDg initiationDs nearest neg mismatchDg penalty loopDg loopEntry
+unfolding stackDg stackDs entropyOf stackOf find table1 loopRows keep table4 startDg startDs initiationDg initiationDs nearest neg mismatchDg penalty loopDg loopEntry
 as-published =
     record {
+      once = λ a b. once-row a b;
       printed = printed;
       turned = λ a b. turned-row a b;
       stackEnergy = λ a b. refl;
@@ -77,4 +86,23 @@ as-published =
       initiationEnergy = refl;
       initiationEntropy = refl;
       loops = λ kind i h. ap (loopEntry kind) (first-of-length i h);
+      shorter = refl;
     }
+
+-- for each first base, the four second bases
+taken-row : (a : Base) → ((b : Base) → agrees (stackOf a b) (entropyOf a b) ≡ true)
+unfolding stackOf find table1 entropyOf
+taken-row A = every-base (λ b. agrees (stackOf A b) (entropyOf A b) ≡ true) refl refl refl refl
+taken-row T = every-base (λ b. agrees (stackOf T b) (entropyOf T b) ≡ true) refl refl refl refl
+taken-row G = every-base (λ b. agrees (stackOf G b) (entropyOf G b) ≡ true) refl refl refl refl
+taken-row C = every-base (λ b. agrees (stackOf C b) (entropyOf C b) ≡ true) refl refl refl refl
+
+printed-row : (a : Base) → ((b : Base) → agrees (stackOf a b) (stackOf a b .ds) ≡ not (parts a b))
+unfolding stackOf find table1
+printed-row A = every-base (λ b. agrees (stackOf A b) (stackOf A b .ds) ≡ not (parts A b)) refl refl refl refl
+printed-row T = every-base (λ b. agrees (stackOf T b) (stackOf T b .ds) ≡ not (parts T b)) refl refl refl refl
+printed-row G = every-base (λ b. agrees (stackOf G b) (stackOf G b .ds) ≡ not (parts G b)) refl refl refl refl
+printed-row C = every-base (λ b. agrees (stackOf C b) (stackOf C b .ds) ≡ not (parts C b)) refl refl refl refl
+
+pub consistent : Consistent
+consistent = record { taken = λ a b. taken-row a b; asPrinted = λ a b. printed-row a b }

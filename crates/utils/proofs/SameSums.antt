@@ -1,10 +1,8 @@
 -- Sums are equal where their energies and entropies are. Assumes nothing.
 use mathlib.Core.Path.{_≡_}
-use mathlib.Core.Bool.{Bool}
 use Prim.Native.Nat.{ℕ}
 use lib.Ieee.{Float}
 use Rattle.utils.specs.Pair.{Sums}
 
-pub same-sums : {g h s t : Float} {bad : ℕ} {missing : Bool} → g ≡ h → s ≡ t
-    → _≡_ {A = Sums} (record { dg = g; ds = s; bad = bad; missing = missing }) (record { dg = h; ds = t; bad = bad; missing = missing })
-same-sums {bad = bad} {missing = missing} p q = λ i. record { dg = p i; ds = q i; bad = bad; missing = missing }
+pub same-sums : {g h s t : Float} {bad : ℕ} → g ≡ h → s ≡ t → _≡_ {A = Sums} (record { dg = g; ds = s; bad = bad }) (record { dg = h; ds = t; bad = bad })
+same-sums {bad = bad} p q = λ i. record { dg = p i; ds = q i; bad = bad }

@@ -6,6 +6,7 @@ use lib.Dec.{T, leb, leb→le, lit≤, lit<}
 use lib.Pow.{pow-pos}
 use lib.ListN.{getD}
 use lib.Ieee.{binary64, prec}
+use Rattle.lists.specs.Build.{keep}
 use Rattle.lists.specs.Find.{firstIndex}
 use Rattle.lists.proofs.Each.{each-getD}
 use Rattle.doubles.specs.Decimal.{Decimal, nearest, zero}
@@ -13,8 +14,8 @@ use Rattle.doubles.specs.Size.{Within}
 use Rattle.doubles.proofs.Sums.{weaken}
 use Rattle.doubles.proofs.Bounds.{zero-within}
 use Rattle.utils.specs.Bases.{Base, complementary}
-use Rattle.utils.specs.Paper.{find, stackOf, table1, initiationDg, kilo, mismatchOf, table2, Loop, noLoop, table4, figure}
-use Rattle.utils.specs.Figures.{stackDg, stackDs, entropyOf, startDg, startDs, penalty, mismatchDg, isLength, loopEntry, loopDg}
+use Rattle.utils.specs.Paper.{find, stackOf, table1, initiationDg, kilo, mismatchOf, table2, Loop, noLoop, table4, loopFigure}
+use Rattle.utils.specs.Figures.{stackDg, stackDs, entropyOf, startDg, startDs, penalty, mismatchDg, loopRows, isLength, loopEntry, loopDg}
 use Rattle.utils.specs.declared.bases.DnaNucleotideBase.the-variants as base
 use Rattle.utils.specs.declared.tables.LoopKind.the-variants.{Internal}
 use Rattle.utils.proofs.ThirtySeconds.{Parts, round-parts, parts-within}
@@ -85,9 +86,9 @@ mismatch-energy a1 a2 b1 b2 = go (complementary a1 b1) (complementary a2 b2)
     go false false = weaken 2 (lit≤ tt) zero-within
 
 pub loop-energy : (n : ℕ) → Within binary64 7 (loopDg Internal n)
-unfolding loopDg loopEntry table4
+unfolding loopDg loopEntry loopRows keep table4
 loop-energy n =
-    let at = firstIndex (isLength n) table4 in
-    nearest-within 7 (lit< tt) (figure Internal (getD table4 at noLoop))
-    (each-getD (λ (l : Loop). T (small 224 (figure Internal l))) table4 noLoop
+    let at = firstIndex (isLength n) loopRows in
+    nearest-within 7 (lit< tt) (loopFigure Internal (getD loopRows at noLoop))
+    (each-getD (λ (l : Loop). T (small 224 (loopFigure Internal l))) loopRows noLoop
     (tt, (tt, (tt, (tt, (tt, (tt, (tt, (tt, (tt, (tt, (tt, (tt, (tt, (tt, (tt, tt))))))))))))))) tt at)

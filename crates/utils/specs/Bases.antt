@@ -1,6 +1,6 @@
 -- Bases: the letters that stand for them, and which two pair.
 use mathlib.Core.Bool.{Bool, cond, not, _||_}
-use mathlib.Core.List.{List, [], _∷_, map}
+use mathlib.Core.List.{List, map}
 use Prim.Native.Nat.{ℕ}
 use lib.Dec.{eqb}
 use Rattle.utils.specs.declared.bases.DnaNucleotideBase.{DnaNucleotideBase}
@@ -51,13 +51,3 @@ same a b = eqb (indexOf a) (indexOf b)
 -- the two bases pair
 abbrev pub complementary : Base → Base → Bool
 complementary a b = same (complement a) b
-
--- an entry for each base, for each two and for each three, in the order of their numbers
-abbrev pub byBase : {X : Type 0} → (Base → X) → List X
-byBase f = f A ∷ f T ∷ f G ∷ f C ∷ []
-
-abbrev pub byTwo : {X : Type 0} → (Base → Base → X) → List (List X)
-byTwo f = byBase (λ a. byBase (f a))
-
-abbrev pub byThree : {X : Type 0} → (Base → Base → Base → X) → List (List (List X))
-byThree f = byBase (λ a. byTwo (f a))

@@ -1,14 +1,15 @@
 -- The doubles that the energies are made of: each the one nearest to the paper's decimal, but for the entropies that the Rust has otherwise.
-use mathlib.Core.Path.{_≡_}
 use mathlib.Core.Bool.{Bool, cond, _&&_, _||_}
+use mathlib.Core.List.{List}
 use Prim.Native.Nat.{ℕ}
-use lib.Dec.{eqb}
+use lib.Dec.{eqb, leb}
 use lib.Ieee.{Float}
 use lib.ListN.{getD}
 use Rattle.lists.specs.Find.{any, firstIndex}
+use Rattle.lists.specs.Build.{keep}
 use Rattle.doubles.specs.Decimal.{Decimal, plus, minus, nearest, zero}
-use Rattle.utils.specs.Bases.{Base, indexOf, same, complementary}
-use Rattle.utils.specs.Paper.{stackOf, initiationDg, kilo, mismatchOf, Loop, noLoop, table4, figure}
+use Rattle.utils.specs.Bases.{Base, same, complementary}
+use Rattle.utils.specs.Paper.{stackOf, initiationDg, kilo, mismatchOf, Loop, noLoop, table4, loopFigure}
 use Rattle.utils.specs.declared.bases.DnaNucleotideBase.the-variants.{A, T, G, C}
 use Rattle.utils.specs.declared.tables.LoopKind.{LoopKind}
 
@@ -24,10 +25,6 @@ entropyOf a b =
 -- dS of a good window, in kcal/mol/K
 unfoldable pub stackDs : Base → Base → Float
 stackDs a b = nearest (kilo (entropyOf a b))
-
--- dG and dS of the stack of the bases that have these numbers
-abbrev pub StackOf : ℕ → ℕ → Float → Float → Type 0
-StackOf i j dg ds = (a b : Base) → i ≡ indexOf a → j ≡ indexOf b → (dg ≡ stackDg a b) × (ds ≡ stackDs a b)
 
 -- dG of the initiation
 unfoldable pub startDg : Float
@@ -48,18 +45,26 @@ mismatchDg a1 a2 b1 b2 =
 
 -- ---- loops
 
--- a loop of this length
+-- the shortest of LENGTHS; shorter loops are printed for bulges alone
+abbrev pub shortest : ℕ
+shortest = 3
+
+-- the rows whose lengths are LENGTHS
+unfoldable pub loopRows : List Loop
+loopRows = keep (λ l. leb shortest (l .length)) table4
+
+-- a row of this length
 abbrev pub isLength : ℕ → Loop → Bool
 isLength n l = eqb (l .length) n
 
 -- LENGTHS has this length
 unfoldable pub hasLength : ℕ → Bool
-hasLength n = any (isLength n) table4
+hasLength n = any (isLength n) loopRows
 
 -- dG of an entry of LOOP_TABLE
 unfoldable pub loopEntry : LoopKind → ℕ → Float
-loopEntry kind at = nearest (figure kind (getD table4 at noLoop))
+loopEntry kind at = nearest (loopFigure kind (getD loopRows at noLoop))
 
 -- dG of a loop whose length LENGTHS has
 unfoldable pub loopDg : LoopKind → ℕ → Float
-loopDg kind n = loopEntry kind (firstIndex (isLength n) table4)
+loopDg kind n = loopEntry kind (firstIndex (isLength n) loopRows)

@@ -8,3 +8,4 @@ pub mod Pair
 pub mod Strength
 pub mod Published
 pub mod Finite
+pub mod inner

@@ -14,12 +14,6 @@ use Rattle.utils.specs.declared.tables.LoopKind.the-variants.{Internal, 
 unfoldable pub kindOf : ℕ → LoopKind
 kindOf kind = cond (eqb kind 0) Internal (cond (eqb kind 1) Bulge HairPin)
 
--- the Rust's numbers of the kinds, in whose order its table stands
-abbrev pub kindIndex : LoopKind → ℕ
-kindIndex Internal = 0
-kindIndex Bulge = 1
-kindIndex HairPin = 2
-
 -- what the loop call refuses
 abbrev pub loopChecks : ℕ → ℕ → List Check
 loopChecks length kind = NoSuchLoop if (ltb 2 kind || not (hasLength length)) ∷ []

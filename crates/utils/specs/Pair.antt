@@ -1,5 +1,6 @@
 -- Two sequences (`sequence_pair_dg_ds`), both read by index: windows of two neighbouring places, left to right.
-use mathlib.Core.Bool.{Bool, false, cond, not, _&&_, _||_}
+use mathlib.Core.Path.{_≡_}
+use mathlib.Core.Bool.{Bool, cond, not, _&&_, _||_}
 use mathlib.Core.List.{List, [], _∷_, _++_}
 use Prim.Native.Nat.{ℕ, _+_, _-_}
 use lib.Dec.{eqb, ltb}
@@ -7,15 +8,15 @@ use lib.Ieee.{Float, binary64, add}
 use lib.ListN.{length}
 use Rattle.lists.specs.Find.{any}
 use Rattle.lists.specs.Fold.{foldl}
-use Rattle.doubles.specs.Decimal.{zero}
+use Rattle.doubles.specs.Decimal.{plus, nearest, zero}
 use Rattle.reply.specs.First.{Check, _if_, firstOf, answer}
 use Rattle.reply.specs.declared.Refusal.the-variants.{WrongSize, NotABase, UnequalLengths, NoSuchLoop}
 use Rattle.utils.specs.Answers.{DgDsFigures, refusedDgDs, givenDgDs}
 use Rattle.utils.specs.Bases.{Base, bases, notABase, complementary}
 use Rattle.utils.specs.Figures.{stackDg, stackDs, mismatchDg, hasLength, loopDg}
 use Rattle.utils.specs.Single.{tooLong}
+use Rattle.utils.specs.declared.bases.DnaNucleotideBase.the-variants.{A, T}
 use Rattle.utils.specs.declared.tables.LoopKind.the-variants.{Internal}
-use Rattle.utils.specs.declared.Sums as Code
 
 -- two neighbouring places: a1 a2 of one strand over b1 b2 of the other
 pub record Window : Type 0 where
@@ -40,16 +41,11 @@ windows (a1 ∷ a2 ∷ a) (b1 ∷ b2 ∷ b) = window a1 a2 b1 b2 ∷ windows (a2
 abbrev pub good : Window → Bool
 good w = complementary (w .a1) (w .b1) && complementary (w .a2) (w .b2)
 
--- the sums so far, how many bad windows stand in a row up to here, and whether some loop so far has no energy
+-- the sums so far, and how many bad windows stand in a row up to here
 pub record Sums : Type 0 where
   pub dg : Float
   pub ds : Float
   pub bad : ℕ
-  pub missing : Bool
-
--- the code's sums as these
-abbrev pub sumsOf : Code.Sums → Sums
-sumsOf s = record { dg = s .dg .0; ds = s .ds .0; bad = s .bad; missing = s .missing }
 
 -- a good window after k bad ones ends a loop of length k − 1, if k > 2
 abbrev pub endsLoop : ℕ → Bool
@@ -68,7 +64,6 @@ module _ (loopEnergy : ℕ → Float) (admitted : ℕ → Bool) where
         dg = withLoop (s .bad) (add binary64 (s .dg) (stackDg a1 a2));
         ds = add binary64 (s .ds) (stackDs a1 a2);
         bad = 0;
-        missing = endsLoop (s .bad) && not (admitted (s .bad - 1)) || s .missing;
       }
 
   -- the mismatch energy, and no entropy
@@ -78,7 +73,6 @@ module _ (loopEnergy : ℕ → Float) (admitted : ℕ → Bool) where
         dg = add binary64 (s .dg) (mismatchDg (w .a1) (w .a2) (w .b1) (w .b2));
         ds = s .ds;
         bad = s .bad + 1;
-        missing = s .missing;
       }
 
   -- the sums after one window more
@@ -87,7 +81,7 @@ module _ (loopEnergy : ℕ → Float) (admitted : ℕ → Bool) where
 
 -- the sums before the first window
 abbrev pub noSums : Sums
-noSums = record { dg = zero; ds = zero; bad = 0; missing = false }
+noSums = record { dg = zero; ds = zero; bad = 0 }
 
 -- internal loops, at the lengths of LENGTHS
 unfoldable pub step : Sums → Window → Sums
@@ -97,9 +91,26 @@ step = afterWindow (loopDg Internal) hasLength
 unfoldable pub pairSums : List Base → List Base → Sums
 pairSums a b = foldl step noSums (windows a b)
 
--- some good window follows k > 2 bad ones with k − 1 not in LENGTHS
-abbrev pub lacksLoop : List ℕ → List ℕ → Bool
-lacksLoop a b = pairSums (bases a) (bases b) .missing
+-- bad windows at the end add no loop: AAAAA over TAAAA ends in four, of which the first alone has a mismatch next to a pair
+abbrev pub NoLoopAtTheEnd : Type 0
+NoLoopAtTheEnd = pairSums (A ∷ A ∷ A ∷ A ∷ A ∷ []) (T ∷ A ∷ A ∷ A ∷ A ∷ []) .dg ≡ nearest (plus 61 2)
+
+-- the lengths of the loops that windows need after k bad ones: k − 1 at each good window after k > 2 bad ones
+unfoldable pub neededAfter : ℕ → List Window → List ℕ
+neededAfter k [] = []
+neededAfter k (w ∷ ws) = cond (good w) (cond (endsLoop k) ((k - 1) ∷ neededAfter 0 ws) (neededAfter 0 ws)) (neededAfter (k + 1) ws)
+
+-- the lengths of the loops that two strands need
+abbrev pub neededLoops : List Base → List Base → List ℕ
+neededLoops a b = neededAfter 0 (windows a b)
+
+-- a length that LENGTHS lacks
+abbrev pub lacking : ℕ → Bool
+lacking n = not (hasLength n)
+
+-- a needed loop length is missing from LENGTHS
+unfoldable pub lacksLoop : List ℕ → List ℕ → Bool
+lacksLoop a b = any lacking (neededLoops (bases a) (bases b))
 
 -- what is refused of two strands before their loops are looked at
 abbrev pub strandChecks : List ℕ → List ℕ → List Check

@@ -1,13 +1,17 @@
--- Where the energies are the paper's, and where they part: the doubles of Figures.antt beside the decimals of Paper.antt.
+-- The energies beside the paper. That the code's arrays hold these doubles is proved in the contracts of src/tables.rt; here stands what the
+-- doubles of Figures.antt, defined as those nearest to the decimals of Paper.antt, leave to be asked: that the decimals cover every window once,
+-- where the entropies part from the paper's, and that dG, dH and dS agree with each other.
 use mathlib.Core.Path.{_≡_}
-use mathlib.Core.Bool.{Bool, true, false, _&&_, _||_}
-use Prim.Native.Nat.{ℕ, _<_}
+use mathlib.Core.Bool.{Bool, true, false, not, _&&_, _||_}
+use Prim.Native.Nat.{ℕ, _+_, _-_, _*_, _^_, _<_}
+use lib.Dec.{leb}
 use lib.Ieee.{neg}
 use lib.ListN.{getD, length}
-use Rattle.doubles.specs.Decimal.{minus, nearest}
+use Rattle.lists.specs.Build.{keep}
+use Rattle.doubles.specs.Decimal.{Decimal, minus, nearest}
 use Rattle.utils.specs.Bases.{Base, complement, complementary, same}
-use Rattle.utils.specs.Paper.{table1, absent, stackOf, kilo, initiationDg, initiationDs, mismatchOf, table4, noLoop, figure}
-use Rattle.utils.specs.Figures.{stackDg, stackDs, startDg, startDs, mismatchDg, loopDg}
+use Rattle.utils.specs.Paper.{Stack, table1, isFor, absent, stackOf, kilo, initiationDg, initiationDs, mismatchOf, table4, noLoop, loopFigure}
+use Rattle.utils.specs.Figures.{stackDg, entropyOf, stackDs, startDg, startDs, mismatchDg, loopRows, loopDg}
 use Rattle.utils.specs.declared.bases.DnaNucleotideBase.the-variants.{A, T, G, C}
 use Rattle.utils.specs.declared.tables.LoopKind.{LoopKind}
 
@@ -17,6 +21,8 @@ parts a b = same a T && same b A || same a G && same b G || same a C && same b C
 
 -- each figure against the paper's: equal, but for the entries that are named
 pub record AsPublished : Type 0 where
+  -- each of the sixteen windows has one printed stack, as it is or turned by 180°
+  pub once : (a b : Base) → length (keep (isFor a b) table1) ≡ 1
   -- each printed stack is found for its own two bases, and turned by 180°
   pub printed : (i : ℕ) → i < length table1 → stackOf (getD table1 i absent .first) (getD table1 i absent .second) ≡ getD table1 i absent
   pub turned : (a b : Base) → stackOf (complement b) (complement a) ≡ stackOf a b
@@ -33,5 +39,28 @@ pub record AsPublished : Type 0 where
   -- initiation: its entropy has the opposite sign
   pub initiationEnergy : startDg ≡ nearest initiationDg
   pub initiationEntropy : startDs ≡ neg (nearest (kilo initiationDs))
-  -- each entry of the loop table
-  pub loops : (kind : LoopKind) (i : ℕ) → i < length table4 → loopDg kind (getD table4 i noLoop .length) ≡ nearest (figure kind (getD table4 i noLoop))
+  -- each row of the loop table from length 3 on: all but the two that are for bulges alone
+  pub loops : (kind : LoopKind) (i : ℕ) → i < length loopRows → loopDg kind (getD loopRows i noLoop .length) ≡ nearest (loopFigure kind (getD loopRows i noLoop))
+  pub shorter : length table4 ≡ 2 + length loopRows
+
+-- the size of a decimal of at most six places, in millionths
+abbrev pub millionths : Decimal → ℕ
+millionths d = d .digits * 10 ^ (6 - d .places)
+
+-- 310.15 K times an entropy of at most one place in cal/mol/K, in millionths of kcal/mol
+abbrev pub heatAt37C : Decimal → ℕ
+heatAt37C d = 31015 * d .digits * 10 ^ (1 - d .places)
+
+-- dG = dH − 310.15 dS within 0.02 kcal/mol, all three below zero
+abbrev pub agrees : Stack → Decimal → Bool
+agrees s ds =
+    s .dh .negative && ds .negative && s .dg .negative
+    && leb (millionths (s .dh)) (millionths (s .dg) + heatAt37C ds + 20000)
+    && leb (millionths (s .dg) + heatAt37C ds) (millionths (s .dh) + 20000)
+
+-- whole numbers that owe nothing to the Rust's tables: enthalpies and entropies were transcribed by others than the energies
+pub record Consistent : Type 0 where
+  -- the entropies here agree with the printed energies and enthalpies in all sixteen windows
+  pub taken : (a b : Base) → agrees (stackOf a b) (entropyOf a b) ≡ true
+  -- the printed entropies do so in every window but those that part
+  pub asPrinted : (a b : Base) → agrees (stackOf a b) (stackOf a b .ds) ≡ not (parts a b)

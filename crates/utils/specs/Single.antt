@@ -26,12 +26,12 @@ neighbours (a ∷ []) = []
 neighbours (a ∷ b ∷ s) = record { first = a; second = b } ∷ neighbours (b ∷ s)
 
 -- a figure of two neighbours
-abbrev pub figureOf : (Base → Base → Float) → Neighbours → Float
-figureOf f n = f (n .first) (n .second)
+abbrev pub atNeighbours : (Base → Base → Float) → Neighbours → Float
+atNeighbours f n = f (n .first) (n .second)
 
 -- a figure of each stack, summed left to right from 0.0, without the initiation
 unfoldable pub stackSum : (Base → Base → Float) → List Base → Float
-stackSum f s = sumFrom zero (map (figureOf f) (neighbours s))
+stackSum f s = sumFrom zero (map (atNeighbours f) (neighbours s))
 
 -- sequences: 256 bases
 abbrev pub tooLong : List ℕ → Bool

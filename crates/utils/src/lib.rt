@@ -8,12 +8,14 @@ ghost use Prim.Native.Nat.{_<_, _≤_};
 ghost use lib.ListN.{length};
 ghost use Rattle.lists.specs.Find.{any};
 ghost use Rattle.reply.specs.First.{firstOf};
-ghost use Rattle.utils.specs.Bases.{notABase, bases, byTwo, byThree};
-ghost use Rattle.utils.specs.Figures.{stackDg, stackDs, penalty, hasLength, loopDg};
+ghost use Rattle.utils.specs.Bases.{notABase, bases};
+ghost use Rattle.utils.specs.Figures.{stackDg, stackDs, hasLength, loopDg};
 ghost use Rattle.utils.specs.Answers.{dgFigures, dgDsFigures};
 ghost use Rattle.utils.specs.Loops.{kindOf, loopPenalty};
 ghost use Rattle.utils.specs.Single.{stackSum, sequenceChecks, stringDnaDgDs};
-ghost use Rattle.utils.specs.Pair.{window, good, sumsOf, afterGood, afterBad, pairSums, strandChecks, sequencePairDgDs};
+ghost use Rattle.utils.specs.Pair.{window, good, afterGood, afterBad, pairSums, lacksLoop, strandChecks, sequencePairDgDs};
+ghost use Rattle.utils.specs.inner.Tables.{byTwo, byThree, hundredths};
+ghost use Rattle.utils.specs.inner.Code.{sumsOf, flagged};
 ghost use Rattle.utils.specs.declared.tables.LoopKind.the-variants.{Internal};
 ghost use Rattle.utils.specs.Strength.{strengthAt, excessInRange, sequenceStrength, pairStrength};
 use bases::DnaNucleotideBase;
@@ -159,7 +161,7 @@ fn after_good(
     a2: DnaNucleotideBase,
 ) -> Sums
     requires { ⌜ (now energies ≡ byTwo stackDg) × (now entropies ≡ byTwo stackDs) ⌝ }
-    ensures { λ r. ⌜ sumsOf r ≡ afterGood (loopDg Internal) hasLength (sumsOf s) a1 a2 ⌝ }
+    ensures { λ r. ⌜ (sumsOf r ≡ afterGood (loopDg Internal) hasLength (sumsOf s) a1 a2) × (r .missing ≡ flagged (s .bad) (s .missing)) ⌝ }
 {
     let stack = dg_ds(energies, entropies, a1.index(), a2.index());
     let dg = s.dg.add(stack.0);
@@ -206,14 +208,14 @@ fn good_window(
 // The sums after a bad window: the mismatch's energy, and no entropy.
 fn after_bad(
     s: Sums,
-    penalties: &[[[f64; 4]; 4]; 4],
+    penalties: &[[[i16; 4]; 4]; 4],
     a1: DnaNucleotideBase,
     a2: DnaNucleotideBase,
     b1: DnaNucleotideBase,
     b2: DnaNucleotideBase,
 ) -> Sums
-    requires { ⌜ (s .bad < 4096) × (now penalties ≡ byThree penalty) ⌝ }
-    ensures { λ r. ⌜ sumsOf r ≡ afterBad (loopDg Internal) hasLength (sumsOf s) (window a1 a2 b1 b2) ⌝ }
+    requires { ⌜ (s .bad < 4096) × (now penalties ≡ byThree hundredths) ⌝ }
+    ensures { λ r. ⌜ (sumsOf r ≡ afterBad (loopDg Internal) hasLength (sumsOf s) (window a1 a2 b1 b2)) × (r .missing ≡ s .missing) ⌝ }
 {
     let ds = s.ds;
     let dg = s.dg.add(calculate_single_mismatch_penalty(penalties, a1, a2, b1, b2));
@@ -229,7 +231,7 @@ fn after_bad(
 fn pair_sums(a: &[u8], b: &[u8]) -> Sums
     requires { ⌜ (length (now a) ≡ length (now b)) × (length (now a) ≤ 256) ⌝ }
     requires { ⌜ (any notABase (now a) ≡ false) × (any notABase (now b) ≡ false) ⌝ }
-    ensures { λ r. ⌜ sumsOf r ≡ pairSums (bases (now (a .entry))) (bases (now (b .entry))) ⌝ }
+    ensures { λ r. ⌜ (sumsOf r ≡ pairSums (bases (now (a .entry))) (bases (now (b .entry)))) × (r .missing ≡ lacksLoop (now (a .entry)) (now (b .entry))) ⌝ }
 {
     let energies = NEIGHBOUR_DG;
     let entropies = NEIGHBOUR_DS;

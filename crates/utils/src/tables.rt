@@ -2,10 +2,8 @@
 ghost use mathlib.Core.Path.{_≡_};
 ghost use Prim.Native.Nat.{_<_};
 ghost use Rattle.lists.specs.Find.{firstIndex};
-ghost use Rattle.utils.specs.Paper.{table4};
-ghost use Rattle.utils.specs.Bases.{byTwo, byThree};
-ghost use Rattle.utils.specs.Figures.{stackDg, stackDs, StackOf, penalty, mismatchDg, isLength, loopEntry};
-ghost use Rattle.utils.specs.Loops.{kindIndex};
+ghost use Rattle.utils.specs.Figures.{stackDg, stackDs, penalty, mismatchDg, loopRows, isLength, loopEntry};
+ghost use Rattle.utils.specs.inner.Tables.{byTwo, byThree, StackAt, hundredths, kindIndex};
 use crate::bases::DnaNucleotideBase;
 use crate::bases::good_match;
 use units::KcalPerMol;
@@ -27,87 +25,39 @@ pub(crate) const NEIGHBOUR_DS: [[f64; 4]; 4] = [
     [-0.0227, -0.0210, -0.0272, -0.0199],
 ];
 
-// Mismatches 5'-PX-3' over 3'-P*Y-5', at [P][X][Y]; 0.0 where X and Y pair.
-pub(crate) const PENALTY_TABLE: [[[f64; 4]; 4]; 4] = [
+// Mismatches 5'-PX-3' over 3'-P*Y-5', at [P][X][Y], in hundredths of kcal/mol; 0 where X and Y pair.
+pub(crate) const PENALTY_TABLE: [[[i16; 4]; 4]; 4] = [
     [
-        [0.61, 0.0, 0.14, 0.88],
-        [0.0, 0.69, 0.07, 0.73],
-        [0.02, 0.71, -0.13, 0.0],
-        [0.77, 0.64, 0.0, 1.33],
+        [61, 0, 14, 88],
+        [0, 69, 7, 73],
+        [2, 71, -13, 0],
+        [77, 64, 0, 133],
     ],
     [
-        [0.69, 0.0, 0.42, 0.92],
-        [0.0, 0.68, 0.34, 0.75],
-        [0.74, 0.43, 0.44, 0.0],
-        [1.33, 0.97, 0.0, 1.05],
+        [69, 0, 42, 92],
+        [0, 68, 34, 75],
+        [74, 43, 44, 0],
+        [133, 97, 0, 105],
     ],
     [
-        [0.17, 0.0, -0.25, 0.81],
-        [0.0, 0.45, -0.59, 0.98],
-        [-0.52, 0.08, -1.11, 0.0],
-        [0.47, 0.62, 0.0, 0.79],
+        [17, 0, -25, 81],
+        [0, 45, -59, 98],
+        [-52, 8, -111, 0],
+        [47, 62, 0, 79],
     ],
     [
-        [0.43, 0.0, 0.03, 0.75],
-        [0.0, -0.12, -0.32, 0.40],
-        [0.11, -0.47, -0.11, 0.0],
-        [0.79, 0.62, 0.0, 0.70],
+        [43, 0, 3, 75],
+        [0, -12, -32, 40],
+        [11, -47, -11, 0],
+        [79, 62, 0, 70],
     ],
 ];
 
-// Loops: a row for each kind, a column for each of LENGTHS.
-const LOOP_TABLE: [[f64; 15]; 3] = [
-    [
-        3.2,
-        3.6,
-        4.0,
-        4.4,
-        4.6,
-        4.8,
-        4.9,
-        4.9,
-        5.2,
-        5.4,
-        5.6,
-        5.8,
-        5.9,
-        6.3,
-        6.6,
-    ],
-    [
-        3.1,
-        3.2,
-        3.3,
-        3.5,
-        3.7,
-        3.9,
-        4.1,
-        4.3,
-        4.5,
-        4.8,
-        5.0,
-        5.2,
-        5.3,
-        5.6,
-        5.9,
-    ],
-    [
-        3.5,
-        3.5,
-        3.3,
-        4.0,
-        4.2,
-        4.3,
-        4.5,
-        4.6,
-        5.0,
-        5.1,
-        5.3,
-        5.5,
-        5.7,
-        6.1,
-        6.3,
-    ],
+// Loops in tenths of kcal/mol: a row for each kind, a column for each of LENGTHS.
+const LOOP_TABLE: [[i16; 15]; 3] = [
+    [32, 36, 40, 44, 46, 48, 49, 49, 52, 54, 56, 58, 59, 63, 66],
+    [31, 32, 33, 35, 37, 39, 41, 43, 45, 48, 50, 52, 53, 56, 59],
+    [35, 35, 33, 40, 42, 43, 45, 46, 50, 51, 53, 55, 57, 61, 63],
 ];
 
 // The lengths that LOOP_TABLE has.
@@ -140,7 +90,7 @@ impl LoopKind {
 pub(crate) fn dg_ds(energies: &[[f64; 4]; 4], entropies: &[[f64; 4]; 4], i: usize, j: usize) -> DgDs
     requires { ⌜ (now energies ≡ byTwo stackDg) × (now entropies ≡ byTwo stackDs) ⌝ }
     requires { ⌜ (i < 4) × (j < 4) ⌝ }
-    ensures { λ r. ⌜ StackOf i j (r .0 .0) (r .1 .0) ⌝ }
+    ensures { λ r. ⌜ StackAt i j (r .0 .0) (r .1 .0) ⌝ }
 {
     DgDs(
         KcalPerMol(energies[i][j]),
@@ -148,31 +98,31 @@ pub(crate) fn dg_ds(energies: &[[f64; 4]; 4], entropies: &[[f64; 4]; 4], i: usiz
     )
 }
 
-// The energy of a mismatch: x over y, next to the pair of `prior`.
+// The energy of a mismatch: x over y, next to the pair of `prior`. One division gives the double nearest to the decimal.
 pub(crate) fn calc_penalty(
-    penalties: &[[[f64; 4]; 4]; 4],
+    penalties: &[[[i16; 4]; 4]; 4],
     prior: DnaNucleotideBase,
     x: DnaNucleotideBase,
     y: DnaNucleotideBase,
 ) -> KcalPerMol
-    requires { ⌜ now penalties ≡ byThree penalty ⌝ }
+    requires { ⌜ now penalties ≡ byThree hundredths ⌝ }
     ensures { λ r. ⌜ r .0 ≡ penalty prior x y ⌝ }
 {
     let p = prior.index();
     let i = x.index();
     let j = y.index();
-    KcalPerMol(penalties[p][i][j])
+    KcalPerMol(penalties[p][i][j] as f64 / 100.0)
 }
 
 // The energy of a bad window: of the mismatch, read from whichever strand has the pair first.
 pub(crate) fn calculate_single_mismatch_penalty(
-    penalties: &[[[f64; 4]; 4]; 4],
+    penalties: &[[[i16; 4]; 4]; 4],
     a1: DnaNucleotideBase,
     a2: DnaNucleotideBase,
     b1: DnaNucleotideBase,
     b2: DnaNucleotideBase,
 ) -> KcalPerMol
-    requires { ⌜ now penalties ≡ byThree penalty ⌝ }
+    requires { ⌜ now penalties ≡ byThree hundredths ⌝ }
     ensures { λ r. ⌜ r .0 ≡ mismatchDg a1 a2 b1 b2 ⌝ }
 {
     if good_match(a1, b1) {
@@ -186,7 +136,7 @@ pub(crate) fn calculate_single_mismatch_penalty(
 
 // The place of a length among LENGTHS, or their number where it is none of them.
 pub(crate) fn length_position(length: usize) -> usize
-    ensures { λ r. ⌜ r ≡ firstIndex (isLength length) table4 ⌝ }
+    ensures { λ r. ⌜ r ≡ firstIndex (isLength length) loopRows ⌝ }
 {
     let mut i = 0;
     while i < 15 {
@@ -198,11 +148,11 @@ pub(crate) fn length_position(length: usize) -> usize
     i
 }
 
-// The energy of a loop, by its kind and the place of its length.
+// The energy of a loop, by its kind and the place of its length. One division gives the double nearest to the decimal.
 pub(crate) fn loop_entry(kind: LoopKind, at: usize) -> KcalPerMol
     requires { ⌜ at < 15 ⌝ }
     ensures { λ r. ⌜ r .0 ≡ loopEntry kind at ⌝ }
 {
     let row = kind.index();
-    KcalPerMol(LOOP_TABLE[row][at])
+    KcalPerMol(LOOP_TABLE[row][at] as f64 / 10.0)
 }

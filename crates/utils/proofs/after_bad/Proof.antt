@@ -18,7 +18,7 @@ add-t10 c = search needs
 returns : tie.Need-returns
 returns c =
     let penalty = c .before .before .calculate-single-mismatch-penalty .ensures in
-    same-sums (c .before .add .ensures ∙ ap (add binary64 _) penalty) refl
+    (same-sums (c .before .add .ensures ∙ ap (add binary64 _) penalty) refl, refl)
 
 pub after-bad-spec : {M : Type 1} → statement M
 after-bad-spec =

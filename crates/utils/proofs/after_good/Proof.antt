@@ -6,8 +6,7 @@ use native.Mathlib.Omega.{arith}
 use lib.Ieee.{binary64, add}
 use borrow.Author.Tests.{lt-ltb, le-ltb}
 use Rattle.lists.specs.Find.{firstIndex}
-use Rattle.utils.specs.Paper.{table4}
-use Rattle.utils.specs.Figures.{isLength, hasLength, loopEntry, loopDg}
+use Rattle.utils.specs.Figures.{loopRows, isLength, hasLength, loopEntry, loopDg}
 use Rattle.utils.specs.declared.tables.LoopKind.the-variants.{Internal}
 use Rattle.utils.proofs.Lengths.{has-length}
 use Rattle.utils.proofs.SameSums.{same-sums}
@@ -36,8 +35,8 @@ returns c =
     let d = k .before in
     let start = d .before .before .before in
     let stack = d .dg-ds .ensures (start .args .a1) (start .args .a2) (d .before .before .index .ensures .0) (d .before .index2 .ensures .0) in
-    simp (le-ltb _ _ (c .if1 .taken))
-    (same-sums (k .add .ensures ∙ ap (add binary64 _) (stack .0)) (c .before .add2 .ensures ∙ ap (add binary64 _) (stack .1)))
+    let few = le-ltb _ _ (c .if1 .taken) in
+    (simp few (same-sums (k .add .ensures ∙ ap (add binary64 _) (stack .0)) (c .before .add2 .ensures ∙ ap (add binary64 _) (stack .1))), simp few)
 
 sub-length-position : tie.Need-sub-length-position
 sub-length-position c = search needs
@@ -52,10 +51,10 @@ returns-2 c =
     let start = d .before .before .before in
     let stack = d .dg-ds .ensures (start .args .a1) (start .args .a2) (d .before .before .index .ensures .0) (d .before .index2 .ensures .0) in
     let n = start .args .s .bad - 1 in
-    let past : 15 ≤ firstIndex (isLength n) table4 = omega arith in
+    let past : 15 ≤ firstIndex (isLength n) loopRows = omega arith in
     let lacks : hasLength n ≡ false = sym (has-length n) ∙ le-ltb _ _ past in
-    simp (lt-ltb _ _ (k .if1 .left), lacks)
-    (same-sums (k .before .before .add .ensures ∙ ap (add binary64 _) (stack .0)) (k .before .add2 .ensures ∙ ap (add binary64 _) (stack .1)))
+    let ends = lt-ltb _ _ (k .if1 .left) in
+    (simp (ends, lacks) (same-sums (k .before .before .add .ensures ∙ ap (add binary64 _) (stack .0)) (k .before .add2 .ensures ∙ ap (add binary64 _) (stack .1))), simp (ends, lacks))
 
 loop-entry-requires : tie.Need-loop-entry-requires
 loop-entry-requires c κs = search needs
@@ -72,10 +71,10 @@ returns-3 c =
     let stack = d .dg-ds .ensures (start .args .a1) (start .args .a2) (d .before .before .index .ensures .0) (d .before .index2 .ensures .0) in
     let n = start .args .s .bad - 1 in
     let entry = c .before .loop-entry .ensures ∙ ap (loopEntry Internal) (c .before .before .before .length-position .ensures) in
-    let under : firstIndex (isLength n) table4 < 15 = omega arith in
+    let under : firstIndex (isLength n) loopRows < 15 = omega arith in
     let has : hasLength n ≡ true = sym (has-length n) ∙ lt-ltb _ _ under in
-    simp (lt-ltb _ _ (k .if1 .left), has)
-    (same-sums (c .add3 .ensures ∙ ap₂ (add binary64) (k .before .before .add .ensures ∙ ap (add binary64 _) (stack .0)) entry) (k .before .add2 .ensures ∙ ap (add binary64 _) (stack .1)))
+    let ends = lt-ltb _ _ (k .if1 .left) in
+    (simp (ends, has) (same-sums (c .add3 .ensures ∙ ap₂ (add binary64) (k .before .before .add .ensures ∙ ap (add binary64 _) (stack .0)) entry) (k .before .add2 .ensures ∙ ap (add binary64 _) (stack .1))), simp (ends, has))
 
 pub after-good-spec : {M : Type 1} → statement M
 after-good-spec =

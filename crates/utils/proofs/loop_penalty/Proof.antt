@@ -5,8 +5,7 @@ use Prim.Native.Nat.{_<_, _≤_}
 use native.Mathlib.Omega.{arith}
 use borrow.Author.Tests.{lt-ltb, le-ltb}
 use Rattle.lists.specs.Find.{firstIndex}
-use Rattle.utils.specs.Paper.{table4}
-use Rattle.utils.specs.Figures.{isLength, hasLength, loopDg}
+use Rattle.utils.specs.Figures.{loopRows, isLength, hasLength, loopDg}
 use Rattle.utils.specs.Loops.{loopPenalty}
 use Rattle.utils.proofs.Lengths.{has-length}
 use borrow.Author.Needs.{needs}
@@ -25,7 +24,7 @@ unfolding loopPenalty
 returns-2 c =
     let k = c .before .before in
     let n = k .before .args .length in
-    let past : 15 ≤ firstIndex (isLength n) table4 = omega arith in
+    let past : 15 ≤ firstIndex (isLength n) loopRows = omega arith in
     let lacks : hasLength n ≡ false = sym (has-length n) ∙ le-ltb _ _ past in
     simp (le-ltb _ _ (k .if1 .left), lacks)
 
@@ -40,7 +39,7 @@ unfolding loopPenalty loopDg
 returns-3 c =
     let k = c .before .before .before .before in
     let n = k .before .args .length in
-    let under : firstIndex (isLength n) table4 < 15 = omega arith in
+    let under : firstIndex (isLength n) loopRows < 15 = omega arith in
     let has : hasLength n ≡ true = sym (has-length n) ∙ lt-ltb _ _ under in
     simp (le-ltb _ _ (k .if1 .left), has) (cc)
 

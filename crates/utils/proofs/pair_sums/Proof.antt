@@ -1,5 +1,6 @@
 -- `utils::pair_sums` meets its contract: at place i the sums so far are to be carried on over the windows left. Assumes nothing.
-use mathlib.Core.Path.{_≡_, refl, sym, ap, _∙_}
+use mathlib.Core.Path.{_≡_, refl, sym, ap, ap₂, _∙_}
+use mathlib.Core.Bool.{Bool}
 use mathlib.Core.Logic.{⊎-elim}
 use Prim.Native.Nat.{ℕ, _≤_, _<_, _+_, _-_}
 use native.Mathlib.Omega.{arith}
@@ -10,26 +11,32 @@ use borrow.Author.Needs.{needs}
 use Rattle.utils.specs.Bases.{bases}
 use Rattle.doubles.specs.Decimal.{nearest}
 use Rattle.utils.specs.Paper.{stackOf, find, table1, mismatchOf, table2}
-use Rattle.utils.specs.Figures.{stackDg, stackDs, entropyOf, penalty}
-use Rattle.utils.specs.Pair.{Sums, sumsOf, window, step, pairSums}
+use Rattle.utils.specs.Figures.{stackDg, stackDs, entropyOf}
+use Rattle.utils.specs.Pair.{Sums, window, step, pairSums, lacksLoop}
+use Rattle.utils.specs.inner.Code.{sumsOf, flagAfter}
+use Rattle.utils.specs.inner.Tables.{hundredths}
+use Rattle.utils.specs.declared.Sums as Code
 use Rattle.utils.proofs.Letters.{base-here}
-use Rattle.utils.proofs.Windows.{good-window, bad-window, sumsAt, windowAt, sums-more, sums-done, bad-grows}
+use Rattle.utils.proofs.Windows.{good-window, bad-window, good-flag, bad-flag, windowsAt, sumsAt, lacksAt, windowAt, badAfter, sums-more, sums-done, lacks-more, lacks-done, step-bad, bad-grows}
 use Rattle.utils.proofs.pair_sums.Statement.{statement}
 use Rattle.utils.proofs.pair_sums.Tie as tie
 
 abbrev badOf : Sums → ℕ
 badOf s = s .bad
 
+abbrev missingOf : Code.Sums → Bool
+missingOf s = s .missing
+
 abbrev Inv-loop : tie.InvT-loop
 Inv-loop a b energies entropies penalties sums₀ i₀ sums i =
-    (1 ≤ i) × (sums .bad < i) × (pairSums (bases a) (bases b) ≡ sumsAt (sumsOf sums) a b i)
+    (1 ≤ i) × (sums .bad < i) × (pairSums (bases a) (bases b) ≡ sumsAt (sumsOf sums) a b i) × (lacksLoop a b ≡ lacksAt (sums .missing) (sums .bad) a b i)
 
 abbrev μ-loop : tie.MeasureT-loop
 μ-loop a b energies entropies penalties sums₀ i₀ sums i = length a - i
 
 loop-holds : tie.Need-loop-holds Inv-loop μ-loop
-unfolding pairSums sumsAt ofBits
-loop-holds c = (omega arith, omega arith, refl)
+unfolding pairSums lacksLoop sumsAt lacksAt windowsAt ofBits
+loop-holds c = (omega arith, omega arith, refl, refl)
 
 sub-base : tie.Need-sub-base Inv-loop μ-loop
 sub-base c = search needs
@@ -81,7 +88,7 @@ unfolding stackDg stackDs entropyOf stackOf find table1 nearest ofBits
 after-good-requires c κs = (refl, refl)
 
 after-bad-requires : tie.Need-after-bad-requires Inv-loop μ-loop
-unfolding penalty mismatchOf table2 nearest ofBits
+unfolding hundredths mismatchOf table2
 after-bad-requires c κs = (omega arith, refl)
 
 add-i : tie.Need-add-i Inv-loop μ-loop
@@ -110,18 +117,30 @@ loop-again c =
     let same : window a1 a2 b1 b2 ≡ windowAt a b i = cc (h .base .ensures, f .base2 .ensures, e .base3 .ensures, d .base4 .ensures) in
     let next : sumsOf (c .if1 .sums) ≡ step s (window a1 a2 b1 b2) =
     ⊎-elim
-    (λ t. ap sumsOf (t .4) ∙ t .3 .ensures ∙ good-window s a1 a2 b1 b2 (sym (g .good-window .ensures) ∙ t .0 .taken))
-    (λ t. ap sumsOf (t .3) ∙ t .2 .ensures ∙ bad-window s a1 a2 b1 b2 (sym (g .good-window .ensures) ∙ t .0 .left))
+    (λ t. ap sumsOf (t .4) ∙ t .3 .ensures .0 ∙ good-window s a1 a2 b1 b2 (sym (g .good-window .ensures) ∙ t .0 .taken))
+    (λ t. ap sumsOf (t .3) ∙ t .2 .ensures .0 ∙ bad-window s a1 a2 b1 b2 (sym (g .good-window .ensures) ∙ t .0 .left))
     (c .if1 .came) in
     let more : sumsOf (c .if1 .sums) ≡ step s (windowAt a b i) = next ∙ ap (step s) same in
-    (omega arith, omega (arith, ap badOf more, bad-grows s (windowAt a b i)), l .loop .inv .2 ∙ sums-more s a b i (omega arith) under (omega arith) ∙ ap (λ (x : Sums). sumsAt x a b (i + 1)) (sym more))
+    let was = l .loop .sums .missing in
+    let flag : c .if1 .sums .missing ≡ flagAfter (s .bad) was (window a1 a2 b1 b2) =
+    ⊎-elim
+    (λ t. ap missingOf (t .4) ∙ t .3 .ensures .1 ∙ good-flag s a1 a2 b1 b2 was (sym (g .good-window .ensures) ∙ t .0 .taken))
+    (λ t. ap missingOf (t .3) ∙ t .2 .ensures .1 ∙ bad-flag s a1 a2 b1 b2 was (sym (g .good-window .ensures) ∙ t .0 .left))
+    (c .if1 .came) in
+    let now-flagged : c .if1 .sums .missing ≡ flagAfter (s .bad) was (windowAt a b i) = flag ∙ ap (flagAfter (s .bad) was) same in
+    let row : c .if1 .sums .bad ≡ badAfter (s .bad) (windowAt a b i) = ap badOf more ∙ step-bad s (windowAt a b i) in (
+      omega arith,
+      omega (arith, ap badOf more, bad-grows s (windowAt a b i)),
+      l .loop .inv .2 ∙ sums-more s a b i (omega arith) under (omega arith) ∙ ap (λ (x : Sums). sumsAt x a b (i + 1)) (sym more),
+      l .loop .inv .3 ∙ lacks-more was (s .bad) a b i (omega arith) under (omega arith) ∙ ap₂ (λ (m : Bool) (k : ℕ). lacksAt m k a b (i + 1)) (sym now-flagged) (sym row),
+    )
 
 returns : tie.Need-returns Inv-loop μ-loop
 returns c =
     let l = c .before in
     let a = now (l .before .before .before .args .a) in
     let b = now (l .before .before .before .args .b) in
-    cc (sums-done (sumsOf (l .loop .sums)) a b (l .loop .i) (omega arith))
+    (cc (sums-done (sumsOf (l .loop .sums)) a b (l .loop .i) (omega arith)), cc (lacks-done (l .loop .sums .missing) (l .loop .sums .bad) a b (l .loop .i) (omega arith)))
 
 pub pair-sums-spec : {M : Type 1} → statement M
 pair-sums-spec =

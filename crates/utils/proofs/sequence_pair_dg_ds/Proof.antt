@@ -1,6 +1,6 @@
 -- `utils::sequence_pair_dg_ds` meets its contract: first the strands' checks, then the loop's, then the sums. Assumes nothing.
 use mathlib.Core.Path.{_≡_, sym, ap, _∙_}
-use mathlib.Core.Bool.{Bool, true, false}
+use mathlib.Core.Bool.{true, false}
 use mathlib.Core.List.{[], _∷_}
 use denote.Ref.{now}
 use borrow.Author.Needs.{needs}
@@ -14,9 +14,6 @@ use Rattle.utils.specs.Pair.{Sums, strandChecks, lacksLoop, pairChecks, 
 use Rattle.utils.proofs.Strands.{one-length, short-enough, both-bases}
 use Rattle.utils.proofs.sequence_pair_dg_ds.Statement.{statement}
 use Rattle.utils.proofs.sequence_pair_dg_ds.Tie as tie
-
-missingOf : Sums → Bool
-missingOf s = s .missing
 
 figuresOf : Sums → DgDsFigures
 figuresOf s = givenDgDs (s .dg) (s .ds)
@@ -40,7 +37,7 @@ pair-sums-requires c κs =
     ((one-length a b reply, short-enough a b reply), both-bases a b reply)
 
 returns : tie.Need-returns
-unfolding sequencePairDgDs missingOf
+unfolding sequencePairDgDs
 returns c =
     let k = c .before .before .before in
     let t = k .before in
@@ -48,7 +45,7 @@ returns c =
     let a = now (args .a) in
     let b = now (args .b) in
     let admitted = sym (t .before .before .strands-reply .ensures) ∙ t .enum-told .given .1 in
-    let missing : lacksLoop a b ≡ true = sym (ap missingOf (k .pair-sums .ensures)) ∙ c .if1 .taken in
+    let missing : lacksLoop a b ≡ true = sym (k .pair-sums .ensures .1) ∙ c .if1 .taken in
     let reply : firstOf (pairChecks a b) ≡ Refused NoSuchLoop Nowhere = reply-append (strandChecks a b) (NoSuchLoop if lacksLoop a b ∷ []) admitted ∙ simp missing in
     rw reply
 
@@ -63,7 +60,7 @@ returns-2 c =
     rw (reply-append (strandChecks a b) (NoSuchLoop if lacksLoop a b ∷ []) refused)
 
 returns-3 : tie.Need-returns-3
-unfolding sequencePairDgDs missingOf figuresOf
+unfolding sequencePairDgDs figuresOf
 returns-3 c =
     let k = c .before .before .before in
     let t = k .before in
@@ -71,9 +68,9 @@ returns-3 c =
     let a = now (args .a) in
     let b = now (args .b) in
     let admitted = sym (t .before .before .strands-reply .ensures) ∙ t .enum-told .given .1 in
-    let missing : lacksLoop a b ≡ false = sym (ap missingOf (k .pair-sums .ensures)) ∙ c .if1 .left in
+    let missing : lacksLoop a b ≡ false = sym (k .pair-sums .ensures .1) ∙ c .if1 .left in
     let reply : firstOf (pairChecks a b) ≡ Admitted = reply-append (strandChecks a b) (NoSuchLoop if lacksLoop a b ∷ []) admitted ∙ simp missing in
-    rw reply (ap figuresOf (k .pair-sums .ensures))
+    rw reply (ap figuresOf (k .pair-sums .ensures .0))
 
 pub sequence-pair-dg-ds-spec : {M : Type 1} → statement M
 sequence-pair-dg-ds-spec =

@@ -6,14 +6,14 @@ use lib.ListN.{length, drop}
 use borrow.Author.Needs.{needs}
 use Rattle.lists.specs.Find.{firstIndex}
 use Rattle.lists.proofs.Find.{first-here, first-later, first-past}
-use Rattle.utils.specs.Paper.{table4, noLoop}
-use Rattle.utils.specs.Figures.{isLength}
+use Rattle.utils.specs.Paper.{noLoop}
+use Rattle.utils.specs.Figures.{loopRows, isLength}
 use Rattle.utils.proofs.Lengths.{fifteen, is-length, not-length}
 use Rattle.utils.proofs.tables.length_position.Statement.{statement}
 use Rattle.utils.proofs.tables.length_position.Tie as tie
 
 abbrev Inv-loop : tie.InvT-loop
-Inv-loop n i₀ i = (i ≤ 15) × (firstIndex (isLength n) table4 ≡ i + firstIndex (isLength n) (drop i table4))
+Inv-loop n i₀ i = (i ≤ 15) × (firstIndex (isLength n) loopRows ≡ i + firstIndex (isLength n) (drop i loopRows))
 
 abbrev μ-loop : tie.MeasureT-loop
 μ-loop n i₀ i = 15 - i
@@ -32,7 +32,7 @@ returns c =
     let n = c .before .before .before .args .length in
     let i = c .before .before .loop .i in
     let l = fifteen in
-    omega (arith, first-here (isLength n) table4 i noLoop (omega arith) (is-length n i (c .if1 .taken)))
+    omega (arith, first-here (isLength n) loopRows i noLoop (omega arith) (is-length n i (c .if1 .taken)))
 
 add-i : tie.Need-add-i Inv-loop μ-loop
 add-i c = search needs
@@ -45,14 +45,14 @@ loop-again c =
     let n = c .before .before .before .args .length in
     let i = c .before .before .loop .i in
     let l = fifteen in
-    (omega arith, omega (arith, first-later (isLength n) table4 i noLoop (omega arith) (not-length n i (c .if1 .left))))
+    (omega arith, omega (arith, first-later (isLength n) loopRows i noLoop (omega arith) (not-length n i (c .if1 .left))))
 
 returns-2 : tie.Need-returns-2 Inv-loop μ-loop
 returns-2 c =
     let n = c .before .before .args .length in
     let i = c .before .loop .i in
     let l = fifteen in
-    omega (arith, first-past (isLength n) table4 i (omega arith))
+    omega (arith, first-past (isLength n) loopRows i (omega arith))
 
 pub length-position-spec : {M : Type 1} → statement M
 length-position-spec =
