@@ -1,8 +1,8 @@
 // Document 01's bench table, the lines that are run rather than proved, and the worked examples of the paper and of rgrow's
 // documentation. Each answer is compared bit for bit with the sum that the line gives; the file stdout holds what must be written.
+use design::answers::CountAnswer;
 use reply::Refusal;
 use reply::Reply;
-use design::answers::CountAnswer;
 use sdc1d_params::Copied;
 use units::Ambient;
 use units::KcalPerMol;

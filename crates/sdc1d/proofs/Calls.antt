@@ -15,16 +15,12 @@ use Rattle.reply.specs.declared.Reply.the-variants as Reply
 use Rattle.ensemble.specs.Layout.{OptionRows}
 use Rattle.design.specs.Design.{Design, positions, friendsOf, modelOf}
 use Rattle.design.specs.Checks.{strangers, designChecks, energyChecks}
-use Rattle.design.proofs.Sizes.{Sized, sized}
+use Rattle.design.proofs.Sizes.{sized}
 use Rattle.design.proofs.Replies.{passed}
 
 -- the reply as its list has it, where the code's test of a size is the list's
 pub replied : (d : Design) {a b : Bool} {r s : Reply} → r ≡ firstOf (designChecks a d []) → a ≡ b → r ≡ s → firstOf (designChecks b d []) ≡ s
 replied d e f g = ap (λ (t : Bool). firstOf (designChecks t d [])) (sym f) ∙ sym e ∙ g
-
--- an admitted design's sizes
-pub sizes-of : (d : Design) {a : Bool} {r : Reply} → r ≡ firstOf (designChecks a d []) → r ≡ Reply.Admitted → Sized d
-sizes-of d {a} e g = sized d (passed a d [] (sym e ∙ g) .design .sizes)
 
 -- a configuration that a call takes has at most 128 places
 pub few-places : (d : Design) (s : List ℕ) → firstOf (energyChecks d s) ≡ Reply.Admitted → length s ≤ 128

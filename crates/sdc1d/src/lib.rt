@@ -67,7 +67,15 @@ fn count_options(
     ensures { λ r. ⌜ r ≡ min (count (modelOf (lent (scaffold .entry) (glues .entry) (dg .entry) (ds .entry) (potentials .entry) ambient))) 1048577 ⌝ }
     ensures { λ r. ⌜ OptionRows (modelOf (lent (scaffold .entry) (glues .entry) (dg .entry) (ds .entry) (potentials .entry) ambient)) (now (rows .exit)) (now (counts .exit)) ⌝ }
 {
-    fill_options(scaffold, glues, dg, ds, potentials.len() as u8, rows, counts);
+    fill_options(
+        scaffold,
+        glues,
+        dg,
+        ds,
+        potentials.len() as u8,
+        rows,
+        counts,
+    );
     state_count(counts)
 }
 
@@ -105,7 +113,10 @@ pub fn bond_with_scaffold(
 ) -> BondAnswer
     ensures { λ r. ⌜ bondFigures r ≡ scaffoldBondAnswer (lent (scaffold .entry) (glues .entry) (dg .entry) (ds .entry) (potentials .entry) ambient) position strand ⌝ }
 {
-    let lacking = either(scaffold.len() <= position, potentials.len() <= strand as usize);
+    let lacking = either(
+        scaffold.len() <= position,
+        potentials.len() <= strand as usize,
+    );
     match design_reply(lacking, scaffold, glues, dg, ds, potentials, ambient) {
         Reply::Refused(refusal, place) => BondAnswer::Refused(refusal, place),
         Reply::Admitted => {
@@ -232,8 +243,10 @@ fn energy_reply(
 {
     let wrong_size = configuration.len() != scaffold.len();
     let stranger = first_stranger(scaffold, glues, dg, ds, potentials.len(), configuration);
-    design_reply(wrong_size, scaffold, glues, dg, ds, potentials, ambient)
-        .or(refused_if(Refusal::NotAFriend, stranger < scaffold.len()))
+    design_reply(wrong_size, scaffold, glues, dg, ds, potentials, ambient).or(refused_if(
+        Refusal::NotAFriend,
+        stranger < scaffold.len(),
+    ))
 }
 
 // The state energy of a configuration: one occupant for each position, 0 for an empty place.
@@ -266,7 +279,11 @@ pub fn g_system(
                 &mut pairs,
                 &mut logs,
             );
-            EnergyAnswer::Energy(ambient.rt.scale(state_sum(attachments, &sites, &pairs, &logs)))
+            EnergyAnswer::Energy(
+                ambient
+                    .rt
+                    .scale(state_sum(attachments, &sites, &pairs, &logs)),
+            )
         }
     }
 }

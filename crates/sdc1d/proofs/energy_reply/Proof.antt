@@ -17,13 +17,13 @@ use Rattle.sdc1d.proofs.energy_reply.Tie as tie
 returns : tie.Need-returns
 unfolding strangers
 returns c =
-    let a = @args in
+    let a = c .before .before .before .before .before .before .before .before .before .before .args in
     let d : Design = lent (a .scaffold) (a .glues) (a .dg) (a .ds) (a .potentials) (a .ambient) in
     let s = a .configuration .now in
     let size : Bool = not (eqb (length s) (positions d)) in
-    let found = found-below (stranger (d .scaffold) (d .glues) (d .dg) (d .ds) (strands d) s) (positions d) (@first-stranger .ensures) in
-    @or .ensures
-    ∙ ap₂ _orElse_ (@design-reply .ensures) (@refused-if .ensures ∙ ap (λ (b : Bool). firstOf (NotAFriend if b ∷ [])) found)
+    let found = found-below (stranger (d .scaffold) (d .glues) (d .dg) (d .ds) (strands d) s) (positions d) (c .before .before .before .first-stranger .ensures) in
+    c .or .ensures
+    ∙ ap₂ _orElse_ (c .before .before .design-reply .ensures) (c .before .refused-if .ensures ∙ ap (λ (b : Bool). firstOf (NotAFriend if b ∷ [])) found)
     ∙ joined (designChecks size d []) (NotAFriend if strangers d s ∷ [])
 
 pub energy-reply-spec : {M : Type 1} → statement M

@@ -12,46 +12,48 @@ use Rattle.lists.proofs.Tests.{neither}
 use Rattle.reply.specs.Figures.{given}
 use Rattle.reply.proofs.Figures.{answered-by, refused-by, written-by, kept-by}
 use Rattle.design.specs.Design.{Design, lent, positions, strands, friendsTo, friendsOf}
+use Rattle.design.proofs.Sizes.{sized}
 use Rattle.design.proofs.Replies.{passed}
-use Rattle.sdc1d.proofs.Calls.{replied, sizes-of}
+use Rattle.sdc1d.proofs.Calls.{replied}
 use Rattle.sdc1d.proofs.friends_btm.Statement.{statement}
 use Rattle.sdc1d.proofs.friends_btm.Tie as tie
 
 cast-strands : tie.Need-cast-strands
 cast-strands c =
-    let a = @args in
+    let a = c .before .before .before .before .before .before .before .before .before .before .before .args in
     let d : Design = lent (a .scaffold) (a .glues) (a .dg) (a .ds) (a .potentials) (a .ambient) in
-    let few = sizes-of d (@design-reply .ensures) (@enum-told .given .1) .few in
+    let size : Bool = leb (positions d) (a .position) || not (eqb (length (a .entries .now)) 64) in
+    let p = passed size d [] (replied d (c .before .before .before .design-reply .ensures) (c .before .before .before .before .either .ensures) (c .before .enum-told .given .1)) in
+    let few = sized d (p .design .sizes) .few in
     omega arith
 
 write-friends-requires : tie.Need-write-friends-requires
 write-friends-requires c κs =
-    let a = @args in
+    let a = c .before .before .before .before .before .before .before .before .before .before .before .before .args in
     let d : Design = lent (a .scaffold) (a .glues) (a .dg) (a .ds) (a .potentials) (a .ambient) in
-    let few = sizes-of d (@design-reply .ensures) (@enum-told .given .1) .few in
     let size : Bool = leb (positions d) (a .position) || not (eqb (length (a .entries .now)) 64) in
-    let p = passed size d [] (replied d (@design-reply .ensures) (@either .ensures) (@enum-told .given .1)) in
+    let p = passed size d [] (replied d (c .before .before .before .before .design-reply .ensures) (c .before .before .before .before .before .either .ensures) (c .before .before .enum-told .given .1)) in
+    let few = sized d (p .design .sizes) .few in
     let room : length (a .entries .now) ≡ 64 = eqb-true _ _ (not-false _ (neither (leb (positions d) (a .position)) (not (eqb (length (a .entries .now)) 64)) (p .size) .1)) in
     omega arith
 
 returns : tie.Need-returns
 returns c =
-    let a = @args in
+    let a = c .before .before .before .before .before .before .before .before .before .before .before .args in
     let d : Design = lent (a .scaffold) (a .glues) (a .dg) (a .ds) (a .potentials) (a .ambient) in
     let friends = friendsOf d (a .position) in
-    let reply = replied d (@design-reply .ensures) (@either .ensures) (@refusal .given .1) in
+    let reply = replied d (c .before .before .before .design-reply .ensures) (c .before .before .before .before .either .ensures) (c .before .refusal .given .1) in
     (refused-by 0 (length friends) reply, kept-by (a .entries .now) (friends ++ drop (length friends) (a .entries .now)) reply)
 
 returns-2 : tie.Need-returns-2
 returns-2 c =
-    let a = @args in
+    let a = c .before .before .before .before .before .before .before .before .before .before .before .before .before .before .before .args in
     let d : Design = lent (a .scaffold) (a .glues) (a .dg) (a .ds) (a .potentials) (a .ambient) in
     let friends = friendsOf d (a .position) in
-    let reply = replied d (@design-reply .ensures) (@either .ensures) (@enum-told .given .1) in
-    let same : friendsTo (@byte-at .result) (d .glues) (d .dg) (d .ds) (strands d) ≡ friends = ap (λ (g : ℕ). friendsTo g (d .glues) (d .dg) (d .ds) (strands d)) (@byte-at .ensures) in
-    (
-      ap given (@write-friends .ensures .0 ∙ ap (λ (fs : List ℕ). length fs) same) ∙ answered-by 0 (length friends) reply,
-      @write-friends .ensures .1 ∙ ap (λ (fs : List ℕ). fs ++ drop (length fs) (a .entries .now)) same ∙ written-by (a .entries .now) (friends ++ drop (length friends) (a .entries .now)) reply,
+    let reply = replied d (c .before .before .before .before .before .before .before .design-reply .ensures) (c .before .before .before .before .before .before .before .before .either .ensures) (c .before .before .before .before .before .enum-told .given .1) in
+    let same : friendsTo (c .before .before .before .before .byte-at .result) (d .glues) (d .dg) (d .ds) (strands d) ≡ friends = ap (λ (g : ℕ). friendsTo g (d .glues) (d .dg) (d .ds) (strands d)) (c .before .before .before .before .byte-at .ensures) in (
+      ap given (c .before .before .write-friends .ensures .0 ∙ ap (λ (fs : List ℕ). length fs) same) ∙ answered-by 0 (length friends) reply,
+      c .before .before .write-friends .ensures .1 ∙ ap (λ (fs : List ℕ). fs ++ drop (length fs) (a .entries .now)) same ∙ written-by (a .entries .now) (friends ++ drop (length friends) (a .entries .now)) reply,
     )
 
 pub friends-btm-spec : {M : Type 1} → statement M
