@@ -207,7 +207,7 @@ pub fn state_at_rank(
             let mut rows = [0u8; OPTIONS];
             let mut counts = [0u8; POSITIONS];
             let positions = scaffold.len();
-            let number = count_options(
+            let states = count_options(
                 scaffold,
                 glues,
                 dg,
@@ -217,13 +217,13 @@ pub fn state_at_rank(
                 &mut rows,
                 &mut counts[0..positions],
             );
-            if MOST_STATES < number {
+            if MOST_STATES < states {
                 return Reply::Refused(Refusal::TooManyStates, Place::Nowhere);
             }
-            if number <= rank {
+            if states <= rank {
                 return Reply::Refused(Refusal::RankTooHigh, Place::Nowhere);
             }
-            write_state(&rows, &counts[0..positions], number, rank, entries);
+            write_state(&rows, &counts[0..positions], states, rank, entries);
             Reply::Admitted
         }
     }
@@ -279,11 +279,8 @@ pub fn g_system(
                 &mut pairs,
                 &mut logs,
             );
-            EnergyAnswer::Energy(
-                ambient
-                    .rt
-                    .scale(state_sum(attachments, &sites, &pairs, &logs)),
-            )
+            let sumg = state_sum(attachments, &sites, &pairs, &logs);
+            EnergyAnswer::Energy(ambient.rt.scale(sumg))
         }
     }
 }
