@@ -1,8 +1,8 @@
 // Document 01's bench table, the lines that are run rather than proved, and the worked examples of the paper and of rgrow's
 // documentation. Each answer is compared bit for bit with the sum that the line gives; the file stdout holds what must be written.
+use design::answers::CountAnswer;
 use reply::Refusal;
 use reply::Reply;
-use sdc1d::CountAnswer;
 use sdc1d_params::Copied;
 use units::Ambient;
 use units::KcalPerMol;
@@ -147,7 +147,7 @@ fn states_of(scaffold: &[u8]) -> CountAnswer {
 fn is_built(reply: Reply) -> bool {
     match reply {
         Reply::Admitted => true,
-        Reply::Refused(_) => false,
+        Reply::Refused(_, _) => false,
     }
 }
 
@@ -155,14 +155,14 @@ fn is_built(reply: Reply) -> bool {
 fn is_too_many_glues(reply: Reply) -> bool {
     match reply {
         Reply::Admitted => false,
-        Reply::Refused(given) => given.number() == Refusal::TooManyGlues.number(),
+        Reply::Refused(given, _) => given.number() == Refusal::TooManyGlues.number(),
     }
 }
 
 // Whether so many states were counted.
 fn is_count(answer: CountAnswer, count: u64) -> bool {
     match answer {
-        CountAnswer::States(given) => given == count,
+        CountAnswer::Count(given) => given == count,
         CountAnswer::Refused(_, _) => false,
     }
 }
@@ -170,7 +170,7 @@ fn is_count(answer: CountAnswer, count: u64) -> bool {
 // Whether the count was refused.
 fn is_too_many_states(answer: CountAnswer) -> bool {
     match answer {
-        CountAnswer::States(_) => false,
+        CountAnswer::Count(_) => false,
         CountAnswer::Refused(given, _) => given.number() == Refusal::TooManyStates.number(),
     }
 }

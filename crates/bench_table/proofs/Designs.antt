@@ -16,7 +16,8 @@ use Rattle.model.specs.Energy.{stateTerms, stateEnergy, chainTerms, chainEnergy
 use Rattle.model.specs.Search.{leastLeft, leftChoice, traced, searchOver, search}
 use Rattle.design.specs.Design.{strandBond, scaffoldBond, befriends, friendsTo, modelOf}
 use Rattle.design.specs.Checks.{wrongSizes, cellsOut, ambientOut, somewhere, potentialsOut, nullBinds}
-use Rattle.design.specs.Answers.{given, refused, countAnswer, rankAnswer, rankEntries}
+use Rattle.reply.specs.Figures.{given, refused}
+use Rattle.design.specs.Answers.{countAnswer, rankAnswer, rankEntries}
 use Rattle.mfe.specs.Answers.{searchAnswer, searchEntries}
 use Rattle.bench_table.specs.Designs.{bare, onePosition, twoPositions}
 use Rattle.bench_table.specs.Readings.{tiny, TwoZeros, close, OneProduct, parted, TwoSums, lower, LowerState}

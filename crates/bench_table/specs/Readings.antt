@@ -10,7 +10,7 @@ use Rattle.doubles.specs.Decimal.{Decimal, plus, minus, nearest, zero}
 use Rattle.units.specs.declared.Ambient.{Ambient}
 use Rattle.model.specs.Energy.{walk, stateEnergy, chainEnergy, chainProduct}
 use Rattle.design.specs.Design.{Design, design, modelOf}
-use Rattle.design.specs.Answers.{given}
+use Rattle.reply.specs.Figures.{given}
 use Rattle.mfe.specs.Answers.{searchAnswer, searchEntries}
 use Rattle.bench_table.specs.Designs.{zeros}
 

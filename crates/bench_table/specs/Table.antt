@@ -16,7 +16,8 @@ use Rattle.built.specs.Bench.{oneStrand, lent}
 use Rattle.model.specs.States.{states}
 use Rattle.model.specs.Energy.{walk}
 use Rattle.design.specs.Design.{modelOf}
-use Rattle.design.specs.Answers.{given, refused, countAnswer, rankAnswer, rankEntries}
+use Rattle.reply.specs.Figures.{given, refused}
+use Rattle.design.specs.Answers.{countAnswer, rankAnswer, rankEntries}
 use Rattle.mfe.specs.Answers.{searchAnswer, searchEntries}
 use Rattle.deck.specs.Form.{singles}
 use Rattle.deck.specs.Reading.{readFigures, readEntries}

@@ -5,8 +5,9 @@ use Prim.Native.Nat.{ℕ}
 use native.Mathlib.Omega.{arith}
 use lib.Dec.{T, lit≤}
 use lib.Ieee.{Float, binary64, fits, le, lt, eq, add, mul, sub, div}
-use Rattle.reply.specs.First.{orElse, answer}
+use Rattle.reply.specs.First.{refusedIf, answer}
 use Rattle.reply.specs.declared.Refusal.the-variants.{OutOfRange}
+use Rattle.reply.specs.declared.Place.the-variants.{Nowhere}
 use Rattle.reply.specs.declared.Reply.the-variants.{Admitted}
 use Rattle.lists.proofs.Tests.{both}
 use Rattle.doubles.specs.Decimal.{plus, minus, nearest}
@@ -132,7 +133,7 @@ pub ambient-fits : AmbientFits
 unfolding ambientAt inRange ambientOut
 ambient-fits k t a e = go (within (nearest (plus 200 0)) (nearest (plus 500 0)) k) refl e
   where
-    go : (b : Bool) → within (nearest (plus 200 0)) (nearest (plus 500 0)) k ≡ b → ambientFigures (Given a) ≡ answer (orElse (not b) OutOfRange Admitted) refused (record { number = 0; rt = mul binary64 gasConstant k; strandExcess = excessOver37C k; scaffoldExcess = excessOver37C k }) → ambientOut a ≡ false
+    go : (b : Bool) → within (nearest (plus 200 0)) (nearest (plus 500 0)) k ≡ b → ambientFigures (Given a) ≡ answer (refusedIf (not b) OutOfRange Nowhere Admitted) refused (record { number = 0; rt = mul binary64 gasConstant k; strandExcess = excessOver37C k; scaffoldExcess = excessOver37C k }) → ambientOut a ≡ false
     go true b p =
         none (outside (nearest (plus 125 3)) (nearest (plus 8 0)) (a .rt .0)) (beyond 1024 (a .«strand_excess» .0)) (beyond 1024 (a .«scaffold_excess» .0))
         (ap (λ (f : Figures). outside (nearest (plus 125 3)) (nearest (plus 8 0)) (f .rt)) p ∙ rt-in k t b)

@@ -11,8 +11,9 @@ use Rattle.doubles.specs.Decimal.{zero}
 use Rattle.lists.specs.Find.{any}
 use Rattle.lists.proofs.Any.{all-below}
 use Rattle.lists.proofs.Each.{each-none}
-use Rattle.reply.specs.First.{firstOf, orElse}
+use Rattle.reply.specs.First.{firstOf, refusedIf}
 use Rattle.reply.specs.declared.Refusal.the-variants.{WrongSize, OutOfRange, NullBinds}
+use Rattle.reply.specs.declared.Place.the-variants.{Nowhere}
 use Rattle.reply.specs.declared.Reply.{Reply}
 use Rattle.units.specs.declared.Ambient.{Ambient}
 use Rattle.sdc1d_params.specs.Params.{Params, Outcome, writesOf, strandGluesOf, builtFrom}
@@ -28,8 +29,8 @@ left-of :
     → sizes ≡ false
     → cells ≡ false
     → null ≡ false
-    → orElse (own || sizes) WrongSize (orElse cells OutOfRange (orElse ambient OutOfRange (orElse potentials OutOfRange (orElse null NullBinds rest))))
-    ≡ orElse own WrongSize (orElse ambient OutOfRange (orElse potentials OutOfRange rest))
+    → refusedIf (own || sizes) WrongSize Nowhere (refusedIf cells OutOfRange Nowhere (refusedIf ambient OutOfRange Nowhere (refusedIf potentials OutOfRange Nowhere (refusedIf null NullBinds Nowhere rest))))
+    ≡ refusedIf own WrongSize Nowhere (refusedIf ambient OutOfRange Nowhere (refusedIf potentials OutOfRange Nowhere rest))
 left-of true sizes cells ambient potentials null rest s c n = refl
 left-of false sizes cells ambient potentials null rest s c n = rw (s, c, n)
 

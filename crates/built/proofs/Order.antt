@@ -47,7 +47,7 @@ same-reply unknown many p q r s t = rw (p, q, r, s, t)
 -- where a call is admitted the two results are the same, and a refusal does not look at them
 same-answer : {A : Type 0} (r : Reply) (refused : ℕ → A) (given other : A) → (r ≡ Admitted → given ≡ other) → answer r refused given ≡ answer r refused other
 same-answer Admitted refused given other h = h refl
-same-answer (Refused why) refused given other h = refl
+same-answer (Refused why place) refused given other h = refl
 
 module _ (p : Params) (lent : Outcome) {entries others : List Entry} (permuted : List·Permᴰ entries others) where
   abbrev one : Params

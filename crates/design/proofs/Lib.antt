@@ -1,9 +1,12 @@
 pub mod Sizes
+pub mod Parts
+pub mod Optioned
+pub mod Held
 pub mod FriendLaws
+pub mod Cells
 pub mod BoundLaws
 pub mod Lowest
 pub mod Replies
-pub mod Passed
 pub mod Finite
 pub mod Unread
 pub mod NullBonds

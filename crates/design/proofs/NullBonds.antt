@@ -154,4 +154,4 @@ figures-near d doubles s = go (firstOf (energyChecks d s)) refl
   where
     go : (reply : Reply) → firstOf (energyChecks d s) ≡ reply → Near binary64 (twoToMinus binary64 16) (stateEnergyAnswer d s .figure) (chainEnergyAnswer d s .figure .timesRt)
     go Reply.Admitted e = let t = taken d s e in rw e (admitted-near d doubles (t .admitted) .states s (t .state))
-    go (Reply.Refused why) e = rw e (zeros-near (twoToMinus binary64 16))
+    go (Reply.Refused why place) e = rw e (zeros-near (twoToMinus binary64 16))

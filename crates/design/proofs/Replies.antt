@@ -1,80 +1,57 @@
--- How a call's reply follows from that of the design's own checks. Assumes nothing.
+-- What an admitted reply of a call on a design says of it. Assumes nothing.
 use mathlib.Core.Path.{_≡_, refl}
-use mathlib.Core.Bool.{Bool, true, false}
-use mathlib.Core.List.{List, []}
-use Prim.Native.Nat.{ℕ}
-use native.Mathlib.Omega.{arith}
-use Rattle.reply.specs.Number.{numberOf}
-use Rattle.reply.specs.First.{Check, firstOf, orElse, answer}
-use Rattle.reply.specs.declared.Refusal.{Refusal}
+use mathlib.Core.Bool.{Bool, true, false, _||_}
+use mathlib.Core.List.{List, [], _∷_}
+use Rattle.lists.proofs.Tests.{neither}
+use Rattle.reply.specs.First.{Check, firstOf, _if_, _orElse_}
 use Rattle.reply.specs.declared.Refusal.the-variants.{WrongSize, OutOfRange, NullBinds}
 use Rattle.reply.specs.declared.Reply.{Reply}
 use Rattle.reply.specs.declared.Reply.the-variants as Reply
+use Rattle.reply.proofs.First.{none-holds, both-pass}
 use Rattle.design.specs.Design.{Design}
-use Rattle.design.specs.Checks.{sizesOut, cellsOut, ambientOut, potentialsOut, nullBinds, designChecks, Admitted}
-use Rattle.design.specs.Answers.{given, refused}
+use Rattle.design.specs.Checks.{sizesOut, designChecks, Admitted}
 
--- the first of the five that holds, and else what follows
-chain : Bool → Bool → Bool → Bool → Bool → Reply → Reply
-chain a b c d e rest = orElse a WrongSize (orElse b OutOfRange (orElse c OutOfRange (orElse d OutOfRange (orElse e NullBinds rest))))
+-- a call that is admitted found nothing wrong with a size of its own, nor with the design, nor by its own checks
+pub record Passed (ownSize : Bool) (d : Design) (own : List Check) : Type 0 where
+  pub size : ownSize ≡ false
+  pub design : Admitted d
+  pub call : firstOf own ≡ Reply.Admitted
 
-refused-chain : (a b c d e : Bool) (rest : Reply) (r : Refusal) → chain a b c d e Reply.Admitted ≡ Reply.Refused r → chain a b c d e rest ≡ Reply.Refused r
-unfolding chain
-refused-chain true b c d e rest r h = h
-refused-chain false true c d e rest r h = h
-refused-chain false false true d e rest r h = h
-refused-chain false false false true e rest r h = h
-refused-chain false false false false true rest r h = h
-refused-chain false false false false false rest r h = absurd (let z : _≡_ {A = ℕ} 0 1 = cc in omega arith)
-
-record All (a b c d e : Bool) : Type 0 where
-  first : a ≡ false
-  second : b ≡ false
-  third : c ≡ false
-  fourth : d ≡ false
-  fifth : e ≡ false
-
-passed-chain : (a b c d e : Bool) → chain a b c d e Reply.Admitted ≡ Reply.Admitted → All a b c d e
-unfolding chain
-passed-chain true b c d e h = absurd (let z : _≡_ {A = ℕ} 0 1 = cc in omega arith)
-passed-chain false true c d e h = absurd (let z : _≡_ {A = ℕ} 0 1 = cc in omega arith)
-passed-chain false false true d e h = absurd (let z : _≡_ {A = ℕ} 0 1 = cc in omega arith)
-passed-chain false false false true e h = absurd (let z : _≡_ {A = ℕ} 0 1 = cc in omega arith)
-passed-chain false false false false true h = absurd (let z : _≡_ {A = ℕ} 0 1 = cc in omega arith)
-passed-chain false false false false false h = record { first = refl; second = refl; third = refl; fourth = refl; fifth = refl }
-
-module _ (d : Design) where
-  pub admitted : firstOf (designChecks false d []) ≡ Reply.Admitted → Admitted d
-  unfolding chain
-  admitted h =
-      let w = passed-chain (sizesOut d) (cellsOut (d .dg) (d .ds)) (ambientOut (d .ambient)) (potentialsOut d) (nullBinds (d .glues) (d .dg) (d .ds)) h in
-      record { sizes = w .first; cells = w .second; ambient = w .third; potentials = w .fourth; null = w .fifth }
-
-module _ (d : Design) (ownSize : Bool) (own : List Check) where
-  -- a size of the call's own comes first
-  pub own-size : ownSize ≡ true → firstOf (designChecks ownSize d own) ≡ Reply.Refused WrongSize
-  own-size e = simp e
-
-  -- a refused design is refused by the call
-  pub design-refused : {r : Refusal} → ownSize ≡ false → firstOf (designChecks false d []) ≡ Reply.Refused r → firstOf (designChecks ownSize d own) ≡ Reply.Refused r
-  unfolding chain
-  design-refused {r} e h = rw e (refused-chain (sizesOut d) (cellsOut (d .dg) (d .ds)) (ambientOut (d .ambient)) (potentialsOut d) (nullBinds (d .glues) (d .dg) (d .ds)) (firstOf own) r h)
+module _ (ownSize : Bool) (d : Design) (own : List Check) where
+  pub passed : firstOf (designChecks ownSize d own) ≡ Reply.Admitted → Passed ownSize d own
+  passed h =
+      let both = both-pass (designChecks ownSize d []) own h in
+      let none = none-holds (designChecks ownSize d []) (both .0) in
+      let sizes = neither ownSize (sizesOut d) (none .0) in
+      record {
+        size = sizes .0;
+        design = record { sizes = sizes .1; cells = none .1 .0; ambient = none .1 .1 .0; potentials = none .1 .1 .1 .0; null = none .1 .1 .1 .1 .0 };
+        call = both .1;
+      }
 
   -- of an admitted design the call's own checks decide
-  pub design-admitted : ownSize ≡ false → Admitted d → firstOf (designChecks ownSize d own) ≡ firstOf own
-  design-admitted e a = simp (e, a .sizes, a .cells, a .ambient, a .potentials, a .null)
+  pub own-decide : ownSize ≡ false → Admitted d → firstOf (designChecks ownSize d own) ≡ firstOf own
+  own-decide e a = simp (e, a .sizes, a .cells, a .ambient, a .potentials, a .null)
 
--- what is answered, and what stands in the lent entries afterwards, by the reply
-module _ {A : Type 0} (blank figure : A) {reply : Reply} where
-  pub answered : reply ≡ Reply.Admitted → given figure ≡ answer reply (refused blank) (given figure)
-  answered e = rw e
-
-  pub turned-down : (r : Refusal) → reply ≡ Reply.Refused r → refused blank (numberOf r) ≡ answer reply (refused blank) (given figure)
-  turned-down r e = rw e
-
-module _ (before after : List ℕ) {reply : Reply} where
-  pub entries-written : reply ≡ Reply.Admitted → after ≡ answer reply (λ _. before) after
-  entries-written e = rw e
-
-  pub entries-kept : (r : Refusal) → reply ≡ Reply.Refused r → before ≡ answer reply (λ _. before) after
-  entries-kept r e = rw e
+-- the four replies after that of the sizes, put together one after the other
+pub put-together :
+    (sizes cells ambient potentials null : Bool) {a b c d x y z : Reply}
+    → sizes ≡ false
+    → a ≡ firstOf (OutOfRange if cells ∷ [])
+    → b ≡ firstOf (OutOfRange if ambient ∷ [])
+    → c ≡ firstOf (OutOfRange if potentials ∷ [])
+    → d ≡ firstOf (NullBinds if null ∷ [])
+    → x ≡ a orElse b
+    → y ≡ x orElse c
+    → z ≡ y orElse d
+    → z ≡ firstOf (WrongSize if sizes ∷ OutOfRange if cells ∷ OutOfRange if ambient ∷ OutOfRange if potentials ∷ NullBinds if null ∷ [])
+put-together sizes cells ambient potentials null s a b c d x y z = rw (z, y, x, a, b, c, d, s) (each cells ambient potentials null)
+  where
+    each :
+        (e f g h : Bool)
+        → ((firstOf (OutOfRange if e ∷ []) orElse firstOf (OutOfRange if f ∷ [])) orElse firstOf (OutOfRange if g ∷ [])) orElse firstOf (NullBinds if h ∷ [])
+        ≡ firstOf (OutOfRange if e ∷ OutOfRange if f ∷ OutOfRange if g ∷ NullBinds if h ∷ [])
+    each true f g h = refl
+    each false true g h = refl
+    each false false true h = refl
+    each false false false h = refl

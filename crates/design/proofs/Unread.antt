@@ -13,16 +13,17 @@ use Rattle.lists.proofs.Build.{length-tabulate, getD-tabulate}
 use Rattle.lists.proofs.Find.{first-any, passes-first}
 use Rattle.lists.proofs.Any.{none-below, all-below}
 use Rattle.doubles.specs.Decimal.{zero}
-use Rattle.reply.specs.First.{Check, firstOf, answer}
+use Rattle.reply.specs.First.{Check, firstOf}
+use Rattle.reply.specs.Figures.{figuresOf, entriesOf}
 use Rattle.reply.specs.declared.Reply.the-variants as Reply
+use Rattle.reply.proofs.Figures.{same-figures, same-entries}
 use Rattle.model.specs.Read.{SameRead, Alike}
 use Rattle.model.proofs.Read.{only-friends-read}
 use Rattle.design.specs.Design.{Design, positions, strands, potential, friendsOf, modelOf}
 use Rattle.design.specs.Checks.{beyond, friendAt, somewhere, unfit, wrongSizes, sizesOut, potentialsOut, strangers, designChecks, strandBondChecks, scaffoldBondChecks, friendsChecks, countChecks, rankChecks, energyChecks}
-use Rattle.design.specs.Answers.{given, refused, noChain}
+use Rattle.design.specs.Answers.{Chain, noChain}
 use Rattle.design.specs.Unread.{withPotentials, ReadAlike, AnswersAlike, UnreadPotentials}
 use Rattle.design.proofs.FriendLaws.{tested-friend}
-use Rattle.design.proofs.Passed.{same-reply}
 use Rattle.design.proofs.Finite.{taken}
 
 -- ---- tests of the numbers below n that agree
@@ -119,22 +120,25 @@ module _ (d : Design) (potentials : List Float) (r : ReadAlike d potentials) whe
 
   -- ---- the answers
 
-  replied : {A : Type 0} (xs ys : List Check) (turned : ℕ → A) (x y : A) → xs ≡ ys → (firstOf ys ≡ Reply.Admitted → y ≡ x) → answer (firstOf ys) turned y ≡ answer (firstOf xs) turned x
-  replied xs ys turned x y e h = same-reply (firstOf ys) turned y x h ∙ ap (λ (cs : List Check). answer (firstOf cs) turned x) (sym e)
+  answered : {A : Type 0} (xs ys : List Check) (blank x y : A) → xs ≡ ys → (firstOf ys ≡ Reply.Admitted → y ≡ x) → figuresOf (firstOf ys) blank y ≡ figuresOf (firstOf xs) blank x
+  answered xs ys blank x y e h = same-figures (firstOf ys) blank y x h ∙ ap (λ (cs : List Check). figuresOf (firstOf cs) blank x) (sym e)
+
+  written : {A : Type 0} (xs ys : List Check) (before x y : A) → xs ≡ ys → (firstOf ys ≡ Reply.Admitted → y ≡ x) → entriesOf (firstOf ys) before y ≡ entriesOf (firstOf xs) before x
+  written xs ys before x y e h = same-entries (firstOf ys) before y x h ∙ ap (λ (cs : List Check). entriesOf (firstOf cs) before x) (sym e)
 
   alike : AnswersAlike d other
   alike = record {
-    strandBonds = λ x y. replied (strandBondChecks other x y) (strandBondChecks d x y) (refused zero) _ _ (strand-bond-reply x y) (λ _. refl);
-    scaffoldBonds = λ i x. replied (scaffoldBondChecks other i x) (scaffoldBondChecks d i x) (refused zero) _ _ (scaffold-bond-reply i x) (λ _. refl);
-    friends = λ i entries. replied (friendsChecks other i entries) (friendsChecks d i entries) (refused 0) _ _ (friends-reply i entries) (λ _. ap (λ (l : List ℕ). given (length l)) (sym (friends-same i)));
-    friendEntries = λ i entries. replied (friendsChecks other i entries) (friendsChecks d i entries) (λ _. entries) _ _ (friends-reply i entries) (λ _. ap (λ (l : List ℕ). l ++ drop (length l) entries) (sym (friends-same i)));
-    counts = replied (countChecks other) (countChecks d) (refused 0) _ _ count-reply (λ _. ap given (same-models .counted));
-    ranks = λ rank entries. replied (rankChecks other rank entries) (rankChecks d rank entries) (refused tt) (given tt) (given tt) (rank-reply rank entries) (λ _. refl);
-    rankedEntries = λ rank entries. replied (rankChecks other rank entries) (rankChecks d rank entries) (λ _. entries) _ _ (rank-reply rank entries) (λ _. same-models .ranked rank);
-    stateEnergies = λ s. replied (energyChecks other s) (energyChecks d s) (refused zero) _ _ (energy-reply s) (λ e. ap given (same-models .stateEnergies s (taken d s e .state)));
+    strandBonds = λ x y. answered (strandBondChecks other x y) (strandBondChecks d x y) zero _ _ (strand-bond-reply x y) (λ _. refl);
+    scaffoldBonds = λ i x. answered (scaffoldBondChecks other i x) (scaffoldBondChecks d i x) zero _ _ (scaffold-bond-reply i x) (λ _. refl);
+    friends = λ i entries. answered (friendsChecks other i entries) (friendsChecks d i entries) 0 _ _ (friends-reply i entries) (λ _. ap (λ (l : List ℕ). length l) (sym (friends-same i)));
+    friendEntries = λ i entries. written (friendsChecks other i entries) (friendsChecks d i entries) entries _ _ (friends-reply i entries) (λ _. ap (λ (l : List ℕ). l ++ drop (length l) entries) (sym (friends-same i)));
+    counts = answered (countChecks other) (countChecks d) 0 _ _ count-reply (λ _. same-models .counted);
+    ranks = λ rank entries. answered (rankChecks other rank entries) (rankChecks d rank entries) tt tt tt (rank-reply rank entries) (λ _. refl);
+    rankedEntries = λ rank entries. written (rankChecks other rank entries) (rankChecks d rank entries) entries _ _ (rank-reply rank entries) (λ _. same-models .ranked rank);
+    stateEnergies = λ s. answered (energyChecks other s) (energyChecks d s) zero _ _ (energy-reply s) (λ e. same-models .stateEnergies s (taken d s e .state));
     chainEnergies = λ s.
-        replied (energyChecks other s) (energyChecks d s) (refused noChain) _ _ (energy-reply s)
-        (λ e. let w = taken d s e .state in ap₂ (λ (bare product : Float). given (record { bare = bare; timesRt = product })) (same-models .chainEnergies s w) (same-models .products s w));
+        answered (energyChecks other s) (energyChecks d s) noChain _ _ (energy-reply s)
+        (λ e. let w = taken d s e .state in ap₂ (λ (bare product : Float). record { bare = bare; timesRt = product }) (same-models .chainEnergies s w) (same-models .products s w));
   }
 
 pub unread-potentials : UnreadPotentials

@@ -11,6 +11,7 @@ use Rattle.lists.specs.Find.{any}
 use Rattle.doubles.specs.Decimal.{plus, minus, nearest, zero}
 use Rattle.doubles.specs.Range.{within}
 use Rattle.reply.specs.First.{Check, _if_}
+use Rattle.reply.specs.Limits.{mostPositions, mostStrands, lastGlue, glueCount, cellCount, mostStates, mostDg, mostDs, mostExcess, mostPotential, leastRtThousandths, mostRt}
 use Rattle.reply.specs.declared.Refusal.the-variants.{WrongSize, OutOfRange, NullBinds, NotAFriend, TooManyStates, RankTooHigh}
 use Rattle.units.specs.declared.Ambient.{Ambient}
 use Rattle.model.specs.States.{count}
@@ -20,16 +21,16 @@ use Rattle.design.specs.Design.{Design, positions, strands, west, bottom
 
 -- scaffold 0 to 128 positions; strands 1 to 64, strand 0 included
 abbrev pub wrongCounts : List ℕ → List Float → Bool
-wrongCounts scaffold potentials = ltb 128 (length scaffold) || (ltb (length potentials) 1 || ltb 64 (length potentials))
+wrongCounts scaffold potentials = ltb mostPositions (length scaffold) || (ltb (length potentials) 1 || ltb mostStrands (length potentials))
 
 -- three glues for each strand, and 64 by 64 cells
 abbrev pub wrongLengths : List ℕ → List Float → List Float → List Float → Bool
 wrongLengths glues dg ds potentials =
-    not (eqb (length glues) (3 * length potentials)) || (not (eqb (length dg) 4096) || not (eqb (length ds) 4096))
+    not (eqb (length glues) (3 * length potentials)) || (not (eqb (length dg) cellCount) || not (eqb (length ds) cellCount))
 
 -- a glue above 63
 abbrev pub highGlue : ℕ → Bool
-highGlue glue = ltb 63 glue
+highGlue glue = ltb lastGlue glue
 
 -- the counts, the lengths or a glue is outside its limits
 unfoldable pub wrongSizes : List ℕ → List ℕ → List Float → List Float → List Float → Bool
@@ -62,14 +63,14 @@ beyond most = outside (nearest (minus most 0)) (nearest (plus most 0))
 -- dG cells ±1,024 kcal/mol; dS cells ±8 kcal/mol/K
 unfoldable pub cellsOut : List Float → List Float → Bool
 unfolding any nearest
-cellsOut dg ds = any (beyond 1024) dg || any (beyond 8) ds
+cellsOut dg ds = any (beyond mostDg) dg || any (beyond mostDs) ds
 
 -- RT 1/8 to 8; excess temperatures ±1,024
 unfoldable pub ambientOut : Ambient → Bool
 unfolding nearest
 ambientOut ambient =
-    outside (nearest (plus 125 3)) (nearest (plus 8 0)) (ambient .rt .0)
-    || (beyond 1024 (ambient .«strand_excess» .0) || beyond 1024 (ambient .«scaffold_excess» .0))
+    outside (nearest (plus leastRtThousandths 3)) (nearest (plus mostRt 0)) (ambient .rt .0)
+    || (beyond mostExcess (ambient .«strand_excess» .0) || beyond mostExcess (ambient .«scaffold_excess» .0))
 
 -- the strand is a friend at a position
 abbrev pub friendAt : List ℕ → List ℕ → List Float → List Float → ℕ → ℕ → Bool
@@ -82,7 +83,7 @@ somewhere scaffold glues dg ds strand = any (friendAt scaffold glues dg ds stran
 
 -- potentials ±1,024; only those of strands that are somewhere friends are looked at
 abbrev pub unfit : List ℕ → List ℕ → List Float → List Float → List Float → ℕ → Bool
-unfit scaffold glues dg ds potentials strand = somewhere scaffold glues dg ds strand && beyond 1024 (getD potentials strand zero)
+unfit scaffold glues dg ds potentials strand = somewhere scaffold glues dg ds strand && beyond mostPotential (getD potentials strand zero)
 
 -- a potential that is read is out of its range
 unfoldable pub potentialsOut : Design → Bool
@@ -102,7 +103,7 @@ nullCells dg ds glue = binding dg ds 0 glue || binding dg ds glue 0
 -- document 01's refusal 10 of a design
 unfoldable pub nullBinds : List ℕ → List Float → List Float → Bool
 unfolding any tabulate
-nullBinds glues dg ds = nullGlued glues || any (nullCells dg ds) (upTo 64)
+nullBinds glues dg ds = nullGlued glues || any (nullCells dg ds) (upTo glueCount)
 
 -- ---- stranger: a configuration holds, at some position, neither 0 nor a friend; a number that is no strand is no friend
 
@@ -123,7 +124,7 @@ strangers d s = any (stranger (d .scaffold) (d .glues) (d .dg) (d .ds) (strands 
 
 -- more than 1,048,576 states
 abbrev pub tooManyStates : Design → Bool
-tooManyStates d = ltb 1048576 (count (modelOf d))
+tooManyStates d = ltb mostStates (count (modelOf d))
 
 -- at or above the number of states
 abbrev pub rankTooHigh : Design → ℕ → Bool
@@ -162,7 +163,7 @@ scaffoldBondChecks d i strand = designChecks (noPosition d i || noStrand d stran
 
 -- the friends are written into 64 lent entries
 abbrev pub friendsChecks : Design → ℕ → List ℕ → List Check
-friendsChecks d i entries = designChecks (noPosition d i || not (eqb (length entries) 64)) d []
+friendsChecks d i entries = designChecks (noPosition d i || not (eqb (length entries) mostStrands)) d []
 
 -- what is refused of the count
 abbrev pub countChecks : Design → List Check

@@ -4,4 +4,5 @@ pub mod Answers
 pub mod Laws
 pub mod Finite
 pub mod Unread
+pub mod Filling
 pub mod TwoEnergies

@@ -5,50 +5,30 @@ use super::reads::bottom_glue;
 use super::reads::east_glue;
 use super::reads::potential_of;
 use super::reads::west_glue;
+use reply::Place;
 use reply::Refusal;
 use reply::Reply;
+use reply::limits::CELLS;
+use reply::limits::DG;
+use reply::limits::DS;
+use reply::limits::EXCESS;
+use reply::limits::LAST_GLUE;
+use reply::limits::LEAST_RT;
+use reply::limits::MOST_RT;
+use reply::limits::POSITIONS;
+use reply::limits::POTENTIAL;
+use reply::limits::SIDES;
+use reply::limits::STRANDS;
+use reply::refused_if;
 use units::Ambient;
 ghost use mathlib.Core.Path.{_≡_};
-ghost use mathlib.Core.Bool.{false};
 ghost use mathlib.Core.List.{[]};
+ghost use lib.ListN.{length};
 ghost use Rattle.lists.specs.Build.{upTo};
 ghost use Rattle.lists.specs.Find.{any, firstIndex};
 ghost use Rattle.reply.specs.First.{firstOf};
 ghost use Rattle.design.specs.Design.{lent};
-ghost use Rattle.design.specs.Checks.{highGlue, outside, wrongSizes, cellsOut, ambientOut, unfit, nullCells, nullBinds, designChecks};
-
-// The most positions of a scaffold.
-const POSITIONS: usize = 128;
-
-// The most strands, strand 0 included.
-const STRANDS: usize = 64;
-
-// The cells of a glue table: 64 rows of 64.
-const CELLS: usize = 4096;
-
-// The highest glue.
-const LAST_GLUE: u8 = 63;
-
-// The number of glues, 0 included.
-const GLUES: u8 = 64;
-
-// The largest dG of a cell in size, in kcal/mol.
-const DG: f64 = 1024.0;
-
-// The largest dS of a cell in size, in kcal/mol/K.
-const DS: f64 = 8.0;
-
-// The largest excess temperature in size, in K.
-const EXCESS: f64 = 1024.0;
-
-// The largest potential in size.
-const POTENTIAL: f64 = 1024.0;
-
-// The lowest RT, in kcal/mol.
-const LEAST_RT: f64 = 0.125;
-
-// The highest RT, in kcal/mol.
-const MOST_RT: f64 = 8.0;
+ghost use Rattle.design.specs.Checks.{highGlue, wrongSizes, cellsOut, ambientOut, unfit, nullCells, nullBinds, designChecks};
 
 // Where the first glue above 63 stands; the number of glues where there is none.
 fn first_high_glue(glues: &[u8]) -> usize
@@ -77,7 +57,7 @@ fn wrong_sizes(scaffold: &[u8], glues: &[u8], dg: &[f64], ds: &[f64], potentials
     if STRANDS < potentials.len() {
         return true;
     }
-    if glues.len() != 3 * potentials.len() {
+    if glues.len() != SIDES * potentials.len() {
         return true;
     }
     if dg.len() != CELLS {
@@ -92,26 +72,28 @@ fn wrong_sizes(scaffold: &[u8], glues: &[u8], dg: &[f64], ds: &[f64], potentials
     first_high_glue(glues) < glues.len()
 }
 
-// Whether some number is outside low to high. All are counted: a loop with one way out is one that the compiler takes several at a time.
-fn any_outside(low: f64, high: f64, numbers: &[f64]) -> bool
-    ensures { λ r. ⌜ r ≡ any (outside low high) (now (numbers .entry)) ⌝ }
+// Whether a cell of either table is out of its range. All are counted, a cell of each table in a turn: a loop with one way out is one that the
+// compiler takes several at a time.
+fn cells_out(dg: &[f64], ds: &[f64]) -> bool
+    requires { ⌜ length (now dg) ≡ length (now ds) ⌝ }
+    ensures { λ r. ⌜ r ≡ cellsOut (now (dg .entry)) (now (ds .entry)) ⌝ }
 {
-    let mut count: usize = 0;
+    let mut dg_out: usize = 0;
+    let mut ds_out: usize = 0;
     let mut i = 0;
-    while i < numbers.len() {
-        if !doubles::in_range(low, high, numbers[i]) {
-            count += 1;
+    while i < dg.len() {
+        if !doubles::in_range(-DG, DG, dg[i]) {
+            dg_out += 1;
+        }
+        if !doubles::in_range(-DS, DS, ds[i]) {
+            ds_out += 1;
         }
         i += 1;
     }
-    0 < count
-}
-
-// Whether a cell of either table is out of its range.
-fn cells_out(dg: &[f64], ds: &[f64]) -> bool
-    ensures { λ r. ⌜ r ≡ cellsOut (now (dg .entry)) (now (ds .entry)) ⌝ }
-{
-    any_outside(-DG, DG, dg) || any_outside(-DS, DS, ds)
+    if 0 < dg_out {
+        return true;
+    }
+    0 < ds_out
 }
 
 // Whether RT or an excess is out of its range.
@@ -140,9 +122,9 @@ fn first_unfit(
 {
     let mut strand = 0;
     while strand < strands {
-        if is_friend_somewhere(scaffold, glues, dg, ds, strand) {
-            let potential = potential_of(potentials, strand);
-            if !doubles::in_range(-POTENTIAL, POTENTIAL, potential) {
+        let potential = potential_of(potentials, strand);
+        if !doubles::in_range(-POTENTIAL, POTENTIAL, potential) {
+            if is_friend_somewhere(scaffold, glues, dg, ds, strand) {
                 return strand;
             }
         }
@@ -156,7 +138,7 @@ fn null_cells(dg: &[f64], ds: &[f64]) -> bool
     ensures { λ r. ⌜ r ≡ any (nullCells (now (dg .entry)) (now (ds .entry))) (upTo 64) ⌝ }
 {
     let mut glue: u8 = 0;
-    while glue < GLUES {
+    while glue <= LAST_GLUE {
         if binds(dg, ds, 0, glue) {
             return true;
         }
@@ -184,8 +166,9 @@ fn null_binds(glues: &[u8], dg: &[f64], ds: &[f64]) -> bool
     null_cells(dg, ds)
 }
 
-// The first check of a design that holds.
+// The first check of a design that holds, with what the call itself finds wrong with a size.
 pub fn design_reply(
+    own_size: bool,
     scaffold: &[u8],
     glues: &[u8],
     dg: &[f64],
@@ -193,23 +176,18 @@ pub fn design_reply(
     potentials: &[f64],
     ambient: Ambient,
 ) -> Reply
-    ensures { λ r. ⌜ r ≡ firstOf (designChecks false (lent (scaffold .entry) (glues .entry) (dg .entry) (ds .entry) (potentials .entry) ambient) []) ⌝ }
+    ensures { λ r. ⌜ r ≡ firstOf (designChecks «own_size» (lent (scaffold .entry) (glues .entry) (dg .entry) (ds .entry) (potentials .entry) ambient) []) ⌝ }
 {
+    if own_size {
+        return Reply::Refused(Refusal::WrongSize, Place::Nowhere);
+    }
     if wrong_sizes(scaffold, glues, dg, ds, potentials) {
-        return Reply::Refused(Refusal::WrongSize);
-    }
-    if cells_out(dg, ds) {
-        return Reply::Refused(Refusal::OutOfRange);
-    }
-    if ambient_out(ambient) {
-        return Reply::Refused(Refusal::OutOfRange);
+        return Reply::Refused(Refusal::WrongSize, Place::Nowhere);
     }
     let strands = potentials.len() as u8;
-    if first_unfit(scaffold, glues, dg, ds, potentials, strands) < strands {
-        return Reply::Refused(Refusal::OutOfRange);
-    }
-    if null_binds(glues, dg, ds) {
-        return Reply::Refused(Refusal::NullBinds);
-    }
-    Reply::Admitted
+    let unfit = first_unfit(scaffold, glues, dg, ds, potentials, strands);
+    refused_if(Refusal::OutOfRange, cells_out(dg, ds))
+        .or(refused_if(Refusal::OutOfRange, ambient_out(ambient)))
+        .or(refused_if(Refusal::OutOfRange, unfit < strands))
+        .or(refused_if(Refusal::NullBinds, null_binds(glues, dg, ds)))
 }

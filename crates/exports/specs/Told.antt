@@ -2,7 +2,8 @@
 use mathlib.Core.Path.{_≡_}
 use Prim.Native.Nat.{ℕ}
 use lib.Ieee.{Float}
-use Rattle.design.specs.Answers.{Figures, Chain}
+use Rattle.reply.specs.Figures.{Figures}
+use Rattle.design.specs.Answers.{Chain}
 use Rattle.exports.specs.Place.{placeNumber}
 
 -- the number, the place and the figure are the answer's

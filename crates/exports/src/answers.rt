@@ -1,19 +1,15 @@
 // A design's answers told to C, all of them here: the reply number is the result, the place and the figures go through pointers. A refusal
 // has no figure: 0.
 ghost use mathlib.Core.Path.{_≡_};
-ghost use Rattle.design.specs.Answers.{Chain};
-ghost use Rattle.sdc1d.specs.Figures.{bondFigures, friendsFigures, countFigures, stateFigures, energyFigures, chainFigures};
-ghost use Rattle.mfe.specs.Answers.{settledFigures};
+ghost use Rattle.reply.specs.Figures.{replyFigures};
+ghost use Rattle.design.specs.Answers.{bondFigures, countFigures, energyFigures, chainFigures};
 ghost use Rattle.exports.specs.Told.{Told, chainOf};
 use super::place;
-use mfe::Settled;
+use design::answers::BondAnswer;
+use design::answers::ChainAnswer;
+use design::answers::CountAnswer;
+use design::answers::EnergyAnswer;
 use reply::Reply;
-use sdc1d::BondAnswer;
-use sdc1d::ChainAnswer;
-use sdc1d::CountAnswer;
-use sdc1d::EnergyAnswer;
-use sdc1d::FriendsAnswer;
-use sdc1d::StateAnswer;
 
 // A bond.
 pub(crate) fn tell_bond(answer: BondAnswer, place: &mut u64, bond: &mut f64) -> u32
@@ -33,30 +29,12 @@ pub(crate) fn tell_bond(answer: BondAnswer, place: &mut u64, bond: &mut f64) -> 
     }
 }
 
-// How many friends there are.
-pub(crate) fn tell_friends(answer: FriendsAnswer, place: &mut u64, count: &mut u64) -> u32
-    ensures { λ r. ⌜ Told (friendsFigures answer) r (now (place .exit)) (now (count .exit)) ⌝ }
-{
-    match answer {
-        FriendsAnswer::Friends(given) => {
-            *place = place::NOWHERE;
-            *count = given as u64;
-            Reply::Admitted.number()
-        }
-        FriendsAnswer::Refused(refusal, at) => {
-            *place = place::number(at);
-            *count = 0;
-            refusal.number()
-        }
-    }
-}
-
-// How many states there are.
+// How many friends or states there are.
 pub(crate) fn tell_count(answer: CountAnswer, place: &mut u64, count: &mut u64) -> u32
     ensures { λ r. ⌜ Told (countFigures answer) r (now (place .exit)) (now (count .exit)) ⌝ }
 {
     match answer {
-        CountAnswer::States(given) => {
+        CountAnswer::Count(given) => {
             *place = place::NOWHERE;
             *count = given;
             Reply::Admitted.number()
@@ -70,22 +48,22 @@ pub(crate) fn tell_count(answer: CountAnswer, place: &mut u64, count: &mut u64) 
 }
 
 // A state, which stands in the lent entries.
-pub(crate) fn tell_state(answer: StateAnswer, place: &mut u64) -> u32
-    ensures { λ r. ⌜ Told (stateFigures answer) r (now (place .exit)) tt ⌝ }
+pub(crate) fn tell_state(answer: Reply, place: &mut u64) -> u32
+    ensures { λ r. ⌜ Told (replyFigures answer) r (now (place .exit)) tt ⌝ }
 {
     match answer {
-        StateAnswer::Written => {
+        Reply::Admitted => {
             *place = place::NOWHERE;
             Reply::Admitted.number()
         }
-        StateAnswer::Refused(refusal, at) => {
+        Reply::Refused(refusal, at) => {
             *place = place::number(at);
             refusal.number()
         }
     }
 }
 
-// The state energy.
+// The state energy, or that of the configuration that stands in the lent entries.
 pub(crate) fn tell_energy(answer: EnergyAnswer, place: &mut u64, energy: &mut f64) -> u32
     ensures { λ r. ⌜ Told (energyFigures answer) r (now (place .exit)) (now (energy .exit)) ⌝ }
 {
@@ -122,24 +100,6 @@ pub(crate) fn tell_chain(
         ChainAnswer::Refused(refusal, at) => {
             *place = place::number(at);
             *sum = 0.0;
-            *energy = 0.0;
-            refusal.number()
-        }
-    }
-}
-
-// The energy of the configuration that stands in the lent entries.
-pub(crate) fn tell_settled(answer: Settled, place: &mut u64, energy: &mut f64) -> u32
-    ensures { λ r. ⌜ Told (settledFigures answer) r (now (place .exit)) (now (energy .exit)) ⌝ }
-{
-    match answer {
-        Settled::Energy(lowest) => {
-            *place = place::NOWHERE;
-            *energy = lowest.0;
-            Reply::Admitted.number()
-        }
-        Settled::Refused(refusal, at) => {
-            *place = place::number(at);
             *energy = 0.0;
             refusal.number()
         }

@@ -106,7 +106,7 @@ pub extern "C" fn mj_friends(
     ensures { λ r. ⌜ Told (friendsAnswer (lentAt (scaffold .entry) (glues .entry) (dg .entry) (ds .entry) (potentials .entry) rt «strand_excess» «scaffold_excess») position (now (entries .entry))) r (now (place .exit)) (now (count .exit)) ⌝ }
     ensures { λ r. ⌜ now (entries .exit) ≡ friendsEntries (lentAt (scaffold .entry) (glues .entry) (dg .entry) (ds .entry) (potentials .entry) rt «strand_excess» «scaffold_excess») position (now (entries .entry)) ⌝ }
 {
-    answers::tell_friends(
+    answers::tell_count(
         sdc1d::friends_btm(
             scaffold,
             glues,

@@ -26,7 +26,7 @@ pub extern "C" fn mj_search(
     ensures { λ r. ⌜ now (configuration .exit) ≡ searchEntries (lentAt (scaffold .entry) (glues .entry) (dg .entry) (ds .entry) (potentials .entry) rt «strand_excess» «scaffold_excess») (now (configuration .entry)) ⌝ }
     ensures { λ r. ⌜ LowestTold (lentAt (scaffold .entry) (glues .entry) (dg .entry) (ds .entry) (potentials .entry) rt «strand_excess» «scaffold_excess») r (now (configuration .exit)) (now (energy .exit)) ⌝ }
 {
-    answers::tell_settled(
+    answers::tell_energy(
         mfe::mfe_configuration(
             scaffold,
             glues,

@@ -9,7 +9,7 @@ use native.Mathlib.Numerals.{add-one}
 use lib.Dec.{ltb}
 use lib.ListN.{length, getD, drop, drop-of-length-le}
 use lib.Seq.{drop-cons}
-use borrow.Author.Tests.{lt-ltb}
+use borrow.Author.Tests.{lt-ltb, ltb-true, ltb-false}
 use Rattle.lists.specs.Find.{any, firstIndex}
 use Rattle.lists.specs.Build.{upTo}
 use Rattle.lists.proofs.Tests.{neither}
@@ -45,6 +45,17 @@ module _ {A : Type 0} (p : A → Bool) (xs : List A) {r : ℕ} (e : r ≡ firstI
 
   pub not-found : length xs ≤ r → any p xs ≡ false
   not-found h = any-false p xs (rw e at h)
+
+-- the same of the numbers below n
+pub found-below : (p : ℕ → Bool) (n : ℕ) {r : ℕ} → r ≡ firstIndex p (upTo n) → ltb r n ≡ any p (upTo n)
+found-below p n {r} e = go (ltb r n) refl
+  where
+    sized : length (upTo n) ≡ n
+    sized = length-tabulate n (λ k. k)
+
+    go : (b : Bool) → ltb r n ≡ b → ltb r n ≡ any p (upTo n)
+    go true h = h ∙ sym (found p (upTo n) e (rw sized (ltb-true r n h)))
+    go false h = h ∙ sym (not-found p (upTo n) e (rw sized (ltb-false r n h)))
 
 -- a loop that counts those that pass, and compares the count with 0
 module _ {A : Type 0} (p : A → Bool) (xs : List A) (i count : ℕ) where

@@ -10,5 +10,5 @@ use Rattle.mfe.proofs.Answered.{number-passed, lent-right, reply}
 pub search-near-lowest : SearchNearLowest
 search-near-lowest d entries doubles e t v =
     let p = number-passed d entries e in
-    let a = p .admitted in
+    let a = p .design in
     rw (reply d entries a (lent-right d entries p)) (two-energies (modelOf d) (strands d) (bounds-right d doubles a) (null-bonds d doubles a) .searched t v)

@@ -1,4 +1,4 @@
--- What the search answers: document 01's number and figures of an answer's cases, and what they and the lent entries are of a design.
+-- What the search answers of a design and of the lent entries: document 01's number and figure, and what stands in the entries afterwards.
 use mathlib.Core.Path.{_≡_}
 use mathlib.Core.Bool.{not}
 use mathlib.Core.List.{List, []}
@@ -7,32 +7,27 @@ use lib.Dec.{eqb}
 use lib.ListN.{length}
 use lib.Ieee.{Float}
 use Rattle.doubles.specs.Decimal.{zero}
-use Rattle.reply.specs.Number.{numberOf}
-use Rattle.reply.specs.First.{Check, firstOf, answer}
+use Rattle.reply.specs.First.{Check, firstOf}
+use Rattle.reply.specs.Figures.{Figures, figuresOf, entriesOf}
 use Rattle.model.specs.Search.{search}
 use Rattle.model.specs.LowestConfiguration.{LowestConfiguration}
 use Rattle.design.specs.Design.{Design, positions, modelOf}
 use Rattle.design.specs.Checks.{Admitted, designChecks}
-use Rattle.design.specs.Answers.{Figures, given, refused}
-use Rattle.mfe.specs.declared.Settled.{Settled}
+use Rattle.design.specs.Answers.{energyFigures}
+use Rattle.design.specs.declared.answers.EnergyAnswer.{EnergyAnswer}
 
 -- the configuration is written into one lent entry for each position; no check has a number above 10
 abbrev pub searchChecks : Design → List ℕ → List Check
 searchChecks d entries = designChecks (not (eqb (length entries) (positions d))) d []
 
--- an answer of the code as its number and figures
-abbrev pub settledFigures : Settled → Figures Float
-settledFigures (Settled.Energy energy) = given (energy .0)
-settledFigures (Settled.Refused refusal place) = record { number = numberOf refusal; place = place; figure = zero }
-
 -- the answer of `mfe_configuration`
 abbrev pub searchAnswer : Design → List ℕ → Figures Float
-searchAnswer d entries = answer (firstOf (searchChecks d entries)) (refused zero) (given (search (modelOf d) .energy))
+searchAnswer d entries = figuresOf (firstOf (searchChecks d entries)) zero (search (modelOf d) .energy)
 
 -- the lent entries afterwards
 abbrev pub searchEntries : Design → List ℕ → List ℕ
-searchEntries d entries = answer (firstOf (searchChecks d entries)) (λ _. entries) (search (modelOf d) .configuration)
+searchEntries d entries = entriesOf (firstOf (searchChecks d entries)) entries (search (modelOf d) .configuration)
 
 -- Demand 3: of every admitted design, with an entry lent for each position, the lowest configuration is written and its energy answered.
-abbrev pub LowestShown : Design → List ℕ → List ℕ → Settled → Type 0
-LowestShown d entries written r = Admitted d → length entries ≡ positions d → LowestConfiguration (modelOf d) written (settledFigures r .figure)
+abbrev pub LowestShown : Design → List ℕ → List ℕ → EnergyAnswer → Type 0
+LowestShown d entries written r = Admitted d → length entries ≡ positions d → LowestConfiguration (modelOf d) written (energyFigures r .figure)

@@ -1,22 +1,183 @@
-// The search for the lowest configuration of a design (sdc1d.rs, `mfe_configuration`).
-mod bonds;
-mod friends;
-mod matrix;
-
-use reply::Place;
-use reply::Refusal;
+// The search for the lowest configuration of a design (sdc1d.rs, `mfe_configuration`): the design's checks, its options and bonds, and the search over
+// these. A local table is zeroed before it is filled, so a small design takes a small one.
+use design::answers::EnergyAnswer;
+use design::checks::design_reply;
+use design::needed::fill_needed_scaffold_bonds;
+use design::needed::fill_read_strand_bonds;
+use design::options::fill_options;
+use ensemble::lowest::lowest;
 use reply::Reply;
 use units::Ambient;
 use units::KcalPerMol;
 ghost use mathlib.Core.Path.{_≡_};
-ghost use Rattle.design.specs.Design.{lent};
-ghost use Rattle.mfe.specs.Answers.{settledFigures, searchAnswer, searchEntries, LowestShown};
+ghost use Prim.Native.Nat.{_*_, _≤_};
+ghost use lib.ListN.{length};
+ghost use Rattle.ensemble.specs.Layout.{Found};
+ghost use Rattle.design.specs.Design.{lent, modelOf};
+ghost use Rattle.design.specs.Checks.{Admitted};
+ghost use Rattle.design.specs.Answers.{energyFigures};
+ghost use Rattle.mfe.specs.Answers.{searchAnswer, searchEntries, LowestShown};
 
-// The energy of the lowest configuration, or why there is none.
-pub enum Settled {
-    // The configuration stands in the lent entries.
-    Energy(KcalPerMol),
-    Refused(Refusal, Place),
+// Options and bonds of an admitted design, the bonds into lent cells, and the search over them.
+fn settled(
+    scaffold: &[u8],
+    glues: &[u8],
+    dg: &[f64],
+    ds: &[f64],
+    potentials: &[f64],
+    ambient: Ambient,
+    strand_bonds: &mut [f64],
+    scaffold_bonds: &mut [f64],
+    configuration: &mut [u8],
+) -> KcalPerMol
+    requires { ⌜ Admitted (lent scaffold glues dg ds potentials ambient) ⌝ }
+    requires { ⌜ length (now potentials) * length (now potentials) ≤ length (now «strand_bonds») ⌝ }
+    requires { ⌜ length (now scaffold) * length (now potentials) ≤ length (now «scaffold_bonds») ⌝ }
+    requires { ⌜ length (now configuration) ≡ length (now scaffold) ⌝ }
+    ensures { λ r. ⌜ Found (modelOf (lent (scaffold .entry) (glues .entry) (dg .entry) (ds .entry) (potentials .entry) ambient)) (now (configuration .exit)) (r .0) ⌝ }
+{
+    let positions = scaffold.len();
+    let strands = potentials.len();
+    let mut rows = [0u8; 8192];
+    let mut counts = [0u8; 128];
+    fill_options(
+        scaffold,
+        glues,
+        dg,
+        ds,
+        strands as u8,
+        &mut rows,
+        &mut counts[0..positions],
+    );
+    fill_read_strand_bonds(
+        &rows,
+        &counts[0..positions],
+        glues,
+        dg,
+        ds,
+        ambient,
+        strands,
+        strand_bonds,
+    );
+    fill_needed_scaffold_bonds(
+        &rows,
+        &counts[0..positions],
+        scaffold,
+        glues,
+        dg,
+        ds,
+        ambient,
+        strands,
+        scaffold_bonds,
+    );
+    lowest(
+        &rows,
+        &counts[0..positions],
+        strand_bonds,
+        scaffold_bonds,
+        potentials,
+        ambient.rt,
+        configuration,
+    )
+}
+
+// The same with a table of scaffold bonds that is large enough.
+fn with_scaffold_bonds(
+    scaffold: &[u8],
+    glues: &[u8],
+    dg: &[f64],
+    ds: &[f64],
+    potentials: &[f64],
+    ambient: Ambient,
+    strand_bonds: &mut [f64],
+    configuration: &mut [u8],
+) -> KcalPerMol
+    requires { ⌜ Admitted (lent scaffold glues dg ds potentials ambient) ⌝ }
+    requires { ⌜ length (now potentials) * length (now potentials) ≤ length (now «strand_bonds») ⌝ }
+    requires { ⌜ length (now configuration) ≡ length (now scaffold) ⌝ }
+    ensures { λ r. ⌜ Found (modelOf (lent (scaffold .entry) (glues .entry) (dg .entry) (ds .entry) (potentials .entry) ambient)) (now (configuration .exit)) (r .0) ⌝ }
+{
+    let cells = scaffold.len() * potentials.len();
+    if cells <= 256 {
+        let mut few = [0.0; 256];
+        return settled(
+            scaffold,
+            glues,
+            dg,
+            ds,
+            potentials,
+            ambient,
+            strand_bonds,
+            &mut few,
+            configuration,
+        );
+    }
+    if cells <= 2048 {
+        let mut some = [0.0; 2048];
+        return settled(
+            scaffold,
+            glues,
+            dg,
+            ds,
+            potentials,
+            ambient,
+            strand_bonds,
+            &mut some,
+            configuration,
+        );
+    }
+    let mut all = [0.0; 8192];
+    settled(
+        scaffold,
+        glues,
+        dg,
+        ds,
+        potentials,
+        ambient,
+        strand_bonds,
+        &mut all,
+        configuration,
+    )
+}
+
+// The same with a table of strand bonds that is large enough.
+fn searched(
+    scaffold: &[u8],
+    glues: &[u8],
+    dg: &[f64],
+    ds: &[f64],
+    potentials: &[f64],
+    ambient: Ambient,
+    configuration: &mut [u8],
+) -> KcalPerMol
+    requires { ⌜ Admitted (lent scaffold glues dg ds potentials ambient) ⌝ }
+    requires { ⌜ length (now configuration) ≡ length (now scaffold) ⌝ }
+    ensures { λ r. ⌜ Found (modelOf (lent (scaffold .entry) (glues .entry) (dg .entry) (ds .entry) (potentials .entry) ambient)) (now (configuration .exit)) (r .0) ⌝ }
+{
+    if potentials.len() <= 16 {
+        let mut few = [0.0; 256];
+        return with_scaffold_bonds(
+            scaffold,
+            glues,
+            dg,
+            ds,
+            potentials,
+            ambient,
+            &mut few,
+            configuration,
+        );
+    }
+    let mut all = [0.0; 4096];
+    with_scaffold_bonds(
+        scaffold,
+        glues,
+        dg,
+        ds,
+        potentials,
+        ambient,
+        &mut all,
+        configuration,
+    )
 }
 
 // The lowest configuration, into one lent entry for each position, 0 for an empty place; and its energy.
@@ -28,41 +189,17 @@ pub fn mfe_configuration(
     potentials: &[f64],
     ambient: Ambient,
     configuration: &mut [u8],
-) -> Settled
-    ensures { λ r. ⌜ settledFigures r ≡ searchAnswer (lent (scaffold .entry) (glues .entry) (dg .entry) (ds .entry) (potentials .entry) ambient) (now (configuration .entry)) ⌝ }
+) -> EnergyAnswer
+    ensures { λ r. ⌜ energyFigures r ≡ searchAnswer (lent (scaffold .entry) (glues .entry) (dg .entry) (ds .entry) (potentials .entry) ambient) (now (configuration .entry)) ⌝ }
     ensures { λ r. ⌜ now (configuration .exit) ≡ searchEntries (lent (scaffold .entry) (glues .entry) (dg .entry) (ds .entry) (potentials .entry) ambient) (now (configuration .entry)) ⌝ }
     ensures { λ r. ⌜ LowestShown (lent (scaffold .entry) (glues .entry) (dg .entry) (ds .entry) (potentials .entry) ambient) (now (configuration .entry)) (now (configuration .exit)) r ⌝ }
 {
-    if configuration.len() != scaffold.len() {
-        return Settled::Refused(Refusal::WrongSize, Place::Nowhere);
-    }
-    match design::checks::design_reply(scaffold, glues, dg, ds, potentials, ambient) {
-        Reply::Refused(refusal) => Settled::Refused(refusal, Place::Nowhere),
+    let own_size = configuration.len() != scaffold.len();
+    match design_reply(own_size, scaffold, glues, dg, ds, potentials, ambient) {
+        Reply::Refused(refusal, place) => EnergyAnswer::Refused(refusal, place),
         Reply::Admitted => {
-            let strands = potentials.len();
-            let mut strand_bonds = [0.0; 4096];
-            bonds::strand_bonds(glues, dg, ds, ambient, strands, &mut strand_bonds);
-            let mut scaffold_bonds = [0.0; 8192];
-            bonds::scaffold_bonds(
-                scaffold,
-                glues,
-                dg,
-                ds,
-                ambient,
-                strands,
-                &mut scaffold_bonds,
-            );
-            Settled::Energy(matrix::lowest(
-                scaffold,
-                glues,
-                dg,
-                ds,
-                potentials,
-                ambient.rt,
-                &strand_bonds,
-                &scaffold_bonds,
-                configuration,
-            ))
+            let energy = searched(scaffold, glues, dg, ds, potentials, ambient, configuration);
+            EnergyAnswer::Energy(energy)
         }
     }
 }

@@ -5,7 +5,8 @@ use Prim.Native.Nat.{ℕ}
 use lib.Ieee.{Float, binary64, toBits}
 use lib.ListN.{take}
 use Rattle.design.specs.Design.{Design}
-use Rattle.design.specs.Answers.{Figures, strandBondAnswer, scaffoldBondAnswer, friendsAnswer, friendsEntries, countAnswer, rankAnswer, rankEntries, stateEnergyAnswer, chainEnergyAnswer}
+use Rattle.reply.specs.Figures.{Figures}
+use Rattle.design.specs.Answers.{strandBondAnswer, scaffoldBondAnswer, friendsAnswer, friendsEntries, countAnswer, rankAnswer, rankEntries, stateEnergyAnswer, chainEnergyAnswer}
 use Rattle.mfe.specs.Answers.{searchAnswer, searchEntries}
 use Rattle.replay.specs.Text.{Decimal}
 use Rattle.replay.specs.Says.{Says}

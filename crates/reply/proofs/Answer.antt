@@ -7,11 +7,12 @@ use Rattle.reply.specs.Number.{numberOf, answered}
 use Rattle.reply.specs.First.{answer}
 use Rattle.reply.specs.declared.Refusal.{Refusal}
 use Rattle.reply.specs.declared.Refusal.the-variants.{WrongSize, NotABase, TooShort, UnequalLengths, NoSuchLoop, UnknownName, TooManyGlues, DuplicatePair, OutOfRange, NullBinds, NotAFriend, TooManyStates, RankTooHigh, BadDeck}
+use Rattle.reply.specs.declared.Place.{Place}
 use Rattle.reply.specs.declared.Reply.{Reply}
 use Rattle.reply.specs.declared.Reply.the-variants.{Admitted, Refused}
 use Rattle.reply.proofs.Lowest.{same-number}
 
-number-positive : (r : Refusal) → 1 ≤ numberOf r
+pub number-positive : (r : Refusal) → 1 ≤ numberOf r
 number-positive WrongSize = lit≤ tt
 number-positive NotABase = lit≤ tt
 number-positive TooShort = lit≤ tt
@@ -32,13 +33,14 @@ module _ {A : Type 0} (number : A → ℕ) (refused : ℕ → A) (numbered : (n 
   -- a number of 0 is that of an admitted call
   pub is-admitted : (r : Reply) (x : A) → number x ≡ answered → x ≡ answer r refused given → (r ≡ Admitted) × (x ≡ given)
   is-admitted Admitted x e p = (refl, p)
-  is-admitted (Refused why) x e p =
+  is-admitted (Refused why place) x e p =
       let n : number x ≡ numberOf why = ap number p ∙ numbered (numberOf why) in
       absurd (omega (arith, number-positive why))
 
   -- a refusal's number is that of the reply
-  pub is-refused : (r : Reply) (why : Refusal) → number given ≡ answered → refused (numberOf why) ≡ answer r refused given → r ≡ Refused why
+  pub is-refused : (r : Reply) (why : Refusal) → number given ≡ answered → refused (numberOf why) ≡ answer r refused given → (place : Place) × (r ≡ Refused why place)
   is-refused Admitted why g p =
       let n : numberOf why ≡ number given = sym (numbered (numberOf why)) ∙ ap number p in
       absurd (omega (arith, number-positive why))
-  is-refused (Refused q) why g p = ap Refused (same-number (sym (numbered (numberOf q)) ∙ sym (ap number p) ∙ numbered (numberOf why)))
+  is-refused (Refused q place) why g p =
+      (place, ap (λ (x : Refusal). Refused x place) (same-number (sym (numbered (numberOf q)) ∙ sym (ap number p) ∙ numbered (numberOf why))))

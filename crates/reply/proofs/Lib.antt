@@ -2,3 +2,4 @@ pub mod Table
 pub mod Lowest
 pub mod First
 pub mod Answer
+pub mod Figures

@@ -9,10 +9,13 @@ use native.Mathlib.Omega.{arith}
 use lib.Dec.{T, leb, leb→le}
 use lib.ListN.{getD}
 use Rattle.reply.specs.Number.{numberOf}
-use Rattle.reply.specs.First.{Check, firstOf, sorted, Applies, LowestGiven, _if_}
+use Rattle.reply.specs.First.{Check, firstOf, sorted, AppliesAt, Applies, LowestGiven}
 use Rattle.reply.specs.declared.Refusal.{Refusal}
 use Rattle.reply.specs.declared.Refusal.the-variants.{WrongSize, NotABase, TooShort, UnequalLengths, NoSuchLoop, UnknownName, TooManyGlues, DuplicatePair, OutOfRange, NullBinds, NotAFriend, TooManyStates, RankTooHigh, BadDeck}
-use Rattle.reply.specs.declared.Reply.the-variants.{Refused}
+use Rattle.reply.specs.declared.Place.{Place}
+use Rattle.reply.specs.declared.Place.the-variants.{Nowhere}
+use Rattle.reply.specs.declared.Reply.{Reply}
+use Rattle.reply.specs.declared.Reply.the-variants.{Admitted, Refused}
 
 -- the refusal with a given number
 refusalOf : ℕ → Refusal
@@ -42,6 +45,15 @@ numbered BadDeck = refl
 pub same-number : {r q : Refusal} → numberOf r ≡ numberOf q → r ≡ q
 same-number {r} {q} e = sym (numbered r) ∙ ap refusalOf e ∙ numbered q
 
+-- the check behind a refusal: its condition holds
+abbrev applied : Refusal → Place → Check
+applied refusal place = record { refusal = refusal; holds = true; place = place }
+
+-- the same of a reply
+abbrev applied-reply : Reply → Check
+applied-reply Admitted = applied WrongSize Nowhere
+applied-reply (Refused refusal place) = applied refusal place
+
 both : (a b : Bool) → T (a && b) → T a × T b
 both true b t = (tt, t)
 both false b t = absurd t
@@ -52,44 +64,51 @@ tail-sorted c (d ∷ cs) t = both (leb (numberOf (c .refusal)) (numberOf (d .ref
 
 -- the head's number is the least of a sorted list
 head-least : (c : Check) (cs : List Check) → T (sorted (c ∷ cs)) → (r : Refusal) → Applies r (c ∷ cs) → numberOf (c .refusal) ≤ numberOf r
-head-least c [] t r m = here (List·Memᴰ·cases-cons m)
+head-least c [] t r m = here (List·Memᴰ·cases-cons (m .1))
   where
-    here : (r if true ≡ c) ⊎ List·Memᴰ (r if true) [] → numberOf (c .refusal) ≤ numberOf r
+    here : (applied r (m .0) ≡ c) ⊎ List·Memᴰ (applied r (m .0)) [] → numberOf (c .refusal) ≤ numberOf r
     here (inl e) = omega (arith, ap (λ (x : Check). numberOf (x .refusal)) e)
     here (inr n) = absurd (List·Memᴰ·not-nil n)
-head-least c (d ∷ cs) t r m = here (head-least d cs (s .1) r) (List·Memᴰ·cases-cons m)
+head-least c (d ∷ cs) t r m = here (λ n. head-least d cs (s .1) r (m .0, n)) (List·Memᴰ·cases-cons (m .1))
   where
     s : T (leb (numberOf (c .refusal)) (numberOf (d .refusal))) × T (sorted (d ∷ cs))
     s = both (leb (numberOf (c .refusal)) (numberOf (d .refusal))) (sorted (d ∷ cs)) t
 
-    here : (Applies r (d ∷ cs) → numberOf (d .refusal) ≤ numberOf r) → (r if true ≡ c) ⊎ Applies r (d ∷ cs) → numberOf (c .refusal) ≤ numberOf r
+    here : (AppliesAt r (m .0) (d ∷ cs) → numberOf (d .refusal) ≤ numberOf r) → (applied r (m .0) ≡ c) ⊎ AppliesAt r (m .0) (d ∷ cs) → numberOf (c .refusal) ≤ numberOf r
     here below (inl e) = omega (arith, ap (λ (x : Check). numberOf (x .refusal)) e)
     here below (inr n) = le-trans (leb→le _ _ (s .0)) (below n)
 
 -- a check whose condition fails applies to nothing
-pass : {o f : Refusal} {cs : List Check} → Applies o (f if false ∷ cs) → Applies o cs
-pass {o} {f} {cs} m = rest (List·Memᴰ·cases-cons m)
+pass : {o f : Refusal} {p : Place} {cs : List Check} → Applies o (record { refusal = f; holds = false; place = p } ∷ cs) → Applies o cs
+pass {o} {f} {p} {cs} m = (m .0, rest (List·Memᴰ·cases-cons (m .1)))
   where
-    rest : (o if true ≡ f if false) ⊎ Applies o cs → Applies o cs
+    rest : (applied o (m .0) ≡ record { refusal = f; holds = false; place = p }) ⊎ AppliesAt o (m .0) cs → AppliesAt o (m .0) cs
     rest (inl e) = absurd (subst T (ap (λ (x : Check). x .holds) e) tt)
     rest (inr n) = n
 
-step : (f : Refusal) (h : Bool) (cs : List Check) → T (sorted (f if h ∷ cs)) → LowestGiven cs (firstOf cs) → LowestGiven (f if h ∷ cs) (firstOf (f if h ∷ cs))
-step f true cs t below =
+later : {o : Refusal} {c : Check} {cs : List Check} → Applies o cs → Applies o (c ∷ cs)
+later m = (m .0, List·Memᴰ·tail (m .1))
+
+step :
+    (f : Refusal) (h : Bool) (p : Place) (cs : List Check)
+    → T (sorted (record { refusal = f; holds = h; place = p } ∷ cs))
+    → LowestGiven cs (firstOf cs)
+    → LowestGiven (record { refusal = f; holds = h; place = p } ∷ cs) (firstOf (record { refusal = f; holds = h; place = p } ∷ cs))
+step f true p cs t below =
     record {
-      applies = λ r e. List·Memᴰ·head (ap (λ (x : Refusal). x if true) (sym (same r e)));
-      lowest = λ r e o m. subst (λ (x : Refusal). numberOf x ≤ numberOf o) (same r e) (head-least (f if true) cs t o m);
-      given = λ r m least. ap Refused (same-number (le-antisymm (head-least (f if true) cs t r m) (least f (List·Memᴰ·head refl))));
+      applies = λ r q e. List·Memᴰ·head (sym (told r q e));
+      lowest = λ r q e o m. subst (λ (x : Check). numberOf (x .refusal) ≤ numberOf o) (told r q e) (head-least (applied f p) cs t o m);
+      given = λ r m least. le-antisymm (head-least (applied f p) cs t r m) (least f (p, List·Memᴰ·head refl));
       none = λ e. absurd (let z : _≡_ {A = ℕ} 0 1 = cc in omega arith);
     }
   where
-    same : (r : Refusal) → Refused f ≡ Refused r → f ≡ r
-    same r e = cc
-step f false cs t below =
+    told : (r : Refusal) (q : Place) → Refused f p ≡ Refused r q → applied f p ≡ applied r q
+    told r q e = ap applied-reply e
+step f false p cs t below =
     record {
-      applies = λ r e. List·Memᴰ·tail (below .applies r e);
-      lowest = λ r e o m. below .lowest r e o (pass m);
-      given = λ r m least. below .given r (pass m) (λ o n. least o (List·Memᴰ·tail n));
+      applies = λ r q e. List·Memᴰ·tail (below .applies r q e);
+      lowest = λ r q e o m. below .lowest r q e o (pass m);
+      given = λ r m least. below .given r (pass m) (λ o n. least o (later n));
       none = λ e r m. below .none e r (pass m);
     }
 
@@ -97,9 +116,9 @@ step f false cs t below =
 pub lowest-given : (checks : List Check) → T (sorted checks) → LowestGiven checks (firstOf checks)
 lowest-given [] t =
     record {
-      applies = λ r e. absurd (let z : _≡_ {A = ℕ} 0 1 = cc in omega arith);
-      lowest = λ r e o m. absurd (List·Memᴰ·not-nil m);
-      given = λ r m least. absurd (List·Memᴰ·not-nil m);
-      none = λ e r m. List·Memᴰ·not-nil m;
+      applies = λ r q e. absurd (let z : _≡_ {A = ℕ} 0 1 = cc in omega arith);
+      lowest = λ r q e o m. absurd (List·Memᴰ·not-nil (m .1));
+      given = λ r m least. absurd (List·Memᴰ·not-nil (m .1));
+      none = λ e r m. List·Memᴰ·not-nil (m .1);
     }
-lowest-given (c ∷ cs) t = step (c .refusal) (c .holds) cs t (lowest-given cs (tail-sorted c cs t))
+lowest-given (c ∷ cs) t = step (c .refusal) (c .holds) (c .place) cs t (lowest-given cs (tail-sorted c cs t))

@@ -29,4 +29,4 @@ answered = 0
 -- the number of a reply
 abbrev pub replyNumber : Reply → ℕ
 replyNumber Admitted = answered
-replyNumber (Refused refusal) = numberOf refusal
+replyNumber (Refused refusal place) = numberOf refusal

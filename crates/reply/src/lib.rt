@@ -1,6 +1,10 @@
 // Refusals: why a call is not answered, under document 01's numbers, which stand nowhere else.
+pub mod limits;
+
 ghost use mathlib.Core.Path.{_≡_};
+ghost use mathlib.Core.List.{[], _∷_};
 ghost use Rattle.reply.specs.Number.{numberOf, replyNumber};
+ghost use Rattle.reply.specs.First.{firstOf, _if_, _orElse_};
 
 // Each with document 01's trade word.
 pub enum Refusal {
@@ -40,10 +44,10 @@ pub enum Place {
     At(usize),
 }
 
-// What a call replies: its checks pass, or it refuses.
+// What a call replies: its checks pass, or it refuses, and where the fault lies if the refusal says so.
 pub enum Reply {
     Admitted,
-    Refused(Refusal),
+    Refused(Refusal, Place),
 }
 
 impl Refusal {
@@ -77,7 +81,27 @@ impl Reply {
     {
         match self {
             Reply::Admitted => 0,
-            Reply::Refused(refusal) => refusal.number(),
+            Reply::Refused(refusal, _) => refusal.number(),
         }
     }
+
+    // This refusal, or else what the next check replies.
+    pub fn or(self, next: Reply) -> Reply
+        ensures { λ r. ⌜ r ≡ self orElse next ⌝ }
+    {
+        match self {
+            Reply::Admitted => next,
+            Reply::Refused(refusal, place) => Reply::Refused(refusal, place),
+        }
+    }
+}
+
+// A refusal where its condition holds, with no place.
+pub fn refused_if(refusal: Refusal, holds: bool) -> Reply
+    ensures { λ r. ⌜ r ≡ firstOf (refusal if holds ∷ []) ⌝ }
+{
+    if holds {
+        return Reply::Refused(refusal, Place::Nowhere);
+    }
+    Reply::Admitted
 }

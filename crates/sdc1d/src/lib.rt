@@ -2,64 +2,81 @@
 //
 // What the Rust reads off `self` is lent in six parameters, in one order: the scaffold's glues, three glues for each strand, the dG and the dS
 // table, a potential for each strand, and the ambient.
-mod energies;
-mod friends;
-mod states;
+mod strangers;
 
+use design::answers::BondAnswer;
+use design::answers::ChainAnswer;
+use design::answers::CountAnswer;
+use design::answers::EnergyAnswer;
 use design::bonds::scaffold_bond;
 use design::bonds::strand_bond;
 use design::checks::design_reply;
+use design::options::fill_options;
+use design::options::write_friends;
+use design::reads::byte_at;
+use design::terms::fill_terms;
+use ensemble::energies::chain_sum;
+use ensemble::energies::state_sum;
+use ensemble::states::MOST_STATES;
+use ensemble::states::state_count;
+use ensemble::states::write_state;
 use reply::Place;
 use reply::Refusal;
 use reply::Reply;
-use states::MOST_STATES;
+use reply::limits::POSITIONS;
+use reply::limits::STRANDS;
+use reply::refused_if;
+use strangers::first_stranger;
 use units::Ambient;
-use units::KcalPerMol;
+ghost use mathlib.Core.Bool.{_||_};
 ghost use mathlib.Core.Path.{_≡_};
-ghost use Rattle.design.specs.Design.{lent};
-ghost use Rattle.design.specs.Answers.{strandBondAnswer, scaffoldBondAnswer, friendsAnswer, friendsEntries, countAnswer, rankAnswer, rankEntries, stateEnergyAnswer, chainEnergyAnswer};
-ghost use Rattle.sdc1d.specs.Figures.{bondFigures, friendsFigures, countFigures, stateFigures, energyFigures, chainFigures};
+ghost use Prim.Native.Nat.{_*_, _≤_, min};
+ghost use lib.ListN.{length};
+ghost use Rattle.reply.specs.First.{firstOf};
+ghost use Rattle.reply.specs.Figures.{replyFigures};
+ghost use Rattle.model.specs.States.{count};
+ghost use Rattle.ensemble.specs.Layout.{OptionRows};
+ghost use Rattle.design.specs.Design.{lent, modelOf};
+ghost use Rattle.design.specs.Checks.{Admitted, energyChecks};
+ghost use Rattle.design.specs.Answers.{bondFigures, countFigures, energyFigures, chainFigures, strandBondAnswer, scaffoldBondAnswer, friendsAnswer, friendsEntries, countAnswer, rankAnswer, rankEntries, stateEnergyAnswer, chainEnergyAnswer};
 
-// The entries that friends are written into: one for each strand that a design may have.
-const FRIENDS: usize = 64;
+// The options of all positions, a row of 64 for each.
+const OPTIONS: usize = 8192;
 
-// A bond is a plain number: an energy over RT.
-pub enum BondAnswer {
-    Bond(f64),
-    Refused(Refusal, Place),
+// Whether one of two conditions holds. As a function of its own it gives the proofs an equation.
+fn either(a: bool, b: bool) -> bool
+    ensures { λ r. ⌜ r ≡ (a || b) ⌝ }
+{
+    a || b
 }
 
-// The friends of a position, or why there are none.
-pub enum FriendsAnswer {
-    // How many there are; they stand in the first lent entries.
-    Friends(usize),
-    Refused(Refusal, Place),
-}
-
-// The number of states, or why it is not given.
-pub enum CountAnswer {
-    States(u64),
-    Refused(Refusal, Place),
-}
-
-// The state at a rank, or why there is none.
-pub enum StateAnswer {
-    // The state stands in the lent entries.
-    Written,
-    Refused(Refusal, Place),
-}
-
-// The state energy, or why there is none.
-pub enum EnergyAnswer {
-    Energy(KcalPerMol),
-    Refused(Refusal, Place),
-}
-
-// The chain energy, or why there is none.
-pub enum ChainAnswer {
-    // The sum as it is, a plain number, and times RT.
-    Energy(f64, KcalPerMol),
-    Refused(Refusal, Place),
+// The options of an admitted design, a row of 64 for each position, and how many states they give; one past the limit where these are more.
+fn count_options(
+    scaffold: &[u8],
+    glues: &[u8],
+    dg: &[f64],
+    ds: &[f64],
+    potentials: &[f64],
+    ambient: Ambient,
+    rows: &mut [u8],
+    counts: &mut [u8],
+) -> u64
+    requires { ⌜ Admitted (lent scaffold glues dg ds potentials ambient) ⌝ }
+    requires { ⌜ 64 * length (now scaffold) ≤ length (now rows) ⌝ }
+    requires { ⌜ length (now counts) ≡ length (now scaffold) ⌝ }
+    ensures { λ r. ⌜ r ≡ min (count (modelOf (lent (scaffold .entry) (glues .entry) (dg .entry) (ds .entry) (potentials .entry) ambient))) 1048577 ⌝ }
+    ensures { λ r. ⌜ OptionRows (modelOf (lent (scaffold .entry) (glues .entry) (dg .entry) (ds .entry) (potentials .entry) ambient)) (now (rows .exit)) (now (counts .exit)) ⌝ }
+{
+    fill_options(
+        scaffold,
+        glues,
+        dg,
+        ds,
+        potentials.len() as u8,
+        rows,
+        counts,
+    );
+    state_count(counts)
 }
 
 // The bond between strand x and strand y to the east of it.
@@ -75,14 +92,10 @@ pub fn bond_between_strands(
 ) -> BondAnswer
     ensures { λ r. ⌜ bondFigures r ≡ strandBondAnswer (lent (scaffold .entry) (glues .entry) (dg .entry) (ds .entry) (potentials .entry) ambient) x y ⌝ }
 {
-    if potentials.len() <= x as usize {
-        return BondAnswer::Refused(Refusal::WrongSize, Place::Nowhere);
-    }
-    if potentials.len() <= y as usize {
-        return BondAnswer::Refused(Refusal::WrongSize, Place::Nowhere);
-    }
-    match design_reply(scaffold, glues, dg, ds, potentials, ambient) {
-        Reply::Refused(refusal) => BondAnswer::Refused(refusal, Place::Nowhere),
+    let strands = potentials.len();
+    let lacking = either(strands <= x as usize, strands <= y as usize);
+    match design_reply(lacking, scaffold, glues, dg, ds, potentials, ambient) {
+        Reply::Refused(refusal, place) => BondAnswer::Refused(refusal, place),
         Reply::Admitted => BondAnswer::Bond(strand_bond(glues, dg, ds, ambient, x, y)),
     }
 }
@@ -100,20 +113,20 @@ pub fn bond_with_scaffold(
 ) -> BondAnswer
     ensures { λ r. ⌜ bondFigures r ≡ scaffoldBondAnswer (lent (scaffold .entry) (glues .entry) (dg .entry) (ds .entry) (potentials .entry) ambient) position strand ⌝ }
 {
-    if scaffold.len() <= position {
-        return BondAnswer::Refused(Refusal::WrongSize, Place::Nowhere);
-    }
-    if potentials.len() <= strand as usize {
-        return BondAnswer::Refused(Refusal::WrongSize, Place::Nowhere);
-    }
-    let glue = scaffold[position];
-    match design_reply(scaffold, glues, dg, ds, potentials, ambient) {
-        Reply::Refused(refusal) => BondAnswer::Refused(refusal, Place::Nowhere),
-        Reply::Admitted => BondAnswer::Bond(scaffold_bond(glue, glues, dg, ds, ambient, strand)),
+    let lacking = either(
+        scaffold.len() <= position,
+        potentials.len() <= strand as usize,
+    );
+    match design_reply(lacking, scaffold, glues, dg, ds, potentials, ambient) {
+        Reply::Refused(refusal, place) => BondAnswer::Refused(refusal, place),
+        Reply::Admitted => {
+            let glue = byte_at(scaffold, position);
+            BondAnswer::Bond(scaffold_bond(glue, glues, dg, ds, ambient, strand))
+        }
     }
 }
 
-// The friends of a position, into 64 lent entries.
+// The friends of a position, into 64 lent entries, and how many there are.
 pub fn friends_btm(
     scaffold: &[u8],
     glues: &[u8],
@@ -123,22 +136,17 @@ pub fn friends_btm(
     ambient: Ambient,
     position: usize,
     entries: &mut [u8],
-) -> FriendsAnswer
-    ensures { λ r. ⌜ friendsFigures r ≡ friendsAnswer (lent (scaffold .entry) (glues .entry) (dg .entry) (ds .entry) (potentials .entry) ambient) position (now (entries .entry)) ⌝ }
+) -> CountAnswer
+    ensures { λ r. ⌜ countFigures r ≡ friendsAnswer (lent (scaffold .entry) (glues .entry) (dg .entry) (ds .entry) (potentials .entry) ambient) position (now (entries .entry)) ⌝ }
     ensures { λ r. ⌜ now (entries .exit) ≡ friendsEntries (lent (scaffold .entry) (glues .entry) (dg .entry) (ds .entry) (potentials .entry) ambient) position (now (entries .entry)) ⌝ }
 {
-    if scaffold.len() <= position {
-        return FriendsAnswer::Refused(Refusal::WrongSize, Place::Nowhere);
-    }
-    if entries.len() != FRIENDS {
-        return FriendsAnswer::Refused(Refusal::WrongSize, Place::Nowhere);
-    }
-    let glue = scaffold[position];
-    match design_reply(scaffold, glues, dg, ds, potentials, ambient) {
-        Reply::Refused(refusal) => FriendsAnswer::Refused(refusal, Place::Nowhere),
+    let unfit = either(scaffold.len() <= position, entries.len() != STRANDS);
+    match design_reply(unfit, scaffold, glues, dg, ds, potentials, ambient) {
+        Reply::Refused(refusal, place) => CountAnswer::Refused(refusal, place),
         Reply::Admitted => {
+            let glue = byte_at(scaffold, position);
             let strands = potentials.len() as u8;
-            FriendsAnswer::Friends(friends::write_friends(glue, glues, dg, ds, strands, entries))
+            CountAnswer::Count(write_friends(glue, glues, dg, ds, strands, entries) as u64)
         }
     }
 }
@@ -154,14 +162,26 @@ pub fn number_of_states(
 ) -> CountAnswer
     ensures { λ r. ⌜ countFigures r ≡ countAnswer (lent (scaffold .entry) (glues .entry) (dg .entry) (ds .entry) (potentials .entry) ambient) ⌝ }
 {
-    match design_reply(scaffold, glues, dg, ds, potentials, ambient) {
-        Reply::Refused(refusal) => CountAnswer::Refused(refusal, Place::Nowhere),
+    match design_reply(false, scaffold, glues, dg, ds, potentials, ambient) {
+        Reply::Refused(refusal, place) => CountAnswer::Refused(refusal, place),
         Reply::Admitted => {
-            let number = states::state_count(scaffold, glues, dg, ds, potentials.len() as u8);
+            let mut rows = [0u8; OPTIONS];
+            let mut counts = [0u8; POSITIONS];
+            let positions = scaffold.len();
+            let number = count_options(
+                scaffold,
+                glues,
+                dg,
+                ds,
+                potentials,
+                ambient,
+                &mut rows,
+                &mut counts[0..positions],
+            );
             if MOST_STATES < number {
                 return CountAnswer::Refused(Refusal::TooManyStates, Place::Nowhere);
             }
-            CountAnswer::States(number)
+            CountAnswer::Count(number)
         }
     }
 }
@@ -176,28 +196,57 @@ pub fn state_at_rank(
     ambient: Ambient,
     rank: u64,
     entries: &mut [u8],
-) -> StateAnswer
-    ensures { λ r. ⌜ stateFigures r ≡ rankAnswer (lent (scaffold .entry) (glues .entry) (dg .entry) (ds .entry) (potentials .entry) ambient) rank (now (entries .entry)) ⌝ }
+) -> Reply
+    ensures { λ r. ⌜ replyFigures r ≡ rankAnswer (lent (scaffold .entry) (glues .entry) (dg .entry) (ds .entry) (potentials .entry) ambient) rank (now (entries .entry)) ⌝ }
     ensures { λ r. ⌜ now (entries .exit) ≡ rankEntries (lent (scaffold .entry) (glues .entry) (dg .entry) (ds .entry) (potentials .entry) ambient) rank (now (entries .entry)) ⌝ }
 {
-    if entries.len() != scaffold.len() {
-        return StateAnswer::Refused(Refusal::WrongSize, Place::Nowhere);
-    }
-    match design_reply(scaffold, glues, dg, ds, potentials, ambient) {
-        Reply::Refused(refusal) => StateAnswer::Refused(refusal, Place::Nowhere),
+    let wrong_size = entries.len() != scaffold.len();
+    match design_reply(wrong_size, scaffold, glues, dg, ds, potentials, ambient) {
+        Reply::Refused(refusal, place) => Reply::Refused(refusal, place),
         Reply::Admitted => {
-            let strands = potentials.len() as u8;
-            let count = states::state_count(scaffold, glues, dg, ds, strands);
-            if MOST_STATES < count {
-                return StateAnswer::Refused(Refusal::TooManyStates, Place::Nowhere);
+            let mut rows = [0u8; OPTIONS];
+            let mut counts = [0u8; POSITIONS];
+            let positions = scaffold.len();
+            let states = count_options(
+                scaffold,
+                glues,
+                dg,
+                ds,
+                potentials,
+                ambient,
+                &mut rows,
+                &mut counts[0..positions],
+            );
+            if MOST_STATES < states {
+                return Reply::Refused(Refusal::TooManyStates, Place::Nowhere);
             }
-            if count <= rank {
-                return StateAnswer::Refused(Refusal::RankTooHigh, Place::Nowhere);
+            if states <= rank {
+                return Reply::Refused(Refusal::RankTooHigh, Place::Nowhere);
             }
-            states::write_state(scaffold, glues, dg, ds, strands, count, rank, entries);
-            StateAnswer::Written
+            write_state(&rows, &counts[0..positions], states, rank, entries);
+            Reply::Admitted
         }
     }
+}
+
+// What is refused of a configuration whose energy is asked for.
+fn energy_reply(
+    scaffold: &[u8],
+    glues: &[u8],
+    dg: &[f64],
+    ds: &[f64],
+    potentials: &[f64],
+    ambient: Ambient,
+    configuration: &[u8],
+) -> Reply
+    ensures { λ r. ⌜ r ≡ firstOf (energyChecks (lent (scaffold .entry) (glues .entry) (dg .entry) (ds .entry) (potentials .entry) ambient) (now (configuration .entry))) ⌝ }
+{
+    let wrong_size = configuration.len() != scaffold.len();
+    let stranger = first_stranger(scaffold, glues, dg, ds, potentials.len(), configuration);
+    design_reply(wrong_size, scaffold, glues, dg, ds, potentials, ambient).or(refused_if(
+        Refusal::NotAFriend,
+        stranger < scaffold.len(),
+    ))
 }
 
 // The state energy of a configuration: one occupant for each position, 0 for an empty place.
@@ -212,18 +261,13 @@ pub fn g_system(
 ) -> EnergyAnswer
     ensures { λ r. ⌜ energyFigures r ≡ stateEnergyAnswer (lent (scaffold .entry) (glues .entry) (dg .entry) (ds .entry) (potentials .entry) ambient) (now (attachments .entry)) ⌝ }
 {
-    if attachments.len() != scaffold.len() {
-        return EnergyAnswer::Refused(Refusal::WrongSize, Place::Nowhere);
-    }
-    match design_reply(scaffold, glues, dg, ds, potentials, ambient) {
-        Reply::Refused(refusal) => EnergyAnswer::Refused(refusal, Place::Nowhere),
+    match energy_reply(scaffold, glues, dg, ds, potentials, ambient, attachments) {
+        Reply::Refused(refusal, place) => EnergyAnswer::Refused(refusal, place),
         Reply::Admitted => {
-            let strands = potentials.len() as u8;
-            let stranger = states::first_stranger(scaffold, glues, dg, ds, strands, attachments);
-            if stranger < scaffold.len() {
-                return EnergyAnswer::Refused(Refusal::NotAFriend, Place::Nowhere);
-            }
-            let sumg = energies::state_sum(
+            let mut sites = [0.0; POSITIONS];
+            let mut pairs = [0.0; POSITIONS];
+            let mut logs = [0.0; POSITIONS];
+            fill_terms(
                 scaffold,
                 glues,
                 dg,
@@ -231,7 +275,11 @@ pub fn g_system(
                 potentials,
                 ambient,
                 attachments,
+                &mut sites,
+                &mut pairs,
+                &mut logs,
             );
+            let sumg = state_sum(attachments, &sites, &pairs, &logs);
             EnergyAnswer::Energy(ambient.rt.scale(sumg))
         }
     }
@@ -249,18 +297,13 @@ pub fn chain_energy(
 ) -> ChainAnswer
     ensures { λ r. ⌜ chainFigures r ≡ chainEnergyAnswer (lent (scaffold .entry) (glues .entry) (dg .entry) (ds .entry) (potentials .entry) ambient) (now (configuration .entry)) ⌝ }
 {
-    if configuration.len() != scaffold.len() {
-        return ChainAnswer::Refused(Refusal::WrongSize, Place::Nowhere);
-    }
-    match design_reply(scaffold, glues, dg, ds, potentials, ambient) {
-        Reply::Refused(refusal) => ChainAnswer::Refused(refusal, Place::Nowhere),
+    match energy_reply(scaffold, glues, dg, ds, potentials, ambient, configuration) {
+        Reply::Refused(refusal, place) => ChainAnswer::Refused(refusal, place),
         Reply::Admitted => {
-            let strands = potentials.len() as u8;
-            let stranger = states::first_stranger(scaffold, glues, dg, ds, strands, configuration);
-            if stranger < scaffold.len() {
-                return ChainAnswer::Refused(Refusal::NotAFriend, Place::Nowhere);
-            }
-            let sum = energies::chain_sum(
+            let mut sites = [0.0; POSITIONS];
+            let mut pairs = [0.0; POSITIONS];
+            let mut logs = [0.0; POSITIONS];
+            fill_terms(
                 scaffold,
                 glues,
                 dg,
@@ -268,7 +311,11 @@ pub fn chain_energy(
                 potentials,
                 ambient,
                 configuration,
+                &mut sites,
+                &mut pairs,
+                &mut logs,
             );
+            let sum = chain_sum(configuration, &sites, &pairs, &logs);
             ChainAnswer::Energy(sum, ambient.rt.scale(sum))
         }
     }

@@ -33,7 +33,8 @@ module _ (users : ℕ) (text : List ℕ) (strands names : Names) (e : unfitStran
 -- figures that are given are those of no refusal
 pub not-refused : (r : Refusal) (bases : ℕ) → refusedNumbers (numberOf r) ≡ givenNumbers bases → ⊥
 not-refused r bases e =
-    let same : Admitted ≡ Refused r = is-refused (λ (f : NumbersFigures). f .number) refusedNumbers (λ n. refl) (givenNumbers bases) Admitted r refl e in
+    let reply = is-refused (λ (f : NumbersFigures). f .number) refusedNumbers (λ n. refl) (givenNumbers bases) Admitted r refl e in
+    let same : Admitted ≡ Refused r (reply .0) = reply .1 in
     (let z : _≡_ {A = ℕ} 0 1 = cc in omega arith)
 
 -- ---- the base of a name
@@ -49,7 +50,8 @@ module _ (text : List ℕ) (start size : ℕ) (fit : unfitName text start size �
   pub base-refused : (r : Refusal) → refusedName (numberOf r) ≡ selfAndInverse text start size → ⊥
   unfolding selfAndInverse
   base-refused r e =
-      let same : Admitted ≡ Refused r = is-refused (λ (f : NameFigures). f .number) refusedName (λ n. refl) (givenName start (baseLength (partOf text start size)) (isFrom (partOf text start size))) Admitted r refl (e ∙ rw fit) in
+      let reply = is-refused (λ (f : NameFigures). f .number) refusedName (λ n. refl) (givenName start (baseLength (partOf text start size)) (isFrom (partOf text start size))) Admitted r refl (e ∙ rw fit) in
+      let same : Admitted ≡ Refused r (reply .0) = reply .1 in
       (let z : _≡_ {A = ℕ} 0 1 = cc in omega arith)
 
   pub base-inside : (base : ℕ) → base ≡ baseLength (partOf text start size) → base ≤ size

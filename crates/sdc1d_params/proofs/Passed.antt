@@ -15,6 +15,8 @@ use Rattle.lists.proofs.Counted.{map-tabulate, tabulate-same, any-fails}
 use Rattle.reply.specs.First.{firstOf}
 use Rattle.reply.specs.declared.Refusal.{Refusal}
 use Rattle.reply.specs.declared.Refusal.the-variants.{WrongSize, NotABase, TooShort, UnknownName, TooManyGlues, DuplicatePair, OutOfRange}
+use Rattle.reply.specs.declared.Place.{Place}
+use Rattle.reply.specs.declared.Place.the-variants.{Nowhere}
 use Rattle.reply.specs.declared.Reply.the-variants.{Admitted, Refused}
 use Rattle.sdc_common.specs.Lent.{Names, namesOf, glueAt, gluesOf, unfitNames}
 use Rattle.sdc_common.specs.Numbers.{nameNumber, glueNumber, numbersAmong}
@@ -33,35 +35,35 @@ use Rattle.sdc1d_params.proofs.Found.{number-at, number-small, numbers-
 
 -- ---- the reply
 
-pub never : {A : Type 0} (r : Refusal) → Refused r ≡ Admitted → A
+pub never : {A : Type 0} (r : Refusal) {place : Place} → Refused r place ≡ Admitted → A
 never r e = absurd (let z : _≡_ {A = ℕ} 0 1 = cc in omega arith)
 
 module _ (p : Params) (lent : Outcome) where
-  pub reply-size : wrongSize p lent ≡ true → Refused WrongSize ≡ firstOf (paramChecks p lent)
+  pub reply-size : wrongSize p lent ≡ true → Refused WrongSize Nowhere ≡ firstOf (paramChecks p lent)
   reply-size e = rw e
 
   module _ (size : wrongSize p lent ≡ false) where
-    pub reply-base : any (hasBadBase (p .text)) (entriesOf (p .energies) (entryCount p)) ≡ true → Refused NotABase ≡ firstOf (paramChecks p lent)
+    pub reply-base : any (hasBadBase (p .text)) (entriesOf (p .energies) (entryCount p)) ≡ true → Refused NotABase Nowhere ≡ firstOf (paramChecks p lent)
     reply-base e = rw (size, e)
 
     module _ (base : any (hasBadBase (p .text)) (entriesOf (p .energies) (entryCount p)) ≡ false) where
-      pub reply-short : any (isShort (p .text)) (entriesOf (p .energies) (entryCount p)) ≡ true → Refused TooShort ≡ firstOf (paramChecks p lent)
+      pub reply-short : any (isShort (p .text)) (entriesOf (p .energies) (entryCount p)) ≡ true → Refused TooShort Nowhere ≡ firstOf (paramChecks p lent)
       reply-short e = rw (size, base, e)
 
       module _ (short : any (isShort (p .text)) (entriesOf (p .energies) (entryCount p)) ≡ false) where
-        pub reply-unknown : any (isUnknown (bases p)) (gluesOf (p .text) (p .scaffold)) ≡ true → Refused UnknownName ≡ firstOf (paramChecks p lent)
+        pub reply-unknown : any (isUnknown (bases p)) (gluesOf (p .text) (p .scaffold)) ≡ true → Refused UnknownName Nowhere ≡ firstOf (paramChecks p lent)
         reply-unknown e = rw (size, base, short, e)
 
         module _ (known : any (isUnknown (bases p)) (gluesOf (p .text) (p .scaffold)) ≡ false) where
-          pub reply-glues : tooManyBases (strandNames p) ≡ true → Refused TooManyGlues ≡ firstOf (paramChecks p lent)
+          pub reply-glues : tooManyBases (strandNames p) ≡ true → Refused TooManyGlues Nowhere ≡ firstOf (paramChecks p lent)
           reply-glues e = rw (size, base, short, known, e)
 
           module _ (few : tooManyBases (strandNames p) ≡ false) where
-            pub reply-twice : duplicated (cellsOf (writesOf p)) ≡ true → Refused DuplicatePair ≡ firstOf (paramChecks p lent)
+            pub reply-twice : duplicated (cellsOf (writesOf p)) ≡ true → Refused DuplicatePair Nowhere ≡ firstOf (paramChecks p lent)
             reply-twice e = rw (size, base, short, known, few, e)
 
             module _ (once : duplicated (cellsOf (writesOf p)) ≡ false) where
-              pub reply-range : any outOfRange (writesOf p) ≡ true → Refused OutOfRange ≡ firstOf (paramChecks p lent)
+              pub reply-range : any outOfRange (writesOf p) ≡ true → Refused OutOfRange Nowhere ≡ firstOf (paramChecks p lent)
               reply-range e = rw (size, base, short, known, few, once, e)
 
               pub reply-none : any outOfRange (writesOf p) ≡ false → Admitted ≡ firstOf (paramChecks p lent)

@@ -10,10 +10,12 @@ use borrow.Author.Tests.{ltb-false, le-ltb, eq-eqb}
 use Rattle.lists.specs.Find.{any}
 use Rattle.lists.proofs.Tests.{neither}
 use Rattle.reply.specs.Number.{numberOf}
-use Rattle.reply.specs.First.{firstOf, orElse}
+use Rattle.reply.specs.First.{firstOf, refusedIf}
 use Rattle.reply.proofs.Answer.{is-admitted, is-refused}
 use Rattle.reply.specs.declared.Refusal.{Refusal}
 use Rattle.reply.specs.declared.Refusal.the-variants.{NotABase, TooShort}
+use Rattle.reply.specs.declared.Place.{Place}
+use Rattle.reply.specs.declared.Place.the-variants.{Nowhere}
 use Rattle.reply.specs.declared.Reply.the-variants.{Admitted, Refused}
 use Rattle.utils.specs.Answers.{DgDsFigures, givenDgDs, refusedDgDs}
 use Rattle.utils.specs.Bases.{notABase}
@@ -46,7 +48,7 @@ figures-numbered : (n : ℕ) → refusedDgDs n .number ≡ n
 figures-numbered n = refl
 
 module _ (s : List ℕ) (fine : tooLong s ≡ false) where
-  given-step : (b t : Bool) → orElse b NotABase (orElse t TooShort Admitted) ≡ Admitted → b ≡ false
+  given-step : (b t : Bool) → refusedIf b NotABase Nowhere (refusedIf t TooShort Nowhere Admitted) ≡ Admitted → b ≡ false
   given-step true t e = absurd (let z : _≡_ {A = ℕ} 0 1 = cc in omega arith)
   given-step false t e = refl
 
@@ -57,7 +59,7 @@ module _ (s : List ℕ) (fine : tooLong s ≡ false) where
       let a = is-admitted (λ (f : DgDsFigures). f .number) refusedDgDs figures-numbered _ (firstOf (sequenceChecks s)) (givenDgDs dg ds) refl e in
       given-step (any notABase s) (tooShort s) (sym (rw fine) ∙ a .0)
 
-  refused-step : (b : Bool) (r : Refusal) (t : Bool) → orElse b NotABase (orElse t TooShort Admitted) ≡ Refused r → eqb (numberOf r) (numberOf NotABase) ≡ b
+  refused-step : (b : Bool) (r : Refusal) {place : Place} (t : Bool) → refusedIf b NotABase Nowhere (refusedIf t TooShort Nowhere Admitted) ≡ Refused r place → eqb (numberOf r) (numberOf NotABase) ≡ b
   refused-step true r t e = let same : NotABase ≡ r = cc in eq-eqb _ _ (ap numberOf (sym same))
   refused-step false r true e = let same : TooShort ≡ r = cc in rw (← same)
   refused-step false r false e = absurd (let z : _≡_ {A = ℕ} 0 1 = cc in omega arith)
@@ -66,5 +68,5 @@ module _ (s : List ℕ) (fine : tooLong s ≡ false) where
   pub refused-bad : (r : Refusal) → refusedDgDs (numberOf r) ≡ stringDnaDgDs s → eqb (numberOf r) (numberOf NotABase) ≡ any notABase s
   unfolding stringDnaDgDs
   refused-bad r e =
-      let reply : firstOf (sequenceChecks s) ≡ Refused r = is-refused (λ (f : DgDsFigures). f .number) refusedDgDs figures-numbered _ (firstOf (sequenceChecks s)) r refl e in
-      refused-step (any notABase s) r (tooShort s) (sym (rw fine) ∙ reply)
+      let reply = is-refused (λ (f : DgDsFigures). f .number) refusedDgDs figures-numbered _ (firstOf (sequenceChecks s)) r refl e in
+      refused-step (any notABase s) r (tooShort s) (sym (rw fine) ∙ reply .1)

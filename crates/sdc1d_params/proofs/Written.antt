@@ -17,9 +17,11 @@ use Rattle.lists.proofs.Tests.{neither}
 use Rattle.lists.proofs.Build.{length-tabulate}
 use Rattle.lists.proofs.Counted.{tabulate-same}
 use Rattle.reply.specs.Number.{numberOf, answered}
-use Rattle.reply.specs.First.{firstOf, orElse, answer}
+use Rattle.reply.specs.First.{firstOf, refusedIf, answer}
 use Rattle.reply.specs.declared.Refusal.{Refusal}
 use Rattle.reply.specs.declared.Refusal.the-variants.{WrongSize, NotABase, TooShort, UnknownName, TooManyGlues, DuplicatePair, OutOfRange}
+use Rattle.reply.specs.declared.Place.{Place}
+use Rattle.reply.specs.declared.Place.the-variants.{Nowhere}
 use Rattle.reply.specs.declared.Reply.{Reply}
 use Rattle.reply.specs.declared.Reply.the-variants.{Admitted, Refused}
 use Rattle.sdc_common.specs.Lent.{glueAt, gluesOf, unfitNames}
@@ -37,7 +39,7 @@ use Rattle.sdc1d_params.proofs.Passed.{never, reply-size}
 
 conditions-step :
     (a b c d e f g : Bool)
-    → orElse a WrongSize (orElse b NotABase (orElse c TooShort (orElse d UnknownName (orElse e TooManyGlues (orElse f DuplicatePair (orElse g OutOfRange Admitted)))))) ≡ Admitted
+    → refusedIf a WrongSize Nowhere (refusedIf b NotABase Nowhere (refusedIf c TooShort Nowhere (refusedIf d UnknownName Nowhere (refusedIf e TooManyGlues Nowhere (refusedIf f DuplicatePair Nowhere (refusedIf g OutOfRange Nowhere Admitted)))))) ≡ Admitted
     → (a ≡ false) × (e ≡ false)
 conditions-step true b c d e f g h = never WrongSize h
 conditions-step false true c d e f g h = never NotABase h
@@ -48,7 +50,7 @@ conditions-step false false false false false f g h = (refl, refl)
 
 module _ (p : Params) (lent : Outcome) where
   -- a refusal leaves what was lent
-  pub kept : (why : Refusal) → firstOf (paramChecks p lent) ≡ Refused why → outcomeOf (numberOf why) (lent .strandGlues) (lent .scaffoldGlues) (lent .dg) (lent .ds) ≡ fromParams p lent
+  pub kept : (why : Refusal) {place : Place} → firstOf (paramChecks p lent) ≡ Refused why place → outcomeOf (numberOf why) (lent .strandGlues) (lent .scaffoldGlues) (lent .dg) (lent .ds) ≡ fromParams p lent
   unfolding fromParams
   kept why e = ap (λ (r : Reply). answer r (λ n. outcomeOf n (lent .strandGlues) (lent .scaffoldGlues) (lent .dg) (lent .ds)) (outcomeOf answered (strandGluesOf p) (map (spelledNumber (bases p)) (gluesOf (p .text) (p .scaffold))) (dgTable (writesOf p)) (dsTable (writesOf p)))) (sym e)
 

@@ -83,7 +83,7 @@ pub(crate) fn build(
         rows,
         columns,
     ) {
-        Reply::Refused(refusal) => Reply::Refused(refusal),
+        Reply::Refused(refusal, place) => Reply::Refused(refusal, place),
         Reply::Admitted => {
             write_strands(
                 text,

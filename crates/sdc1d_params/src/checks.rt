@@ -18,6 +18,7 @@ use crate::entries::any_short;
 use crate::scaffold::any_unknown;
 use crate::sizes::wrong_size;
 use crate::tables::any_out;
+use reply::Place;
 use reply::Refusal;
 use reply::Reply;
 use sdc_common::MOST_BASES;
@@ -123,13 +124,13 @@ pub(crate) fn check(
         dg,
         ds,
     ) {
-        return Reply::Refused(Refusal::WrongSize);
+        return Reply::Refused(Refusal::WrongSize, Place::Nowhere);
     }
     if any_bad_base(text, forms, dgs, dss, starts, lengths) {
-        return Reply::Refused(Refusal::NotABase);
+        return Reply::Refused(Refusal::NotABase, Place::Nowhere);
     }
     if any_short(text, forms, dgs, dss, starts, lengths) {
-        return Reply::Refused(Refusal::TooShort);
+        return Reply::Refused(Refusal::TooShort, Place::Nowhere);
     }
     number_names(
         text,
@@ -149,7 +150,7 @@ pub(crate) fn check(
         scaffold_marks,
         numbers,
     ) {
-        return Reply::Refused(Refusal::UnknownName);
+        return Reply::Refused(Refusal::UnknownName, Place::Nowhere);
     }
     number_names(
         text,
@@ -174,11 +175,11 @@ pub(crate) fn check(
         columns,
     );
     if MOST_BASES < bases {
-        return Reply::Refused(Refusal::TooManyGlues);
+        return Reply::Refused(Refusal::TooManyGlues, Place::Nowhere);
     }
     to_cells(second_marks, rows, columns);
     if any_repeated(rows, columns) {
-        return Reply::Refused(Refusal::DuplicatePair);
+        return Reply::Refused(Refusal::DuplicatePair, Place::Nowhere);
     }
     if any_out(
         text,
@@ -192,7 +193,7 @@ pub(crate) fn check(
         rows,
         columns,
     ) {
-        return Reply::Refused(Refusal::OutOfRange);
+        return Reply::Refused(Refusal::OutOfRange, Place::Nowhere);
     }
     Reply::Admitted
 }

@@ -12,6 +12,7 @@ ghost use mathlib.Core.Path.{_≡_};
 ghost use Rattle.reply.specs.Number.{replyNumber};
 ghost use Rattle.sdc1d_params.specs.Params.{paramsOf, lentOf, outcomeOf, fromParams};
 use build::build;
+use reply::Place;
 use reply::Refusal;
 use reply::Reply;
 use sdc_common::names::PRESENT;
@@ -61,11 +62,11 @@ pub fn from_params(
 {
     let entries = forms.len();
     if MOST_ENTRIES < entries {
-        return Reply::Refused(Refusal::WrongSize);
+        return Reply::Refused(Refusal::WrongSize, Place::Nowhere);
     }
     let positions = scaffold_glues.len();
     if MOST_POSITIONS < positions {
-        return Reply::Refused(Refusal::WrongSize);
+        return Reply::Refused(Refusal::WrongSize, Place::Nowhere);
     }
     let first_marks = [PRESENT; 1024];
     let mut numbers = [0usize; 128];

@@ -10,6 +10,7 @@ ghost use Rattle.sdc_common.specs.Calls.{nameFigures, selfAndInverse, un
 use names::base_length;
 use names::unfit_name;
 use names::unfit_names;
+use reply::Place;
 use reply::Refusal;
 use reply::Reply;
 use table::base_names;
@@ -110,16 +111,16 @@ pub fn strand_glues(
     ensures { λ r. ⌜ now (glues .exit) ≡ gluesAfter users (now (text .entry)) (namesOf (now (starts .entry)) (now (lengths .entry)) (now (marks .entry))) (now (glues .entry)) ⌝ }
 {
     if unfit_strands(text, users, starts, lengths, marks) {
-        return Reply::Refused(Refusal::WrongSize);
+        return Reply::Refused(Refusal::WrongSize, Place::Nowhere);
     }
     if glues.len() != 3 * users {
-        return Reply::Refused(Refusal::WrongSize);
+        return Reply::Refused(Refusal::WrongSize, Place::Nowhere);
     }
     let mut heads = [0usize; 183];
     let mut sizes = [0usize; 183];
     let count = base_names(text, starts, lengths, marks, &mut heads, &mut sizes);
     if MOST_BASES < count {
-        return Reply::Refused(Refusal::TooManyGlues);
+        return Reply::Refused(Refusal::TooManyGlues, Place::Nowhere);
     }
     fill_glues(text, &heads, &sizes, count, starts, lengths, marks, glues);
     Reply::Admitted

@@ -3,6 +3,7 @@ use crate::reads;
 use crate::reads::first_bytes;
 use crate::reads::first_numbers;
 use crate::reads::first_places;
+use reply::Place;
 use reply::Refusal;
 use reply::Reply;
 use sdc_common::strand_glues;
@@ -47,7 +48,7 @@ pub(crate) fn build(
     ds: &mut [f64],
 ) -> Reply {
     if MOST_USERS < users || MOST_POSITIONS < positions || MOST_ENTRIES < entries {
-        return Reply::Refused(Refusal::WrongSize);
+        return Reply::Refused(Refusal::WrongSize, Place::Nowhere);
     }
     let glues = 3 * users;
     let mut room = [0usize; 61];
@@ -289,7 +290,7 @@ pub(crate) fn reply_to(
     entries: usize,
 ) -> Reply {
     if MOST_USERS < users || MOST_POSITIONS < positions {
-        return Reply::Refused(Refusal::WrongSize);
+        return Reply::Refused(Refusal::WrongSize, Place::Nowhere);
     }
     let glues = 3 * (users + 3);
     let mut strand_glues = [0u8; 192];
@@ -314,7 +315,7 @@ pub(crate) fn reply_to(
 // The reply to the glues of the first so many strands alone.
 pub(crate) fn glues_reply(text: &[u8], kinds: &[u8], words: &[usize], users: usize) -> Reply {
     if MOST_USERS < users {
-        return Reply::Refused(Refusal::WrongSize);
+        return Reply::Refused(Refusal::WrongSize, Place::Nowhere);
     }
     let count = 3 * users;
     let mut room = [0usize; 61];

@@ -7,7 +7,7 @@ use answers::print::Style;
 use answers::settled;
 use deck::DeckForm;
 use deck::DeckWritten;
-use sdc1d::CountAnswer;
+use design::answers::CountAnswer;
 use sheet::parts;
 use sheet::rows::rows_of;
 use statements::grammar::POSITION;
@@ -15,7 +15,7 @@ use statements::grammar::POSITION;
 // A design that the search has answered is refused its count only where it has too many states.
 fn states_of(count: CountAnswer) -> States {
     match count {
-        CountAnswer::States(n) => States::Number(n),
+        CountAnswer::Count(n) => States::Number(n),
         CountAnswer::Refused(_, _) => States::TooMany,
     }
 }

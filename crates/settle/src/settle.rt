@@ -16,7 +16,7 @@ use answers::print::Style;
 use answers::reasons::Why;
 use answers::refused;
 use answers::unreadable;
-use mfe::Settled;
+use design::answers::EnergyAnswer;
 use mfe::mfe_configuration;
 use reply::Refusal;
 use reply::Reply;
@@ -219,7 +219,7 @@ fn settle_sheet(
         &mut dg,
         &mut ds,
     ) {
-        Reply::Refused(refusal) => refuse(
+        Reply::Refused(refusal, _) => refuse(
             style,
             path,
             text,
@@ -352,7 +352,7 @@ fn search(
         ambient,
         reads::bytes(&mut configuration, positions),
     ) {
-        Settled::Refused(refusal, _) => refuse(
+        EnergyAnswer::Refused(refusal, _) => refuse(
             style,
             path,
             text,
@@ -371,7 +371,7 @@ fn search(
                 ambient,
             ),
         ),
-        Settled::Energy(energy) => {
+        EnergyAnswer::Energy(energy) => {
             let states = number_of_states(scaffold, glues, dg, ds, potentials, ambient);
             report(
                 style,

@@ -35,7 +35,7 @@ fn ambient_word(scaffold: &[u8], glues: &[u8], dg: &[f64], ds: &[f64], ambient: 
         scaffold_excess: Kelvin(0.0),
     };
     let potentials = first_numbers(&none, strands);
-    if 0 < design_reply(scaffold, glues, dg, ds, potentials, rt_alone).number() {
+    if 0 < design_reply(false, scaffold, glues, dg, ds, potentials, rt_alone).number() {
         return 2;
     }
     let with_strands = Ambient {
@@ -43,7 +43,7 @@ fn ambient_word(scaffold: &[u8], glues: &[u8], dg: &[f64], ds: &[f64], ambient: 
         strand_excess,
         scaffold_excess: Kelvin(0.0),
     };
-    if 0 < design_reply(scaffold, glues, dg, ds, potentials, with_strands).number() {
+    if 0 < design_reply(false, scaffold, glues, dg, ds, potentials, with_strands).number() {
         return 3;
     }
     4
@@ -66,6 +66,7 @@ fn reply_to_one(
     }
     one[strand] = number_at(potentials, strand);
     design_reply(
+        false,
         scaffold,
         glues,
         dg,

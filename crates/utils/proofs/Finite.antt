@@ -162,7 +162,7 @@ sums-finite =
 -- what holds of a refusal, and of what is given where all checks are passed, holds of the answer
 of-answer : {X : Type 0} (P : X → Type 0) (reply : Reply) (refused : ℕ → X) (given : X) → ((number : ℕ) → P (refused number)) → (reply ≡ Admitted → P given) → P (answer reply refused given)
 of-answer P Admitted refused given none some = some refl
-of-answer P (Refused refusal) refused given none some = none (numberOf refusal)
+of-answer P (Refused refusal place) refused given none some = none (numberOf refusal)
 
 -- of checks one after the other all are passed
 both-passed : (cs ds : List Check) → firstOf (cs ++ ds) ≡ Admitted → (firstOf cs ≡ Admitted) × (firstOf ds ≡ Admitted)

@@ -23,6 +23,7 @@ use bases::base;
 use bases::base_index;
 use bases::first_not_a_base;
 use bases::good_match;
+use reply::Place;
 use reply::Refusal;
 use reply::Reply;
 use tables::DgDs;
@@ -103,13 +104,13 @@ fn sequence_reply(dna: &[u8]) -> Reply
     ensures { λ r. ⌜ r ≡ firstOf (sequenceChecks (now (dna .entry))) ⌝ }
 {
     if LONGEST < dna.len() {
-        return Reply::Refused(Refusal::WrongSize);
+        return Reply::Refused(Refusal::WrongSize, Place::Nowhere);
     }
     if first_not_a_base(dna) < dna.len() {
-        return Reply::Refused(Refusal::NotABase);
+        return Reply::Refused(Refusal::NotABase, Place::Nowhere);
     }
     if dna.len() < 2 {
-        return Reply::Refused(Refusal::TooShort);
+        return Reply::Refused(Refusal::TooShort, Place::Nowhere);
     }
     Reply::Admitted
 }
@@ -143,7 +144,7 @@ pub fn string_dna_dg_ds(dna: &[u8]) -> DgDsAnswer
     ensures { λ r. ⌜ dgDsFigures r ≡ stringDnaDgDs (now (dna .entry)) ⌝ }
 {
     match sequence_reply(dna) {
-        Reply::Refused(refusal) => DgDsAnswer::Refused(refusal),
+        Reply::Refused(refusal, _) => DgDsAnswer::Refused(refusal),
         Reply::Admitted => {
             let stacks = single_sequence_dg_ds(dna);
             DgDsAnswer::Given(stacks.0.add(INITIATION_DG), stacks.1.add(INITIATION_DS))
@@ -262,19 +263,19 @@ fn strands_reply(a: &[u8], b: &[u8]) -> Reply
     ensures { λ r. ⌜ r ≡ firstOf (strandChecks (now (a .entry)) (now (b .entry))) ⌝ }
 {
     if LONGEST < a.len() {
-        return Reply::Refused(Refusal::WrongSize);
+        return Reply::Refused(Refusal::WrongSize, Place::Nowhere);
     }
     if LONGEST < b.len() {
-        return Reply::Refused(Refusal::WrongSize);
+        return Reply::Refused(Refusal::WrongSize, Place::Nowhere);
     }
     if first_not_a_base(a) < a.len() {
-        return Reply::Refused(Refusal::NotABase);
+        return Reply::Refused(Refusal::NotABase, Place::Nowhere);
     }
     if first_not_a_base(b) < b.len() {
-        return Reply::Refused(Refusal::NotABase);
+        return Reply::Refused(Refusal::NotABase, Place::Nowhere);
     }
     if a.len() != b.len() {
-        return Reply::Refused(Refusal::UnequalLengths);
+        return Reply::Refused(Refusal::UnequalLengths, Place::Nowhere);
     }
     Reply::Admitted
 }
@@ -284,7 +285,7 @@ pub fn sequence_pair_dg_ds(a: &[u8], b: &[u8]) -> DgDsAnswer
     ensures { λ r. ⌜ dgDsFigures r ≡ sequencePairDgDs (now (a .entry)) (now (b .entry)) ⌝ }
 {
     match strands_reply(a, b) {
-        Reply::Refused(refusal) => DgDsAnswer::Refused(refusal),
+        Reply::Refused(refusal, _) => DgDsAnswer::Refused(refusal),
         Reply::Admitted => {
             let sums = pair_sums(a, b);
             let dg = sums.dg;
@@ -317,7 +318,7 @@ pub fn sequence_strength(dna: &[u8], excess: Kelvin) -> DgAnswer
     ensures { λ r. ⌜ dgFigures r ≡ sequenceStrength (now (dna .entry)) (excess .0) ⌝ }
 {
     match sequence_reply(dna) {
-        Reply::Refused(refusal) => DgAnswer::Refused(refusal),
+        Reply::Refused(refusal, _) => DgAnswer::Refused(refusal),
         Reply::Admitted => {
             if !excess_in_range(excess) {
                 return DgAnswer::Refused(Refusal::OutOfRange);

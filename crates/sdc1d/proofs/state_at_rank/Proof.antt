@@ -1,78 +1,132 @@
--- `state_at_rank` meets its contract: only the last return has written. Assumes nothing.
+-- `state_at_rank` meets its contract. Assumes nothing.
 use borrow.Author.Needs.{needs}
-use mathlib.Core.Path.{sym, _∙_}
+use mathlib.Core.Path.{_≡_, refl, sym, ap, _∙_}
+use mathlib.Core.Bool.{Bool, false, not}
+use mathlib.Core.List.{List, [], _∷_}
+use Prim.Native.Nat.{ℕ, _-_, _<_, _≤_}
 use native.Mathlib.Omega.{arith}
-use Rattle.model.specs.States.{count}
-use Rattle.design.specs.Design.{lent, modelOf}
-use Rattle.sdc1d.proofs.Counted.{counted}
-use Rattle.sdc1d.proofs.Calls.{few, rank-wrong-entries, rank-refused, rank-many, rank-high, rank-given}
+use lib.Dec.{eqb}
+use lib.ListN.{length, drop, replicate, length-take, length-append}
+use lib.Seq.{take-at}
+use borrow.Author.Tests.{le-leb, lt-leb, eqb-true, not-false}
+use Rattle.reply.specs.First.{firstOf, _if_}
+use Rattle.reply.specs.Figures.{given}
+use Rattle.reply.specs.declared.Refusal.the-variants.{TooManyStates, RankTooHigh}
+use Rattle.reply.specs.declared.Place.the-variants.{Nowhere}
+use Rattle.reply.specs.declared.Reply.the-variants.{Admitted, Refused}
+use Rattle.reply.proofs.First.{reply-append}
+use Rattle.reply.proofs.Figures.{answered-by, refused-by, written-by, kept-by}
+use Rattle.model.specs.States.{count, stateAt}
+use Rattle.ensemble.proofs.Options.{readable, product-is}
+use Rattle.design.specs.Design.{Design, lent, positions, modelOf}
+use Rattle.design.specs.Checks.{tooManyStates, rankTooHigh, designChecks, rankChecks}
+use Rattle.design.proofs.Sizes.{sized}
+use Rattle.design.proofs.Replies.{passed, own-decide}
+use Rattle.sdc1d.proofs.Calls.{too-many, not-too-many, counted, placed}
 use Rattle.sdc1d.proofs.state_at_rank.Statement.{statement}
 use Rattle.sdc1d.proofs.state_at_rank.Tie as tie
 
-returns : tie.Need-returns
-returns c = let a = c .before .before .before .before .before .before .before .args in rank-wrong-entries (lent (a .scaffold) (a .glues) (a .dg) (a .ds) (a .potentials) (a .ambient)) (a .rank) (a .entries .now) (c .if1 .taken)
-
-design-reply-requires : tie.Need-design-reply-requires
-design-reply-requires c κs = search needs
-
-enum-known-refusal : tie.Need-enum-known-refusal
-enum-known-refusal c = search needs
-
-enum-told : tie.Need-enum-told
-enum-told c = search needs
-
-cast-strands : tie.Need-cast-strands
-cast-strands c =
+part-counts-end : tie.Need-part-counts-end
+part-counts-end c =
     let a = c .before .before .before .before .before .before .before .before .before .before .args in
-    let most = few (lent (a .scaffold) (a .glues) (a .dg) (a .ds) (a .potentials) (a .ambient)) (sym (c .before .before .design-reply .ensures) ∙ c .enum-told .given .1) in
+    let d : Design = lent (a .scaffold) (a .glues) (a .dg) (a .ds) (a .potentials) (a .ambient) in
+    let size : Bool = not (eqb (length (a .entries .now)) (positions d)) in
+    let p = passed size d [] (sym (c .before .before .before .design-reply .ensures) ∙ c .before .enum-told .given .1) in
+    let short = sized d (p .design .sizes) .short in
     omega arith
 
-state-count-requires : tie.Need-state-count-requires
-state-count-requires c κs = search needs
+count-options-requires : tie.Need-count-options-requires
+count-options-requires c κs =
+    let a = c .before .before .before .before .before .before .before .before .before .before .before .args in
+    let d : Design = lent (a .scaffold) (a .glues) (a .dg) (a .ds) (a .potentials) (a .ambient) in
+    let size : Bool = not (eqb (length (a .entries .now)) (positions d)) in
+    let p = passed size d [] (sym (c .before .before .before .before .design-reply .ensures) ∙ c .before .before .enum-told .given .1) in
+    let short = sized d (p .design .sizes) .short in
+    (p .design, (omega arith, omega (arith, length-take (positions d - 0) (replicate {A = ℕ} 128 0))))
+
+returns : tie.Need-returns
+returns c =
+    let a = c .before .before .before .before .before .before .before .before .before .before .before .before .before .before .before .args in
+    let d : Design = lent (a .scaffold) (a .glues) (a .dg) (a .ds) (a .potentials) (a .ambient) in
+    let size : Bool = not (eqb (length (a .entries .now)) (positions d)) in
+    let p = passed size d [] (sym (c .before .before .before .before .before .before .before .before .design-reply .ensures) ∙ c .before .before .before .before .before .before .enum-told .given .1) in
+    let reply : firstOf (rankChecks d (a .rank) (a .entries .now)) ≡ Refused TooManyStates Nowhere = own-decide size d (TooManyStates if tooManyStates d ∷ RankTooHigh if rankTooHigh d (a .rank) ∷ []) (p .size) (p .design) ∙ simp (too-many (count (modelOf d)) (c .before .before .before .count-options .ensures .0) (c .if1 .taken)) in
+    (refused-by tt tt reply, kept-by (a .entries .now) (stateAt (modelOf d) (a .rank)) reply)
 
 returns-2 : tie.Need-returns-2
-unfolding count modelOf
 returns-2 c =
-    let a = c .before .before .before .before .before .before .before .before .before .before .before .before .args in
-    rank-many (lent (a .scaffold) (a .glues) (a .dg) (a .ds) (a .potentials) (a .ambient)) (a .rank) (a .entries .now) (c .before .before .before .before .before .if1 .left) (sym (c .before .before .before .before .design-reply .ensures) ∙ c .before .before .enum-told .given .1) (c .before .state-count .ensures) (c .if2 .taken)
+    let a = c .before .before .before .before .before .before .before .before .before .before .before .before .before .before .before .before .args in
+    let d : Design = lent (a .scaffold) (a .glues) (a .dg) (a .ds) (a .potentials) (a .ambient) in
+    let size : Bool = not (eqb (length (a .entries .now)) (positions d)) in
+    let p = passed size d [] (sym (c .before .before .before .before .before .before .before .before .before .design-reply .ensures) ∙ c .before .before .before .before .before .before .before .enum-told .given .1) in
+    let few = not-too-many (count (modelOf d)) (c .before .before .before .before .count-options .ensures .0) (c .before .if1 .left) in
+    let same = counted (count (modelOf d)) (c .before .before .before .before .count-options .ensures .0) (c .before .if1 .left) in
+    let high : count (modelOf d) ≤ a .rank = rw same at (c .if2 .taken) in
+    let reply : firstOf (rankChecks d (a .rank) (a .entries .now)) ≡ Refused RankTooHigh Nowhere = own-decide size d (TooManyStates if tooManyStates d ∷ RankTooHigh if rankTooHigh d (a .rank) ∷ []) (p .size) (p .design) ∙ simp (few, le-leb (count (modelOf d)) (a .rank) high) in
+    (refused-by tt tt reply, kept-by (a .entries .now) (stateAt (modelOf d) (a .rank)) reply)
 
-returns-3 : tie.Need-returns-3
-unfolding count modelOf
-returns-3 c =
-    let a = c .before .before .before .before .before .before .before .before .before .before .before .before .before .args in
-    rank-high (lent (a .scaffold) (a .glues) (a .dg) (a .ds) (a .potentials) (a .ambient)) (a .rank) (a .entries .now) (c .before .before .before .before .before .before .if1 .left) (sym (c .before .before .before .before .before .design-reply .ensures) ∙ c .before .before .before .enum-told .given .1) (c .before .before .state-count .ensures) (c .before .if2 .left) (c .if3 .taken)
+part-write-state-end : tie.Need-part-write-state-end
+part-write-state-end c =
+    let a = c .before .before .before .before .before .before .before .before .before .before .before .before .before .before .before .before .before .before .args in
+    let d : Design = lent (a .scaffold) (a .glues) (a .dg) (a .ds) (a .potentials) (a .ambient) in
+    let number : length (c .before .before .before .before .before .before .count-options .last .1 .1 .1 .1 .1 .1 .1 .0) ≡ positions d = placed d (c .before .before .before .before .before .before .count-options .ensures .1) in
+    simp length-append (omega arith)
 
 write-state-requires : tie.Need-write-state-requires
-write-state-requires c κs = (counted _ (c .before .before .before .state-count .ensures) (c .before .before .if2 .left), c .before .before .before .before .before .before .before .if1 .left)
+write-state-requires c κs =
+    let a = c .before .before .before .before .before .before .before .before .before .before .before .before .before .before .before .before .before .before .before .before .args in
+    let d : Design = lent (a .scaffold) (a .glues) (a .dg) (a .ds) (a .potentials) (a .ambient) in
+    let size : Bool = not (eqb (length (a .entries .now)) (positions d)) in
+    let p = passed size d [] (sym (c .before .before .before .before .before .before .before .before .before .before .before .before .before .design-reply .ensures) ∙ c .before .before .before .before .before .before .before .before .before .before .before .enum-told .given .1) in
+    let number : length (c .before .before .before .before .before .before .before .before .count-options .last .1 .1 .1 .1 .1 .1 .1 .0) ≡ positions d = placed d (c .before .before .before .before .before .before .before .before .count-options .ensures .1) in
+    let full : length (c .before .before .before .before .before .before .before .before .count-options .last .1 .1 .1 .1 .1 .1 .1 .0) ≡ positions d - 0 = omega (arith, number) in
+    let again = take-at (c .before .before .before .before .before .before .before .before .count-options .last .1 .1 .1 .1 .1 .1 .1 .0) (drop (positions d - 0) (replicate {A = ℕ} 128 0)) (positions d - 0) full in
+    let same = counted (count (modelOf d)) (c .before .before .before .before .before .before .before .before .count-options .ensures .0) (c .before .before .before .before .before .if1 .left) in
+    let lent-right : length (a .entries .now) ≡ positions d = eqb-true _ _ (not-false _ (p .size)) in
+    (rw again (readable (c .before .before .before .before .before .before .before .before .count-options .ensures .1)), (rw again (same ∙ sym (product-is (c .before .before .before .before .before .before .before .before .count-options .ensures .1))), (c .before .before .before .before .if2 .left, rw again (lent-right ∙ sym number))))
+
+returns-3 : tie.Need-returns-3
+returns-3 c =
+    let a = c .before .before .before .before .before .before .before .before .before .before .args in
+    let d : Design = lent (a .scaffold) (a .glues) (a .dg) (a .ds) (a .potentials) (a .ambient) in
+    let size : Bool = not (eqb (length (a .entries .now)) (positions d)) in
+    let reply = reply-append (designChecks size d []) (TooManyStates if tooManyStates d ∷ RankTooHigh if rankTooHigh d (a .rank) ∷ []) (sym (c .before .before .before .design-reply .ensures) ∙ c .before .refusal .given .1) in
+    (refused-by tt tt reply, kept-by (a .entries .now) (stateAt (modelOf d) (a .rank)) reply)
 
 returns-4 : tie.Need-returns-4
 returns-4 c =
-    let a = c .before .before .before .before .before .before .before .before .before .before .before .args in
-    rank-refused (lent (a .scaffold) (a .glues) (a .dg) (a .ds) (a .potentials) (a .ambient)) (a .rank) (a .entries .now) (c .before .before .before .before .if1 .left) (sym (c .before .before .before .design-reply .ensures) ∙ c .before .refusal .given .1)
-
-same-length : tie.Need-same-length
-same-length c = search needs
-
-returns-5 : tie.Need-returns-5
-unfolding count modelOf
-returns-5 c =
-    let a = c .before .before .before .before .before .before .before .before .before .before .before .before .before .before .before .before .before .args in
-    let w = rank-given (lent (a .scaffold) (a .glues) (a .dg) (a .ds) (a .potentials) (a .ambient)) (a .rank) (a .entries .now) (c .before .before .before .before .before .before .before .before .before .before .if1 .left) (sym (c .before .before .before .before .before .before .before .before .before .design-reply .ensures) ∙ c .before .before .before .before .before .before .before .enum-told .given .1) (c .before .before .before .before .before .before .state-count .ensures) (c .before .before .before .before .before .if2 .left) (c .before .before .before .before .if3 .left) in
-    (w .0, c .before .before .write-state .ensures ∙ w .1)
+    let a = c .before .before .before .before .before .before .before .before .before .before .before .before .before .before .before .before .before .before .before .before .before .before .before .args in
+    let d : Design = lent (a .scaffold) (a .glues) (a .dg) (a .ds) (a .potentials) (a .ambient) in
+    let size : Bool = not (eqb (length (a .entries .now)) (positions d)) in
+    let p = passed size d [] (sym (c .before .before .before .before .before .before .before .before .before .before .before .before .before .before .before .before .design-reply .ensures) ∙ c .before .before .before .before .before .before .before .before .before .before .before .before .before .before .enum-told .given .1) in
+    let number : length (c .before .before .before .before .before .before .before .before .before .before .before .count-options .last .1 .1 .1 .1 .1 .1 .1 .0) ≡ positions d = placed d (c .before .before .before .before .before .before .before .before .before .before .before .count-options .ensures .1) in
+    let full : length (c .before .before .before .before .before .before .before .before .before .before .before .count-options .last .1 .1 .1 .1 .1 .1 .1 .0) ≡ positions d - 0 = omega (arith, number) in
+    let again = take-at (c .before .before .before .before .before .before .before .before .before .before .before .count-options .last .1 .1 .1 .1 .1 .1 .1 .0) (drop (positions d - 0) (replicate {A = ℕ} 128 0)) (positions d - 0) full in
+    let few = not-too-many (count (modelOf d)) (c .before .before .before .before .before .before .before .before .before .before .before .count-options .ensures .0) (c .before .before .before .before .before .before .before .before .if1 .left) in
+    let same = counted (count (modelOf d)) (c .before .before .before .before .before .before .before .before .before .before .before .count-options .ensures .0) (c .before .before .before .before .before .before .before .before .if1 .left) in
+    let low : a .rank < count (modelOf d) = rw same at (c .before .before .before .before .before .before .before .if2 .left) in
+    let reply : firstOf (rankChecks d (a .rank) (a .entries .now)) ≡ Admitted = own-decide size d (TooManyStates if tooManyStates d ∷ RankTooHigh if rankTooHigh d (a .rank) ∷ []) (p .size) (p .design) ∙ simp (few, lt-leb (count (modelOf d)) (a .rank) low) in
+    (answered-by tt tt reply, c .before .before .write-state .ensures (modelOf d) (rw again (c .before .before .before .before .before .before .before .before .before .before .before .count-options .ensures .1)) ∙ written-by (a .entries .now) (stateAt (modelOf d) (a .rank)) reply)
 
 pub state-at-rank-spec : {M : Type 1} → statement M
 state-at-rank-spec =
     tie.close
     (tie.spec
+    (λ c κs. search needs)
+    (λ c. search needs)
+    (λ c. search needs)
+    (λ c. search needs)
+    (λ c. search needs)
+    (λ c. search needs)
+    part-counts-end
+    count-options-requires
     returns
-    design-reply-requires
-    enum-known-refusal
-    enum-told
-    cast-strands
-    state-count-requires
     returns-2
-    returns-3
+    (λ c. search needs)
+    (λ c. search needs)
+    (λ c. search needs)
+    part-write-state-end
     write-state-requires
-    returns-4
-    same-length
-    returns-5)
+    returns-3
+    (λ c. search needs)
+    returns-4)

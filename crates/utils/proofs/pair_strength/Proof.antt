@@ -11,6 +11,8 @@ use Rattle.reply.specs.First.{firstOf}
 use Rattle.reply.specs.Number.{numberOf}
 use Rattle.reply.specs.declared.Refusal.{Refusal}
 use Rattle.reply.specs.declared.Refusal.the-variants.{OutOfRange}
+use Rattle.reply.specs.declared.Place.{Place}
+use Rattle.reply.specs.declared.Place.the-variants.{Nowhere}
 use Rattle.reply.specs.declared.Reply.the-variants.{Admitted, Refused}
 use Rattle.reply.proofs.Answer.{is-admitted, is-refused}
 use Rattle.reply.proofs.First.{reply-append}
@@ -33,7 +35,7 @@ module _ (a b : List ℕ) where
   unfolding sequencePairDgDs numberOfDgDs figures
   given-pair dg ds e = is-admitted numberOfDgDs refusedDgDs (λ n. refl) figures (firstOf (pairChecks a b)) (givenDgDs dg ds) refl e
 
-  refused-pair : (why : Refusal) → refusedDgDs (numberOf why) ≡ sequencePairDgDs a b → firstOf (pairChecks a b) ≡ Refused why
+  refused-pair : (why : Refusal) → refusedDgDs (numberOf why) ≡ sequencePairDgDs a b → (place : Place) × (firstOf (pairChecks a b) ≡ Refused why place)
   unfolding sequencePairDgDs numberOfDgDs figures
   refused-pair why e = is-refused numberOfDgDs refusedDgDs (λ n. refl) figures (firstOf (pairChecks a b)) why refl e
 
@@ -63,7 +65,7 @@ returns c =
     let sums = k .dg .given in
     let pair = given-pair a b (sums .0 .0 .0) (sums .0 .1 .0 .0) (ap dgDsFigures (sym (sums .1)) ∙ s .sequence-pair-dg-ds .ensures) in
     let out : excessInRange excess ≡ false = sym (c .before .excess-in-range .ensures) ∙ not-true _ (c .if1 .taken) in
-    let reply : firstOf (pairChecks a b ++ excessChecks excess) ≡ Refused OutOfRange = reply-append (pairChecks a b) (excessChecks excess) (pair .0) ∙ simp out in
+    let reply : firstOf (pairChecks a b ++ excessChecks excess) ≡ Refused OutOfRange Nowhere = reply-append (pairChecks a b) (excessChecks excess) (pair .0) ∙ simp out in
     rw reply
 
 strength-requires : tie.Need-strength-requires
@@ -78,7 +80,7 @@ returns-2 c =
     let excess = s .before .before .before .args .excess .0 in
     let why = c .before .refusal .given in
     let refused = refused-pair a b (why .0 .0) (ap dgDsFigures (sym (why .1)) ∙ s .sequence-pair-dg-ds .ensures) in
-    rw (reply-append (pairChecks a b) (excessChecks excess) refused)
+    rw (reply-append (pairChecks a b) (excessChecks excess) (refused .1))
 
 returns-3 : tie.Need-returns-3
 unfolding pairStrength strengthOf figures

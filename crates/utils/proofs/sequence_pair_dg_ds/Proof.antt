@@ -6,6 +6,7 @@ use denote.Ref.{now}
 use borrow.Author.Needs.{needs}
 use Rattle.reply.specs.First.{firstOf, _if_}
 use Rattle.reply.specs.declared.Refusal.the-variants.{NoSuchLoop}
+use Rattle.reply.specs.declared.Place.the-variants.{Nowhere}
 use Rattle.reply.specs.declared.Reply.the-variants.{Admitted, Refused}
 use Rattle.reply.proofs.First.{reply-append}
 use Rattle.utils.specs.Answers.{DgDsFigures, givenDgDs}
@@ -45,7 +46,7 @@ returns c =
     let b = now (args .b) in
     let admitted = sym (t .before .before .strands-reply .ensures) ∙ t .enum-told .given .1 in
     let missing : lacksLoop a b ≡ true = sym (k .pair-sums .ensures .1) ∙ c .if1 .taken in
-    let reply : firstOf (pairChecks a b) ≡ Refused NoSuchLoop = reply-append (strandChecks a b) (NoSuchLoop if lacksLoop a b ∷ []) admitted ∙ simp missing in
+    let reply : firstOf (pairChecks a b) ≡ Refused NoSuchLoop Nowhere = reply-append (strandChecks a b) (NoSuchLoop if lacksLoop a b ∷ []) admitted ∙ simp missing in
     rw reply
 
 returns-2 : tie.Need-returns-2

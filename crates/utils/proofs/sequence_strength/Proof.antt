@@ -7,6 +7,7 @@ use borrow.Author.Needs.{needs}
 use borrow.Author.Tests.{not-true, not-false}
 use Rattle.reply.specs.First.{firstOf}
 use Rattle.reply.specs.declared.Refusal.the-variants.{OutOfRange}
+use Rattle.reply.specs.declared.Place.the-variants.{Nowhere}
 use Rattle.reply.specs.declared.Reply.the-variants.{Admitted, Refused}
 use Rattle.reply.proofs.First.{reply-append}
 use Rattle.utils.specs.Answers.{givenDg}
@@ -37,7 +38,7 @@ returns c =
     let excess = s .before .before .args .excess .0 in
     let admitted = sym (s .sequence-reply .ensures) ∙ k .enum-told .given .1 in
     let out : excessInRange excess ≡ false = sym (c .before .excess-in-range .ensures) ∙ not-true _ (c .if1 .taken) in
-    let reply : firstOf (sequenceChecks dna ++ excessChecks excess) ≡ Refused OutOfRange = reply-append (sequenceChecks dna) (excessChecks excess) admitted ∙ simp out in
+    let reply : firstOf (sequenceChecks dna ++ excessChecks excess) ≡ Refused OutOfRange Nowhere = reply-append (sequenceChecks dna) (excessChecks excess) admitted ∙ simp out in
     rw reply
 
 single-sequence-dg-ds-requires : tie.Need-single-sequence-dg-ds-requires

@@ -1,6 +1,6 @@
 -- The search for a strand whose potential is out of range meets its contract. The invariant: what is found from a strand on, as many
 -- strands further, is what is found. Assumes nothing.
-use mathlib.Core.Path.{_≡_, sym, ap, _∙_}
+use mathlib.Core.Path.{_≡_, refl, sym, ap, _∙_}
 use mathlib.Core.Logic.{inl, inr}
 use mathlib.Core.Bool.{Bool, true, false, not, _&&_}
 use Prim.Native.Nat.{_≤_, _+_, _-_}
@@ -12,7 +12,7 @@ use Rattle.doubles.specs.Decimal.{nearest}
 use Rattle.lists.specs.Build.{upTo}
 use Rattle.lists.specs.Find.{firstIndex}
 use Rattle.lists.proofs.Build.{first-here, first-later, first-past}
-use Rattle.design.specs.Checks.{beyond, unfit}
+use Rattle.design.specs.Checks.{beyond, somewhere, unfit}
 use Rattle.design.proofs.checks.first_unfit.Statement.{statement}
 use Rattle.design.proofs.checks.first_unfit.Tie as tie
 
@@ -22,6 +22,10 @@ looked-at s b t e f = rw (e, f)
 
 passed-over : (s b : Bool) → s ≡ false → (s && b) ≡ false
 passed-over s b e = rw e
+
+fitting : (s b : Bool) → b ≡ false → (s && b) ≡ false
+fitting true b e = e
+fitting false b e = refl
 
 abbrev Inv-loop : tie.InvT-loop
 Inv-loop scaffold glues dg ds potentials strands strand₀ strand =
@@ -34,14 +38,14 @@ abbrev μ-loop : tie.MeasureT-loop
 loop-holds : tie.Need-loop-holds Inv-loop μ-loop
 loop-holds c = search needs
 
-is-friend-somewhere-requires : tie.Need-is-friend-somewhere-requires Inv-loop μ-loop
-is-friend-somewhere-requires c κs = search needs
-
 potential-of-requires : tie.Need-potential-of-requires Inv-loop μ-loop
 potential-of-requires c κs = search needs
 
 in-range-requires : tie.Need-in-range-requires Inv-loop μ-loop
 in-range-requires c κs = search needs
+
+is-friend-somewhere-requires : tie.Need-is-friend-somewhere-requires Inv-loop μ-loop
+is-friend-somewhere-requires c κs = search needs
 
 returns : tie.Need-returns Inv-loop μ-loop
 unfolding nearest neg ofBits
@@ -49,9 +53,9 @@ returns c =
     let a = c .before .before .before .before .before .before .before .before .before .before .before .before .args in
     let l = c .before .before .before .before .before .before in
     let t = unfit (a .scaffold .now) (a .glues .now) (a .dg .now) (a .ds .now) (a .potentials .now) in
-    let range = c .before .in-range .ensures in
-    let out = ap (beyond 1024) (sym (c .before .before .potential-of .ensures)) ∙ ap not (sym range) ∙ c .if2 .taken in
-    let here = looked-at _ _ true (sym (c .before .before .before .before .is-friend-somewhere .ensures) ∙ c .before .before .before .if1 .taken) out in
+    let range = c .before .before .before .in-range .ensures in
+    let out = ap (beyond 1024) (sym (c .before .before .before .before .potential-of .ensures)) ∙ ap not (sym range) ∙ c .before .before .if1 .taken in
+    let here = looked-at _ _ true (sym (c .before .is-friend-somewhere .ensures) ∙ c .if2 .taken) out in
     omega (arith, first-here t (a .strands) (l .loop .strand) (c .before .before .before .before .before .loop-test .taken) here, l .loop .inv .1)
 
 add-strand : tie.Need-add-strand Inv-loop μ-loop
@@ -63,18 +67,18 @@ loop-less c = search needs
 loop-again : tie.Need-loop-again Inv-loop μ-loop
 unfolding nearest neg ofBits
 loop-again c =
-    let a = c .before .before .before .before .before .before .before .before .before .args in
-    let l = c .before .before .before in
+    let a = c .before .before .before .before .before .before .before .before .before .before .args in
+    let l = c .before .before .before .before in
     let t = unfit (a .scaffold .now) (a .glues .now) (a .dg .now) (a .ds .now) (a .potentials .now) in
-    let somewhere-is = sym (c .before .is-friend-somewhere .ensures) in
+    let out-is = ap (beyond 1024) (sym (c .before .before .potential-of .ensures)) ∙ ap not (sym (c .before .in-range .ensures)) in
     elim (c .if1 .came) [
       | inl w ↦ (
         omega arith,
-        omega (arith, first-later t (a .strands) (l .loop .strand) (c .before .before .loop-test .taken) (looked-at _ _ false (somewhere-is ∙ w .0 .taken) (ap (beyond 1024) (sym (w .1 .ensures)) ∙ ap not (sym (w .2 .ensures)) ∙ w .3 .left)), l .loop .inv .1),
+        omega (arith, first-later t (a .strands) (l .loop .strand) (c .before .before .before .loop-test .taken) (passed-over _ _ (sym (w .1 .ensures) ∙ w .2 .left)), l .loop .inv .1),
       )
       | inr w ↦ (
         omega arith,
-        omega (arith, first-later t (a .strands) (l .loop .strand) (c .before .before .loop-test .taken) (passed-over _ _ (somewhere-is ∙ w .left)), l .loop .inv .1),
+        omega (arith, first-later t (a .strands) (l .loop .strand) (c .before .before .before .loop-test .taken) (fitting (somewhere (a .scaffold .now) (a .glues .now) (a .dg .now) (a .ds .now) (l .loop .strand)) _ (out-is ∙ w .left)), l .loop .inv .1),
       )
     ]
 
@@ -92,9 +96,9 @@ first-unfit-spec =
     Inv-loop
     μ-loop
     loop-holds
-    is-friend-somewhere-requires
     potential-of-requires
     in-range-requires
+    is-friend-somewhere-requires
     returns
     add-strand
     loop-less

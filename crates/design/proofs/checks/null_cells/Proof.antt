@@ -29,7 +29,7 @@ returns c =
     let a = c .before .before .before .before .before .before .args in
     let l = c .before .before .before in
     let t = nullCells (a .dg .now) (a .ds .now) in
-    sym (l .loop .inv .1 ∙ any-here t 64 (l .loop .glue) (c .before .before .loop-test .taken) (simp (← c .before .binds .ensures, c .if1 .taken)))
+    sym (l .loop .inv .1 ∙ any-here t 64 (l .loop .glue) (omega arith) (simp (← c .before .binds .ensures, c .if1 .taken)))
 
 binds-requires-2 : tie.Need-binds-requires-2 Inv-loop μ-loop
 binds-requires-2 c κs = search needs
@@ -39,7 +39,7 @@ returns-2 c =
     let a = c .before .before .before .before .before .before .before .before .args in
     let l = c .before .before .before .before .before in
     let t = nullCells (a .dg .now) (a .ds .now) in
-    sym (l .loop .inv .1 ∙ any-here t 64 (l .loop .glue) (c .before .before .before .before .loop-test .taken) (simp (← c .before .before .before .binds .ensures, c .before .before .if1 .left, ← c .before .binds2 .ensures, c .if2 .taken)))
+    sym (l .loop .inv .1 ∙ any-here t 64 (l .loop .glue) (omega arith) (simp (← c .before .before .before .binds .ensures, c .before .before .if1 .left, ← c .before .binds2 .ensures, c .if2 .taken)))
 
 add-glue : tie.Need-add-glue Inv-loop μ-loop
 add-glue c = search needs
@@ -52,13 +52,13 @@ loop-again c =
     let a = c .before .before .before .before .before .before .before .before .args in
     let l = c .before .before .before .before .before in
     let t = nullCells (a .dg .now) (a .ds .now) in
-    (omega arith, l .loop .inv .1 ∙ any-later t 64 (l .loop .glue) (c .before .before .before .before .loop-test .taken) (simp (← c .before .before .before .binds .ensures, c .before .before .if1 .left, ← c .before .binds2 .ensures, c .if2 .left)))
+    (omega arith, l .loop .inv .1 ∙ any-later t 64 (l .loop .glue) (omega arith) (simp (← c .before .before .before .binds .ensures, c .before .before .if1 .left, ← c .before .binds2 .ensures, c .if2 .left)))
 
 returns-3 : tie.Need-returns-3 Inv-loop μ-loop
 returns-3 c =
     let a = c .before .before .before .before .args in
     let l = c .before in
-    sym (l .loop .inv .1 ∙ any-past (nullCells (a .dg .now) (a .ds .now)) 64 (l .loop .glue) (c .loop-test .left))
+    sym (l .loop .inv .1 ∙ any-past (nullCells (a .dg .now) (a .ds .now)) 64 (l .loop .glue) (omega arith))
 
 pub null-cells-spec : {M : Type 1} → statement M
 null-cells-spec =

@@ -10,9 +10,9 @@ returns c =
     let entries = answer .before .before .before .before .before .before .before .before .before .args .configuration .now in
     let ambient = answer .before .before .ambient .ensures in
     let ensured = answer .mfe-configuration .ensures in
-    let told = rw (ensured .0) at (c .tell-settled .ensures) in (
+    let told = rw (ensured .0) at (c .tell-energy .ensures) in (
       rw ambient at told,
-      (rw ambient at (ensured .1 .0), rw ambient at (lowest-told _ entries (ensured .1 .1) (told .number) (c .tell-settled .ensures .figure))),
+      (rw ambient at (ensured .1 .0), rw ambient at (lowest-told _ entries (ensured .1 .1) (told .number) (c .tell-energy .ensures .figure))),
     )
 
 pub mj-search-spec : {M : Type 1} → statement M

@@ -1,0 +1,10 @@
+pub mod Products
+pub mod Options
+pub mod Choosing
+pub mod Attachments
+pub mod Rest
+pub mod Vector
+pub mod Positions
+pub mod Lent
+pub mod Swept
+pub mod LastLeast
