@@ -9,3 +9,5 @@ pub mod Least
 pub mod Zero
 pub mod Rounded
 pub mod Fields
+pub mod Rounding
+pub mod Near

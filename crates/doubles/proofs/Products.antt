@@ -62,7 +62,7 @@ mul-mono-left f z x y r p q e h =
     let j = mul-le-mul-left (over f z) (h .fall) in
     rounds-mono f (mul f z x) (mul f z y) _ _ _ _ (2 ^ low f * 2 ^ low f) (mul-pos (pow-pos (low f)) (pow-pos (low f))) (omega arith) (omega arith) (mul-rounds f z x r p) (mul-rounds f z y r q)
 
-like-le : (s t : Bool) (a b : ℕ) → (overPart s a * overPart t b + underPart s a * underPart t b ≤ a * b) × (overPart s a * underPart t b + underPart s a * overPart t b ≤ a * b)
+pub like-le : (s t : Bool) (a b : ℕ) → (overPart s a * overPart t b + underPart s a * underPart t b ≤ a * b) × (overPart s a * underPart t b + underPart s a * overPart t b ≤ a * b)
 like-le false false a b = omega arith
 like-le false true a b = omega arith
 like-le true false a b = omega arith

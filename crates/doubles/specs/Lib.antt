@@ -4,3 +4,4 @@ pub mod Sum
 pub mod Size
 pub mod Order
 pub mod Least
+pub mod Near
