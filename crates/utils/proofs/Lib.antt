@@ -5,6 +5,7 @@ pub mod Lengths
 pub mod Divided
 pub mod Loops
 pub mod Neighbours
+pub mod Terms
 pub mod Windows
 pub mod Strands
 pub mod Published

@@ -4,6 +4,7 @@ pub mod Figures
 pub mod Answers
 pub mod Loops
 pub mod Single
+pub mod Terms
 pub mod Pair
 pub mod Strength
 pub mod Published
