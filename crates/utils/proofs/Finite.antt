@@ -48,7 +48,7 @@ entropy-sum n x y h p q =
 
 -- ---- one strand
 
-few-neighbours : (s : List Base) → length (neighbours s) ≤ length s - 1
+pub few-neighbours : (s : List Base) → length (neighbours s) ≤ length s - 1
 unfolding neighbours
 few-neighbours [] = omega arith
 few-neighbours (a ∷ []) = omega arith
@@ -172,7 +172,7 @@ both-passed (c ∷ cs) ds e =
     let r = both-passed cs ds (p .1) in
     (rw (p .0) (r .0), r .1)
 
-sequence-short : (s : List ℕ) → firstOf (sequenceChecks s) ≡ Admitted → length (bases s) ≤ 256
+pub sequence-short : (s : List ℕ) → firstOf (sequenceChecks s) ≡ Admitted → length (bases s) ≤ 256
 sequence-short s e = rw (bases-length s) (ltb-false 256 (length s) (passes (WrongSize if tooLong s) (NotABase if any notABase s ∷ TooShort if tooShort s ∷ []) e .0))
 
 pair-short : (a b : List ℕ) → firstOf (pairChecks a b) ≡ Admitted → length (bases a) ≤ 256

@@ -14,3 +14,4 @@ pub mod SameSums
 pub mod ThirtySeconds
 pub mod Small
 pub mod Finite
+pub mod Exact

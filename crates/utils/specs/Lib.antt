@@ -9,4 +9,5 @@ pub mod Pair
 pub mod Strength
 pub mod Published
 pub mod Finite
+pub mod Exact
 pub mod inner
