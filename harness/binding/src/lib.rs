@@ -24,6 +24,7 @@ pub use names::{name_is_base, name_length, name_reply, name_start, strand_glues_
 pub use params::{params_reply, Built, Params};
 pub use sequences::{
     loop_dg, loop_reply, pair_dg, pair_ds, pair_reply, pair_strength, pair_strength_reply,
-    sequence_dg, sequence_ds, sequence_reply, sequence_strength, sequence_strength_reply,
+    published_dg, published_ds, published_reply, sequence_dg, sequence_ds, sequence_reply,
+    sequence_strength, sequence_strength_reply,
 };
 pub use temperature::{ambient_reply, ambient_rt, ambient_scaffold_excess, ambient_strand_excess};

@@ -42,6 +42,9 @@ static void refused_sequence(const uint8_t *s, size_t n, uint32_t number)
     reply("a refused sequence", mj_sequence_reply(s, n), number);
     figure("its dG", mj_sequence_dg(s, n), 0.0);
     figure("its dS", mj_sequence_ds(s, n), 0.0);
+    reply("refused as published", mj_published_reply(s, n), number);
+    figure("its published dG", mj_published_dg(s, n), 0.0);
+    figure("its published dS", mj_published_ds(s, n), 0.0);
 }
 
 static void one_sequence(void)
@@ -50,6 +53,9 @@ static void one_sequence(void)
     figure("AC dG", mj_sequence_dg(SEQ("AC")), -1.44 + 1.96);
     figure("AC dS", mj_sequence_ds(SEQ("AC")), -0.0224 + 0.0057);
     figure("cga dG", mj_sequence_dg(SEQ("cga")), (-2.17 + -1.30) + 1.96);
+    figure("AC published dG", mj_published_dg(SEQ("AC")), -1.44 + 1.96 + 0.05);
+    figure("AC published dS", mj_published_ds(SEQ("AC")), -0.0224 - 0.0057 + 0.0069);
+    figure("gC published dG", mj_published_dg(SEQ("gC")), -2.24 + 1.96 + 0.43);
     reply("256 bases", mj_sequence_reply(many, 256), 0);
     refused_sequence(many, 257, 1);
     refused_sequence(SEQ("acxg"), 2);

@@ -12,6 +12,12 @@ pub fn answer(words: Words) -> Result<Reply, Complaint> {
             let figures = [mj::sequence_dg(&s), mj::sequence_ds(&s)];
             Ok(reply(mj::sequence_reply(&s), &figures))
         }
+        "published" => {
+            expect_words(words, &[1])?;
+            let s = sequence(words[1])?;
+            let figures = [mj::published_dg(&s), mj::published_ds(&s)];
+            Ok(reply(mj::published_reply(&s), &figures))
+        }
         "pair" => {
             expect_words(words, &[2])?;
             let (a, b) = (sequence(words[1])?, sequence(words[2])?);

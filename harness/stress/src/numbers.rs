@@ -37,7 +37,7 @@ fn none(number: u32, figures: &[u64]) -> bool {
 pub fn call(random: &mut Random, tally: &mut Tally) {
     let (a, b) = (any_sequence(random), any_sequence(random));
     let excess = any_double(random);
-    match random.below(7) {
+    match random.below(8) {
         0 => {
             let number = mj::sequence_reply(&a);
             let figures = [mj::sequence_dg(&a), mj::sequence_ds(&a)];
@@ -74,6 +74,11 @@ pub fn call(random: &mut Random, tally: &mut Tally) {
                 mj::ambient_scaffold_excess(excess),
             ];
             tally.call("ambient", number, none(number, &figures));
+        }
+        6 => {
+            let number = mj::published_reply(&a);
+            let figures = [mj::published_dg(&a), mj::published_ds(&a)];
+            tally.call("published", number, none(number, &figures));
         }
         _ => deck(random, tally),
     }
