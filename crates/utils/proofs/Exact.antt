@@ -17,7 +17,8 @@ use Rattle.doubles.specs.Size.{mag, sgn, Within}
 use Rattle.doubles.specs.Order.{over, under}
 use Rattle.doubles.specs.Near.{twoToMinus, NearUnits, NearFraction}
 use Rattle.doubles.specs.Sum.{sumFrom}
-use Rattle.doubles.proofs.Bounds.{zero-within}
+use Rattle.doubles.proofs.Bounds.{zero-within, sum-within}
+use Rattle.doubles.proofs.Sums.{weaken}
 use Rattle.doubles.proofs.Near.{total, round-near, sum-near}
 use Rattle.doubles.proofs.Sum.{sum-append}
 use Rattle.reply.specs.First.{firstOf}
@@ -29,7 +30,7 @@ use Rattle.utils.specs.Single.{Neighbours, neighbours, atNeighbours, sta
 use Rattle.utils.specs.Terms.{isAT, firstBase, lastBase, selfComplementary, endTerm, symmetryTerm, termsAfter, publishedDg, publishedDs, publishedDnaDgDs}
 use Rattle.utils.specs.Exact.{above, below, together, dgOf, dsOf, oldDg, oldDs, paperDg, paperDs, NearSum, count, weakEnds, WholeDuplexes}
 use Rattle.utils.proofs.Small.{small, nearest-within, every, halves, tested}
-use Rattle.utils.proofs.Finite.{few-neighbours, sequence-short}
+use Rattle.utils.proofs.Finite.{few-neighbours, sequence-short, one-energy, sums-finite, energy-of, entropy-of}
 
 -- ---- arithmetic
 
@@ -99,9 +100,10 @@ module _ (places : ℕ) where
       let rest = sides ds (e .1) in
       let x = nearest d in
       let O = total (over binary64) (map nearest ds) in
-      let Q = total (under binary64) (map nearest ds) in
-      (one-more c (2 ^ low binary64) grain (over binary64 x) (under binary64 x) (above d) (below d) O Q (together above ds) (together below ds) (length ds) (here .above) (rest .0),
-      one-more c (2 ^ low binary64) grain (under binary64 x) (over binary64 x) (below d) (above d) Q O (together below ds) (together above ds) (length ds) (here .below) (rest .1))
+      let Q = total (under binary64) (map nearest ds) in (
+        one-more c (2 ^ low binary64) grain (over binary64 x) (under binary64 x) (above d) (below d) O Q (together above ds) (together below ds) (length ds) (here .above) (rest .0),
+        one-more c (2 ^ low binary64) grain (under binary64 x) (over binary64 x) (below d) (above d) Q O (together below ds) (together above ds) (length ds) (here .below) (rest .1),
+      )
 
   fit-small : (d : Decimal) → Fit d → Within binary64 3 (nearest d)
   unfolding Fit
@@ -154,10 +156,10 @@ sum-on xs ys = sym (ap (sumFrom Decimal.zero) (map-append nearest xs ys) ∙ sum
 
 module _ (i e y : Decimal) where
   -- the terms by the three tests that decide them
-  terms : Bool → Bool → Bool → List Decimal
+  unfoldable pub terms : Bool → Bool → Bool → List Decimal
   terms p q r = i ∷ (cond p (e ∷ []) [] ++ (cond q (e ∷ []) [] ++ cond r (y ∷ []) []))
 
-  terms-mapped : (p q r : Bool) → map nearest (terms p q r) ≡ nearest i ∷ (cond p (nearest e ∷ []) [] ++ (cond q (nearest e ∷ []) [] ++ cond r (nearest y ∷ []) []))
+  pub terms-mapped : (p q r : Bool) → map nearest (terms p q r) ≡ nearest i ∷ (cond p (nearest e ∷ []) [] ++ (cond q (nearest e ∷ []) [] ++ cond r (nearest y ∷ []) []))
   unfolding terms
   terms-mapped true true true = refl
   terms-mapped true true false = refl
@@ -271,6 +273,42 @@ module _ (part : Decimal → ℕ) (f : Neighbours → Decimal) (start i e y : De
       together-both part (map f (neighbours s)) (termsAfter i e y s)
       ∙ ap (λ n. together part (map f (neighbours s)) + n) (terms-together i e y part (isAT (firstBase s)) (isAT (lastBase s)) (selfComplementary s))
 
+-- ---- finite
+
+of-size : ℕ → Decimal → Type 0
+of-size most d = Within binary64 most (nearest d)
+
+-- the terms go on from a sum that is finite
+finite-after : (A E : ℕ) (x : Float) (i e y : Decimal) → A + 4 * E ≤ 1024 → Within binary64 A x → of-size E i → of-size E e → of-size E y → (p q r : Bool)
+    → Within binary64 (A + 4 * E) (sumFrom x (map nearest (terms i e y p q r)))
+unfolding of-size
+finite-after A E x i e y room w a b c p q r =
+    let ts = terms i e y p q r in
+    let few : length (map nearest ts) ≤ 4 = rw (length-map ts nearest) (few-terms i e y p q r) in
+    let most : A + length (map nearest ts) * E ≤ A + 4 * E = omega (arith, mul-le-mul-right E few) in
+    weaken (A + 4 * E) most
+    (sum-within E A x (map nearest ts) w (each-map (of-size E) (Within binary64 E) nearest (λ d w. w) ts (terms-fit i e y (of-size E) a b c p q r))
+    (le-trans most (le-trans room (lit≤ tt))))
+
+finite : (s : List ℕ) → Within binary64 773 (publishedDnaDgDs s .dg) × Within binary64 12 (publishedDnaDgDs s .ds)
+unfolding publishedDnaDgDs publishedDg publishedDs termsAfter terms startDg printedStartDs endDg endDs symmetricDg symmetricDs initiationDg initiationDs terminalDg terminalDs symmetryDg symmetryDs of-size
+finite s =
+    let b = bases s in
+    let p = isAT (firstBase b) in
+    let q = isAT (lastBase b) in
+    let r = selfComplementary b in (
+      energy-of 773 (sequenceChecks s) _
+          (λ e.
+          rw (← terms-mapped initiationDg terminalDg symmetryDg p q r)
+          (finite-after 765 2 (stackSum stackDg b) initiationDg terminalDg symmetryDg (lit≤ tt) (one-energy b (sequence-short s e))
+          (nearest-within 2 (lit< tt) initiationDg tt) (nearest-within 2 (lit< tt) terminalDg tt) (nearest-within 2 (lit< tt) symmetryDg tt) p q r)),
+      entropy-of 12 (sequenceChecks s) _
+          (λ e.
+          rw (← terms-mapped (kilo initiationDs) (kilo terminalDs) (kilo symmetryDs) p q r)
+          (finite-after 8 1 (stackSum stackDs b) (kilo initiationDs) (kilo terminalDs) (kilo symmetryDs) (lit≤ tt) (sums-finite .stackEntropy b (sequence-short s e))
+          (nearest-within 1 (lit< tt) (kilo initiationDs) tt) (nearest-within 1 (lit< tt) (kilo terminalDs) tt) (nearest-within 1 (lit< tt) (kilo symmetryDs) tt) p q r)),
+    )
+
 pub whole-duplexes : WholeDuplexes
 unfolding initiationDg terminalDg symmetryDg initiationDs terminalDs symmetryDs
 whole-duplexes =
@@ -279,6 +317,7 @@ whole-duplexes =
       oldEntropy = old-entropy;
       paperEnergy = paper-energy;
       paperEntropy = paper-entropy;
+      paperFinite = finite;
       dgApart = λ s. omega (arith, old-side above dgOf initiationDg initiationDg terminalDg symmetryDg s, paper-side above dgOf initiationDg initiationDg terminalDg symmetryDg s);
       dgAlike = λ s. omega (arith, old-side below dgOf initiationDg initiationDg terminalDg symmetryDg s, paper-side below dgOf initiationDg initiationDg terminalDg symmetryDg s);
       dsAbove = λ s. omega (arith, old-side above dsOf (plus 57 4) (kilo initiationDs) (kilo terminalDs) (kilo symmetryDs) s, paper-side above dsOf (plus 57 4) (kilo initiationDs) (kilo terminalDs) (kilo symmetryDs) s);

@@ -15,3 +15,4 @@ pub mod ThirtySeconds
 pub mod Small
 pub mod Finite
 pub mod Exact
+pub mod PublishedTerms

@@ -6,6 +6,7 @@ use Prim.Native.Nat.{ℕ, _+_, _*_, _^_}
 use lib.Ieee.{Float, binary64}
 use Rattle.doubles.specs.Decimal.{Decimal, plus}
 use Rattle.doubles.specs.Order.{overPart, underPart}
+use Rattle.doubles.specs.Size.{Within}
 use Rattle.doubles.specs.Near.{twoToMinus, NearFraction}
 use Rattle.reply.specs.First.{firstOf}
 use Rattle.reply.specs.declared.Reply.the-variants.{Admitted}
@@ -67,6 +68,8 @@ pub record WholeDuplexes : Type 0 where
   pub oldEntropy : (s : List ℕ) → firstOf (sequenceChecks s) ≡ Admitted → NearSum 34 4 (stringDnaDgDs s .ds) (oldDs (bases s))
   pub paperEnergy : (s : List ℕ) → firstOf (sequenceChecks s) ≡ Admitted → NearSum 34 2 (publishedDnaDgDs s .dg) (paperDg (bases s))
   pub paperEntropy : (s : List ℕ) → firstOf (sequenceChecks s) ≡ Admitted → NearSum 34 4 (publishedDnaDgDs s .ds) (paperDs (bases s))
+  -- the published answers, to whatever is sent, are finite; a refusal has 0.0
+  pub paperFinite : (s : List ℕ) → Within binary64 773 (publishedDnaDgDs s .dg) × Within binary64 12 (publishedDnaDgDs s .ds)
   -- the exact energies of the modes part by 0.05 for each A·T end and 0.43 for a self-complementary sequence
   pub dgApart : (s : List Base) → together above (paperDg s) ≡ together above (oldDg s) + (5 * weakEnds s + 43 * count (selfComplementary s))
   pub dgAlike : (s : List Base) → together below (paperDg s) ≡ together below (oldDg s)

@@ -51,10 +51,12 @@ const PUBLISHED_INITIATION_DS: KcalPerMolKelvin = KcalPerMolKelvin(-0.0057);
 
 // What an end whose pair is A·T adds by the paper.
 const TERMINAL_DG: KcalPerMol = KcalPerMol(0.05);
+
 const TERMINAL_DS: KcalPerMolKelvin = KcalPerMolKelvin(0.0069);
 
 // What a sequence that is its own reverse complement adds by the paper.
 const SYMMETRY_DG: KcalPerMol = KcalPerMol(0.43);
+
 const SYMMETRY_DS: KcalPerMolKelvin = KcalPerMolKelvin(-0.0014);
 
 // The longest sequence.

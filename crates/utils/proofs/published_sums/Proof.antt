@@ -56,13 +56,14 @@ returns c =
     let ds = first .before .before in
     let dg = ds .before in
     let stacks = dg .before in
-    let dna = now (stacks .before .before .args .dna) in
-    (by-the-paper dna (stackSum stackDg (bases dna)) startDg endDg symmetricDg
-    (dg .add .ensures ∙ ap (λ (x : Float). add binary64 x startDg) (stacks .single-sequence-dg-ds .ensures .0))
-    (first .after-end .ensures .0) (last .after-end2 .ensures .0) (c .after-symmetry .ensures .0),
-    by-the-paper dna (stackSum stackDs (bases dna)) printedStartDs endDs symmetricDs
-    (ds .add2 .ensures ∙ ap (λ (x : Float). add binary64 x printedStartDs) (stacks .single-sequence-dg-ds .ensures .1))
-    (first .after-end .ensures .1) (last .after-end2 .ensures .1) (c .after-symmetry .ensures .1))
+    let dna = now (stacks .before .before .args .dna) in (
+      by-the-paper dna (stackSum stackDg (bases dna)) startDg endDg symmetricDg
+          (dg .add .ensures ∙ ap (λ (x : Float). add binary64 x startDg) (stacks .single-sequence-dg-ds .ensures .0))
+          (first .after-end .ensures .0) (last .after-end2 .ensures .0) (c .after-symmetry .ensures .0),
+      by-the-paper dna (stackSum stackDs (bases dna)) printedStartDs endDs symmetricDs
+          (ds .add2 .ensures ∙ ap (λ (x : Float). add binary64 x printedStartDs) (stacks .single-sequence-dg-ds .ensures .1))
+          (first .after-end .ensures .1) (last .after-end2 .ensures .1) (c .after-symmetry .ensures .1),
+    )
 
 pub published-sums-spec : {M : Type 1} → statement M
 published-sums-spec =
