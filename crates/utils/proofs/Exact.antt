@@ -3,7 +3,7 @@ use mathlib.Core.Path.{_≡_, refl, ap, sym, _∙_}
 use mathlib.Core.Bool.{Bool, true, false, cond, _&&_}
 use mathlib.Core.List.{List, [], _∷_, _++_, map, map-map, map-append}
 use Prim.Native.Nat.{ℕ, zero, suc, _+_, _-_, _*_, _^_, _≤_, _<_}
-use native.Mathlib.Nat.{le-trans, add-mul, suc-mul, mul-le-mul-right, lt-of-lt-of-le, pow-le-pow-left, mul-comm, mul-left-comm}
+use native.Mathlib.Nat.{le-trans, add-mul, suc-mul, mul-le-mul-right, lt-of-lt-of-le, pow-le-pow-left, mul-left-comm}
 use native.Mathlib.Omega.{arith}
 use lib.Dec.{T, eqb, leb, eqb→eq, leb→le, le→leb, lit≤, lit<}
 use lib.Pow.{pow-pos, pow-add}
@@ -65,7 +65,7 @@ zero-under = refl
 -- 259 terms, 2⁻⁴⁴ for each addition and 2⁻⁵² for each decimal, are less than 2⁻³⁴
 few-errors : (n g a most : ℕ) → n ≤ 259 → a ≡ 256 * g → most ≡ 262144 * g → n * a + n * g ≤ most
 few-errors n g a most h p q =
-    let each : n * a ≡ 256 * (n * g) = rw p (simp (mul-comm, mul-left-comm)) in
+    let each : n * a ≡ 256 * (n * g) = rw p (simp mul-left-comm) in
     omega (arith, mul-le-mul-right g h)
 
 -- ---- decimals of one number of places, at most 3 in size

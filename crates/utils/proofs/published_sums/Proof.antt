@@ -32,7 +32,7 @@ shared-slice-read-after-end c = search needs
 after-end-requires : tie.Need-after-end-requires
 after-end-requires c κs =
     let start = c .before .before .before .before .before in
-    base-here (now (start .args .dna)) 0 (start .pre .0) (omega arith)
+    base-here (now (start .args .dna)) _ (start .pre .0) (omega arith)
 
 sub-after-end : tie.Need-sub-after-end
 sub-after-end c = search needs
@@ -43,7 +43,7 @@ shared-slice-read-after-end-2 c = search needs
 after-end-requires-2 : tie.Need-after-end-requires-2
 after-end-requires-2 c κs =
     let start = c .before .before .before .before .before .before .before in
-    base-here (now (start .args .dna)) (length (now (start .args .dna)) - 1) (start .pre .0) (omega arith)
+    base-here (now (start .args .dna)) _ (start .pre .0) (omega arith)
 
 after-symmetry-requires : tie.Need-after-symmetry-requires
 after-symmetry-requires c κs = search needs

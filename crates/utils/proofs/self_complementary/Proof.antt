@@ -36,7 +36,7 @@ shared-slice-read-base c = search needs
 base-requires : tie.Need-base-requires Inv-loop μ-loop
 base-requires c κs =
     let l = c .before .before in
-    base-here (now (l .before .before .args .dna)) (length (now (l .before .before .args .dna)) - 1 - l .loop .i) (l .before .before .pre) (omega arith)
+    base-here (now (l .before .before .args .dna)) _ (l .before .before .pre) (omega arith)
 
 shared-slice-read-base-2 : tie.Need-shared-slice-read-base-2 Inv-loop μ-loop
 shared-slice-read-base-2 c = search needs
@@ -44,7 +44,7 @@ shared-slice-read-base-2 c = search needs
 base-requires-2 : tie.Need-base-requires-2 Inv-loop μ-loop
 base-requires-2 c κs =
     let l = c .before .before .before .before in
-    base-here (now (l .before .before .args .dna)) (l .loop .i) (l .before .before .pre) (omega arith)
+    base-here (now (l .before .before .args .dna)) _ (l .before .before .pre) (omega arith)
 
 good-match-requires : tie.Need-good-match-requires Inv-loop μ-loop
 good-match-requires c κs = search needs
