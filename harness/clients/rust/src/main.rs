@@ -57,9 +57,21 @@ fn one_sequence(checks: &mut Checks) {
     checks.figure("AC dS", mj::sequence_ds(b"AC"), -0.0224 + 0.0057);
     checks.figure("cga dG", mj::sequence_dg(b"cga"), (-2.17 + -1.30) + 1.96);
     checks.reply("256 bases", mj::sequence_reply(&[b'g'; 256]), 0);
-    checks.figure("AC published dG", mj::published_dg(b"AC"), -1.44 + 1.96 + 0.05);
-    checks.figure("AC published dS", mj::published_ds(b"AC"), -0.0224 - 0.0057 + 0.0069);
-    checks.figure("gC published dG", mj::published_dg(b"gC"), -2.24 + 1.96 + 0.43);
+    checks.figure(
+        "AC published dG",
+        mj::published_dg(b"AC"),
+        -1.44 + 1.96 + 0.05,
+    );
+    checks.figure(
+        "AC published dS",
+        mj::published_ds(b"AC"),
+        -0.0224 - 0.0057 + 0.0069,
+    );
+    checks.figure(
+        "gC published dG",
+        mj::published_dg(b"gC"),
+        -2.24 + 1.96 + 0.43,
+    );
     let refused: [(&[u8], u32); 5] = [
         (&[b'g'; 257], 1),
         (b"acxg", 2),

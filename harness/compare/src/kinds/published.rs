@@ -69,7 +69,10 @@ fn symmetric(half: &[u8]) -> Vec<u8> {
         b'g' => b'C',
         byte => byte,
     };
-    half.iter().copied().chain(half.iter().rev().map(other)).collect()
+    half.iter()
+        .copied()
+        .chain(half.iter().rev().map(other))
+        .collect()
 }
 
 fn question(s: &[u8]) -> Question {
