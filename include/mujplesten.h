@@ -3,15 +3,29 @@
  *
  * Link with libexports.a (x86-64 Linux); it needs no other library.
  *
- * Slices. A slice is a pointer and a length in elements. The caller sees to it that the pointer is
- * good for that many elements and aligned for their type, and that a slice lent to be written
- * overlaps no other of the call; the proofs take this for granted, and nothing checks it. With length
- * 0 nothing is read or written through the pointer, which may then be null.
+ * One function is one call. It answers the number of its reply, 0 or that of a refusal, and writes
+ * what else it tells through pointers: a whole number as uint64_t, a double as double. All of them are
+ * written by every call. On a refusal each figure is 0, of a double with all bits 0; and the place of
+ * a fault, where a function has one, is MJ_NOWHERE where the reply has no place. Nothing is kept
+ * between calls, which may run on several threads at a time.
+ *
+ * What a caller sees to; the proofs take it for granted, and nothing checks it:
+ *
+ *   - A slice is a pointer and a length in elements. The pointer is good for that many elements and
+ *     aligned for their type; the length is true. With length 0 nothing is read or written through
+ *     the pointer, which may then be null.
+ *   - A pointer to a number is good for one, aligned, and never null.
+ *   - What a call is to write overlaps nothing else of that call.
+ *   - Doubles are rounded to nearest, and subnormals are kept: the mode in which a program starts.
+ *     Not so after fesetround, in code that sets flush-to-zero or denormals-are-zero, or in a program
+ *     that is linked with -ffast-math.
+ *   - A call has 256 KiB of stack left on its thread: the search takes about 120, mj_params 32, every
+ *     other less than 16.
  *
  * Sequences. Letters are a, c, g, t in either case; no NUL ends a sequence. Of two sequences the
  * second is read by index beside the first, not backwards: "aac" pairs with "ttg" without a mismatch.
  *
- * Replies. A function that ends in _reply answers 0, or the number for which the call is refused:
+ * Replies. 0 is an answer; the others say why a call is refused:
  *
  *    1 size     a sequence of more than 256 bytes; a lent slice of another length; more than 128
  *               entries or positions; not 1 to 64 strands; a glue above 63; a strand or a position
@@ -33,8 +47,7 @@
  *   13 rank     a rank at or above the number of states
  *   14 deck     a stored configuration that breaks the word rules; it also gives the place
  *
- * If several apply, the lowest is given. Every other function answers a double as its 64 bits, or a
- * count; on a refusal all bits are 0. Every function works out its whole call anew and keeps nothing.
+ * If several apply, the lowest is given.
  *
  * Units. Free energies (dg, strengths, rt) are in kcal/mol, entropies (ds) in kcal/mol/K,
  * temperatures and excess temperatures in kelvin.
@@ -49,7 +62,12 @@
 extern "C" {
 #endif
 
-/* One strand with its perfect match, initiation included (string_dna_dg_ds). Replies 1, 2, 3. */
+/* The place of a reply that has none. */
+#define MJ_NOWHERE UINT64_MAX
+
+/* One strand with its perfect match, initiation included (string_dna_dg_ds). Replies 1, 2, 3. The
+ * other three answer one number of the same call, a double as its 64 bits. */
+uint32_t mj_sequence(const uint8_t *s, size_t n, double *dg, double *ds);
 uint32_t mj_sequence_reply(const uint8_t *s, size_t n);
 uint64_t mj_sequence_dg(const uint8_t *s, size_t n);
 uint64_t mj_sequence_ds(const uint8_t *s, size_t n);
@@ -62,61 +80,59 @@ uint64_t mj_published_dg(const uint8_t *s, size_t n);
 uint64_t mj_published_ds(const uint8_t *s, size_t n);
 
 /* Two strands, mismatches and internal loops priced, no initiation (sequence_pair_dg_ds).
- * Replies 1, 2, 4, 5. */
+ * Replies 1, 2, 4, 5. The other three as above. */
+uint32_t mj_pair(const uint8_t *a, size_t m, const uint8_t *b, size_t n, double *dg, double *ds);
 uint32_t mj_pair_reply(const uint8_t *a, size_t m, const uint8_t *b, size_t n);
 uint64_t mj_pair_dg(const uint8_t *a, size_t m, const uint8_t *b, size_t n);
 uint64_t mj_pair_ds(const uint8_t *a, size_t m, const uint8_t *b, size_t n);
 
 /* The free energy of a loop (loop_penalty). Kind: 0 internal, 1 bulge, 2 hairpin; lengths 3 to 10,
  * 12, 14, 16, 18, 20, 25, 30. Reply 5. */
-uint32_t mj_loop_reply(size_t length, uint32_t kind);
-uint64_t mj_loop_dg(size_t length, uint32_t kind);
+uint32_t mj_loop_penalty(size_t length, uint32_t kind, double *dg);
 
 /* The binding strength of one strand with its perfect match at an excess temperature over 37 C,
  * -1024 to 1024 (sequences_strength). Replies 1, 2, 3, 9. */
-uint32_t mj_sequence_strength_reply(const uint8_t *s, size_t n, double excess);
-uint64_t mj_sequence_strength(const uint8_t *s, size_t n, double excess);
+uint32_t mj_sequence_strength(const uint8_t *s, size_t n, double excess, double *strength);
 
 /* The same of two strands. Replies 1, 2, 4, 5, 9. */
-uint32_t mj_pair_strength_reply(const uint8_t *a, size_t m, const uint8_t *b, size_t n,
-                                double excess);
-uint64_t mj_pair_strength(const uint8_t *a, size_t m, const uint8_t *b, size_t n, double excess);
+uint32_t mj_pair_strength(const uint8_t *a, size_t m, const uint8_t *b, size_t n, double excess,
+                          double *strength);
 
 /* RT and the two excess temperatures at a temperature of 200 to 500 kelvin. Reply 9. */
-uint32_t mj_ambient_reply(double kelvin);
-uint64_t mj_ambient_rt(double kelvin);
-uint64_t mj_ambient_strand_excess(double kelvin);
-uint64_t mj_ambient_scaffold_excess(double kelvin);
+uint32_t mj_ambient(double kelvin, double *rt, double *strand_excess, double *scaffold_excess);
 
 /* Stored configurations. Reading takes a deck of n words and is lent 128 entries, of which it fills
- * as many as there are positions; writing takes the n entries of a configuration, 0 to 128, and is
- * lent 129 words. What lies past the result is kept, and on a refusal all is. Each function works
- * out its whole call and leaves the same behind; the counts are 0 on a refusal, and the place of a
- * fault is given with reply 14 alone, and otherwise 0. Replies 1, 14 and 1, 9. */
-uint32_t mj_deck_read_reply(const uint32_t *words, size_t n, uint8_t *entries, size_t lent);
-size_t mj_deck_read_count(const uint32_t *words, size_t n, uint8_t *entries, size_t lent);
-size_t mj_deck_read_place(const uint32_t *words, size_t n, uint8_t *entries, size_t lent);
-uint32_t mj_deck_write_reply(const uint8_t *configuration, size_t n, uint32_t *words, size_t lent);
-size_t mj_deck_write_count(const uint8_t *configuration, size_t n, uint32_t *words, size_t lent);
+ * as many as there are positions (count); writing takes the n entries of a configuration, 0 to 128,
+ * and is lent 129 words, of which it fills count. What lies past the result is kept, and on a refusal
+ * all is. The place is the index of the faulty word, with reply 14 alone. Replies 1, 14 and 1, 9.
+ *
+ * A deck has one of two forms: 0 has a word for each strand, 1 a word for each run of one strand; any
+ * other number is refused with 1. Moving takes a deck of n words in a form and is lent 129 words, into
+ * which it writes the deck of the same configuration in the other form. Replies 1, 14, the latter by
+ * the rules of the form that the deck is in. */
+uint32_t mj_deck_read(uint32_t form, const uint32_t *words, size_t n, uint8_t *entries, size_t lent,
+                      uint64_t *place, uint64_t *count);
+uint32_t mj_deck_write(uint32_t form, const uint8_t *configuration, size_t n, uint32_t *words,
+                       size_t lent, uint64_t *count);
+uint32_t mj_deck_move(uint32_t form, const uint32_t *words, size_t n, uint32_t *moved, size_t lent,
+                      uint64_t *place, uint64_t *count);
 
 /* Names. All names lie in one text; each is a start and a length in it, and lists of names have a
  * mark for each beside them: 0 absent, 1 present. The start and length of an absent name are not
  * looked at. A name's trailing stars are stripped to its base; an even number of them means the
  * base, an odd number base*. UTF-8 is not asked for. */
 
-/* The base of a name (self_and_inverse): where it starts, its length, and 1 where the name stands for
- * it, 0 where it stands for base*. Reply 1. */
-uint32_t mj_name_reply(const uint8_t *text, size_t n, size_t start, size_t length);
-size_t mj_name_start(const uint8_t *text, size_t n, size_t start, size_t length);
-size_t mj_name_length(const uint8_t *text, size_t n, size_t start, size_t length);
-uint32_t mj_name_is_base(const uint8_t *text, size_t n, size_t start, size_t length);
+/* The base of a name (self_and_inverse): where it starts in the text, its length, and 1 where the name
+ * stands for it, 0 where it stands for base*. Reply 1. */
+uint32_t mj_name(const uint8_t *text, size_t n, size_t start, size_t length, uint64_t *base_start,
+                 uint64_t *base_length, uint64_t *is_base);
 
 /* The numbers of all glues of the user strands, 0 to 61 of them, three names for each: west, bottom,
  * east; into as many lent glues. A new base takes the next two numbers from 1, for itself and for
  * base*; an absent name is 0. On a refusal all glues are kept. Replies 1, 7. */
-uint32_t mj_strand_glues_reply(const uint8_t *text, size_t n, size_t users, const size_t *starts,
-                               size_t start_count, const size_t *lengths, size_t length_count,
-                               const uint8_t *marks, size_t mark_count, uint8_t *glues, size_t lent);
+uint32_t mj_strand_glues(const uint8_t *text, size_t n, size_t users, const size_t *starts,
+                         size_t start_count, const size_t *lengths, size_t length_count,
+                         const uint8_t *marks, size_t mark_count, uint8_t *glues, size_t lent);
 
 /* A design's glues and tables from names and energies (from_params).
  *
@@ -126,7 +142,7 @@ uint32_t mj_strand_glues_reply(const uint8_t *text, size_t n, size_t users, cons
  *                the second where its mark says so. An entry for one name is for its base and base*
  *   forms        0 where the entry is the two doubles of dgs and dss, 1 where it is the sequence at a
  *                start and length in the text, of 2 to 256 bases, whose energies are those of
- *                mj_sequence_dg and mj_sequence_ds
+ *                mj_sequence
  *   penalty_dg, penalty_ds   are added to both numbers of every entry; 0.0 for none
  *   quencher, reporter       the number of the user strand that is copied, from 1; 0 for none
  *
@@ -134,7 +150,7 @@ uint32_t mj_strand_glues_reply(const uint8_t *text, size_t n, size_t users, cons
  * bottom of its strand) and for the reporter (bottom and east of its strand); scaffold_glues, one for
  * each position; dg and ds, 4,096 cells each, a cell and its mirror for each entry both of whose names
  * are known, all else 0.0. On a refusal all are kept. Replies 1, 2, 3, 6, 7, 8, 9. */
-uint32_t mj_params_reply(
+uint32_t mj_params(
     const uint8_t *text, size_t n, size_t users, const size_t *strand_starts,
     size_t strand_start_count, const size_t *strand_lengths, size_t strand_length_count,
     const uint8_t *strand_marks, size_t strand_mark_count, const size_t *scaffold_starts,
@@ -160,7 +176,8 @@ uint32_t mj_params_reply(
  *
  * Every call checks all of the design. A strand is a friend at a position if dG or dS is nonzero at
  * the cell of the position's glue and the strand's bottom glue. A configuration has an occupant for
- * each position, 0 for an empty place; a state is one that has 0 or a friend at each position. */
+ * each position, 0 for an empty place; a state is one that has 0 or a friend at each position. The
+ * place is written, though no refusal of a design has one: MJ_NOWHERE. */
 #define MJ_DESIGN                                                                              \
     const uint8_t *scaffold, size_t positions, const uint8_t *glues, size_t glue_count,        \
         const double *dg, size_t dg_cells, const double *ds, size_t ds_cells,                  \
@@ -169,42 +186,37 @@ uint32_t mj_params_reply(
 
 /* The bond between strand x and strand y to the east of it: an energy over RT
  * (bond_between_strands). Replies 1, 9, 10. */
-uint32_t mj_strand_bond_reply(MJ_DESIGN, uint8_t x, uint8_t y);
-uint64_t mj_strand_bond(MJ_DESIGN, uint8_t x, uint8_t y);
+uint32_t mj_strand_bond(MJ_DESIGN, uint8_t x, uint8_t y, uint64_t *place, double *bond);
 
 /* The bond between the scaffold at a position and a strand (bond_with_scaffold). Replies 1, 9, 10. */
-uint32_t mj_scaffold_bond_reply(MJ_DESIGN, size_t position, uint8_t strand);
-uint64_t mj_scaffold_bond(MJ_DESIGN, size_t position, uint8_t strand);
+uint32_t mj_scaffold_bond(MJ_DESIGN, size_t position, uint8_t strand, uint64_t *place,
+                          double *bond);
 
 /* The friends of a position, in rising order, into 64 lent entries, of which it fills as many as
- * there are friends; the rest is kept, and on a refusal all is. Both functions leave the same behind.
- * Replies 1, 9, 10. */
-uint32_t mj_friends_reply(MJ_DESIGN, size_t position, uint8_t *entries, size_t lent);
-size_t mj_friends_count(MJ_DESIGN, size_t position, uint8_t *entries, size_t lent);
+ * there are friends (count); the rest is kept, and on a refusal all is. Replies 1, 9, 10. */
+uint32_t mj_friends(MJ_DESIGN, size_t position, uint8_t *entries, size_t lent, uint64_t *place,
+                    uint64_t *count);
 
 /* How many states there are. Replies 1, 9, 10, 12. */
-uint32_t mj_states_reply(MJ_DESIGN);
-uint64_t mj_states_count(MJ_DESIGN);
+uint32_t mj_states(MJ_DESIGN, uint64_t *place, uint64_t *count);
 
 /* The state at a rank in the order of system_states, into one lent entry for each position; on a
  * refusal all are kept. Replies 1, 9, 10, 12, 13. */
-uint32_t mj_state_reply(MJ_DESIGN, uint64_t rank, uint8_t *entries, size_t lent);
+uint32_t mj_state(MJ_DESIGN, uint64_t rank, uint8_t *entries, size_t lent, uint64_t *place);
 
 /* The state energy of a configuration (g_system), in kcal/mol. Replies 1, 9, 10, 11. */
-uint32_t mj_state_energy_reply(MJ_DESIGN, const uint8_t *configuration, size_t n);
-uint64_t mj_state_energy(MJ_DESIGN, const uint8_t *configuration, size_t n);
+uint32_t mj_state_energy(MJ_DESIGN, const uint8_t *configuration, size_t n, uint64_t *place,
+                         double *energy);
 
-/* RT times the chain energy of a configuration, in kcal/mol; mj_chain_sum is the chain energy
- * itself, a plain number. Replies 1, 9, 10, 11. */
-uint32_t mj_chain_energy_reply(MJ_DESIGN, const uint8_t *configuration, size_t n);
-uint64_t mj_chain_energy(MJ_DESIGN, const uint8_t *configuration, size_t n);
-uint64_t mj_chain_sum(MJ_DESIGN, const uint8_t *configuration, size_t n);
+/* The chain energy of a configuration: the sum as it is, a plain number, and RT times it, in kcal/mol.
+ * Replies 1, 9, 10, 11. */
+uint32_t mj_chain_energy(MJ_DESIGN, const uint8_t *configuration, size_t n, uint64_t *place,
+                         double *sum, double *energy);
 
 /* The search (mfe_configuration): the configuration with the lowest RT times chain energy, into one
  * lent entry for each position, 0 for an empty place, and that energy in kcal/mol; on a refusal all
- * entries are kept. Both functions leave the same behind. Replies 1, 9, 10. */
-uint32_t mj_search_reply(MJ_DESIGN, uint8_t *configuration, size_t lent);
-uint64_t mj_search_energy(MJ_DESIGN, uint8_t *configuration, size_t lent);
+ * entries are kept. Replies 1, 9, 10. */
+uint32_t mj_search(MJ_DESIGN, uint8_t *configuration, size_t lent, uint64_t *place, double *energy);
 
 #undef MJ_DESIGN
 

@@ -10,8 +10,6 @@ use Rattle.lists.specs.Find.{any, firstIndex}
 use Rattle.lists.specs.Fold.{foldl}
 use Rattle.doubles.specs.Decimal.{plus, minus, nearest, zero}
 use Rattle.doubles.specs.Sum.{sumFrom}
-use Rattle.reply.specs.Number.{numberOf}
-use Rattle.reply.specs.declared.Refusal.the-variants.{TooShort, NoSuchLoop}
 use Rattle.utils.specs.Answers.{DgDsFigures, refusedDgDs, givenDgDs}
 use Rattle.utils.specs.Bases.{isBase, baseOf, bases}
 use Rattle.utils.specs.Paper.{table1, find, stackOf, initiationDg, table2, mismatchOf, table4}
@@ -30,7 +28,7 @@ unfoldable twoSequences : List ℕ → List ℕ → DgDsFigures
 unfolding oneSequence sequencePairDgDs pairSums lacksLoop neededAfter foldl windows step penalty mismatchDg mismatchOf table2 hasLength loopDg loopEntry loopRows keep firstIndex table4
 twoSequences a b = sequencePairDgDs a b
 
-pub a : stringDnaDgDs (A ∷ []) ≡ refusedDgDs (numberOf TooShort)
+pub a : stringDnaDgDs (A ∷ []) ≡ refusedDgDs 3
 unfolding stringDnaDgDs any isBase
 a = refl
 
@@ -62,7 +60,7 @@ aac-tag-stated = refl
 pub aac-tag : sequencePairDgDs (A ∷ A ∷ C ∷ []) (T ∷ A ∷ G ∷ []) ≡ givenDgDs (nearest (plus 61 2) ⊕ nearest (plus 17 2)) zero
 aac-tag = aac-tag-computed ∙ sym aac-tag-stated
 
-pub loop-of-2 : sequencePairDgDs (A ∷ A ∷ A ∷ A ∷ A ∷ []) (T ∷ A ∷ A ∷ T ∷ T ∷ []) ≡ refusedDgDs (numberOf NoSuchLoop)
+pub loop-of-2 : sequencePairDgDs (A ∷ A ∷ A ∷ A ∷ A ∷ []) (T ∷ A ∷ A ∷ T ∷ T ∷ []) ≡ refusedDgDs 5
 unfolding twoSequences
 loop-of-2 = refl
 

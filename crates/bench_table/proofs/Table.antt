@@ -1,6 +1,6 @@
--- The bench table's daggered lines, all of them. Assumes nothing.
+-- The bench table's daggered lines, all of them, and what is added. Assumes nothing.
 use Rattle.built.specs.Bench as Names
-use Rattle.bench_table.specs.Table.{BenchTable}
+use Rattle.bench_table.specs.Table.{BenchTable, Added}
 use Rattle.bench_table.proofs.Sequences as Sequences
 use Rattle.bench_table.proofs.Designs as Designs
 use Rattle.bench_table.proofs.Decks as Decks
@@ -14,7 +14,6 @@ bench-table =
       loop-of-2 = Sequences.loop-of-2;
       loop-of-3 = Sequences.loop-of-3;
       two-stars = Names.line-a-two-stars;
-      one-star = Names.line-a-one-star;
       no-position = Designs.no-position;
       one-state = Designs.one-state;
       bound = Designs.bound;
@@ -27,3 +26,6 @@ bench-table =
       written = Decks.written;
       fault = Decks.fault;
     }
+
+pub added : Added
+added = record { one-star = Names.line-a-one-star }

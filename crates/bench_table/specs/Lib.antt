@@ -1,4 +1,4 @@
 pub mod Letters
 pub mod Designs
 pub mod Table
-pub mod Ties
+pub mod Readings

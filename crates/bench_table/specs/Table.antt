@@ -6,16 +6,15 @@ use Prim.Native.Nat.{ℕ}
 use lib.ListN.{length, drop}
 use lib.Ieee.{Float, binary64, add}
 use Rattle.doubles.specs.Decimal.{plus, minus, nearest, zero}
-use Rattle.reply.specs.Number.{numberOf, answered}
-use Rattle.reply.specs.declared.Refusal.the-variants.{TooShort, NoSuchLoop, UnknownName, RankTooHigh, BadDeck}
 use Rattle.reply.specs.declared.Place.the-variants.{At}
-use Rattle.utils.specs.Answers.{DgDsFigures, refusedDgDs, givenDgDs}
+use Rattle.utils.specs.Answers.{refusedDgDs, givenDgDs}
 use Rattle.utils.specs.Single.{stringDnaDgDs}
 use Rattle.utils.specs.Pair.{sequencePairDgDs}
 use Rattle.sdc1d_params.specs.Tables.{emptyTable}
 use Rattle.sdc1d_params.specs.Params.{fromParams}
 use Rattle.built.specs.Bench.{oneStrand, lent}
 use Rattle.model.specs.States.{states}
+use Rattle.model.specs.Energy.{walk}
 use Rattle.design.specs.Design.{modelOf}
 use Rattle.design.specs.Answers.{given, refused, countAnswer, rankAnswer, rankEntries}
 use Rattle.mfe.specs.Answers.{searchAnswer, searchEntries}
@@ -45,37 +44,41 @@ faulty = 0x1000_0002 ∷ 0x3000_0001 ∷ 0x3000_0001 ∷ []
 -- the daggered lines, each a field
 pub record BenchTable : Type 0 where
   -- "A": 3
-  pub a : stringDnaDgDs (A ∷ []) ≡ refusedDgDs (numberOf TooShort)
+  pub a : stringDnaDgDs (A ∷ []) ≡ refusedDgDs 3
   -- "AC": dG −1.44 + 1.96; dS −0.0224 + 0.0057
   pub ac : stringDnaDgDs (A ∷ C ∷ []) ≡ givenDgDs (nearest (minus 144 2) ⊕ nearest (plus 196 2)) (nearest (minus 224 4) ⊕ nearest (plus 57 4))
   -- pair AAC, TAG: dG 0.61 + 0.17, dS 0.0
   pub aac-tag : sequencePairDgDs (A ∷ A ∷ C ∷ []) (T ∷ A ∷ G ∷ []) ≡ givenDgDs (nearest (plus 61 2) ⊕ nearest (plus 17 2)) zero
   -- pair AAAAA, TAATT: 5 (length 2)
-  pub loop-of-2 : sequencePairDgDs (A ∷ A ∷ A ∷ A ∷ A ∷ []) (T ∷ A ∷ A ∷ T ∷ T ∷ []) ≡ refusedDgDs (numberOf NoSuchLoop)
+  pub loop-of-2 : sequencePairDgDs (A ∷ A ∷ A ∷ A ∷ A ∷ []) (T ∷ A ∷ A ∷ T ∷ T ∷ []) ≡ refusedDgDs 5
   -- pair AAAAAA, TAAATT: dG 0.61 + 0.69 − 1.0 + 3.2, left to right; dS −0.0213
   pub loop-of-3 :
       sequencePairDgDs (A ∷ A ∷ A ∷ A ∷ A ∷ A ∷ []) (T ∷ A ∷ A ∷ A ∷ T ∷ T ∷ [])
       ≡ givenDgDs (nearest (plus 61 2) ⊕ nearest (plus 69 2) ⊕ nearest (minus 10 1) ⊕ nearest (plus 32 1)) (nearest (minus 213 4))
-  -- scaffold name `a**`, strands use `a`: 6. With `a*` it is built: the strand's glue is 1, the scaffold's 2.
-  pub two-stars : fromParams (oneStrand 3) lent .number ≡ numberOf UnknownName
-  pub one-star :
-      fromParams (oneStrand 2) lent
-      ≡ record { number = answered; strandGlues = 0 ∷ 0 ∷ 0 ∷ 1 ∷ 0 ∷ 0 ∷ 0 ∷ 0 ∷ 0 ∷ 0 ∷ 0 ∷ 0 ∷ []; scaffoldGlues = 2 ∷ []; dg = emptyTable; ds = emptyTable }
+  -- scaffold name `a**`, strands use `a`: 6; all that was lent is as it was
+  pub two-stars : fromParams (oneStrand 3) lent ≡ record { number = 6; strandGlues = lent .strandGlues; scaffoldGlues = lent .scaffoldGlues; dg = lent .dg; ds = lent .ds }
   -- no position: search: empty, 0.0; one state
-  pub no-position : (searchAnswer bare [] ≡ given zero) × (searchEntries bare [] ≡ [])
+  pub no-position : (searchAnswer bare [] ≡ given zero) × (searchEntries bare [] ≡ []) × (walk (modelOf bare) ≡ zero)
   pub one-state : (countAnswer bare ≡ given 1) × (states (modelOf bare) ≡ [] ∷ [])
-  -- RT 0.5, one friend 1, dG −2, dS 0, potential −1: [1], −1.5. What the lent entry held before, x, does not matter, here and below.
-  pub bound : (x : ℕ) → (searchAnswer (onePosition (nearest (minus 2 0))) (x ∷ []) ≡ given (nearest (minus 15 1))) × (searchEntries (onePosition (nearest (minus 2 0))) (x ∷ []) ≡ 1 ∷ [])
+  -- RT 0.5, one friend 1, dG −2, dS 0, potential −1: [1], −1.5. What the lent entry held before, x, does not matter, here and
+  -- below; and the walk through all states ends with the same energy.
+  pub bound : (x : ℕ) → (searchAnswer (onePosition (nearest (minus 2 0))) (x ∷ []) ≡ given (nearest (minus 15 1))) × (searchEntries (onePosition (nearest (minus 2 0))) (x ∷ []) ≡ 1 ∷ []) × (walk (modelOf (onePosition (nearest (minus 2 0)))) ≡ nearest (minus 15 1))
   -- same, dG −0.5: [1], 0.0
-  pub tied : (x : ℕ) → (searchAnswer (onePosition (nearest (minus 5 1))) (x ∷ []) ≡ given zero) × (searchEntries (onePosition (nearest (minus 5 1))) (x ∷ []) ≡ 1 ∷ [])
+  pub tied : (x : ℕ) → (searchAnswer (onePosition (nearest (minus 5 1))) (x ∷ []) ≡ given zero) × (searchEntries (onePosition (nearest (minus 5 1))) (x ∷ []) ≡ 1 ∷ []) × (walk (modelOf (onePosition (nearest (minus 5 1)))) ≡ zero)
   -- that position, then one with friend 2 (dG −2, potential −1), strand bonds 0: [0, 2], −1.5
-  pub later : (x y : ℕ) → (searchAnswer twoPositions (x ∷ y ∷ []) ≡ given (nearest (minus 15 1))) × (searchEntries twoPositions (x ∷ y ∷ []) ≡ 0 ∷ 2 ∷ [])
+  pub later : (x y : ℕ) → (searchAnswer twoPositions (x ∷ y ∷ []) ≡ given (nearest (minus 15 1))) × (searchEntries twoPositions (x ∷ y ∷ []) ≡ 0 ∷ 2 ∷ []) × (walk (modelOf twoPositions) ≡ nearest (minus 15 1))
   -- friends 1, then 2, rank 0, 2, 3, 4: [1,2], [0,2], [0,0], 13
   pub rank-0 : (x y : ℕ) → (rankAnswer twoPositions 0 (x ∷ y ∷ []) ≡ given tt) × (rankEntries twoPositions 0 (x ∷ y ∷ []) ≡ 1 ∷ 2 ∷ [])
   pub rank-2 : (x y : ℕ) → (rankAnswer twoPositions 2 (x ∷ y ∷ []) ≡ given tt) × (rankEntries twoPositions 2 (x ∷ y ∷ []) ≡ 0 ∷ 2 ∷ [])
   pub rank-3 : (x y : ℕ) → (rankAnswer twoPositions 3 (x ∷ y ∷ []) ≡ given tt) × (rankEntries twoPositions 3 (x ∷ y ∷ []) ≡ 0 ∷ 0 ∷ [])
-  pub rank-4 : (x y : ℕ) → (rankAnswer twoPositions 4 (x ∷ y ∷ []) ≡ refused tt (numberOf RankTooHigh)) × (rankEntries twoPositions 4 (x ∷ y ∷ []) ≡ x ∷ y ∷ [])
+  pub rank-4 : (x y : ℕ) → (rankAnswer twoPositions 4 (x ∷ y ∷ []) ≡ refused tt 13) × (rankEntries twoPositions 4 (x ∷ y ∷ []) ≡ x ∷ y ∷ [])
   -- [1,0,0,2]: 10000004 20000001 30000002 20000002
-  pub written : (held : List ℕ) → length held ≡ 129 → (writeFigures singles configuration held ≡ record { number = answered; count = 4 }) × (writeWords singles configuration held ≡ words ++ drop 4 held)
+  pub written : (held : List ℕ) → length held ≡ 129 → (writeFigures singles configuration held ≡ record { number = 0; count = 4 }) × (writeWords singles configuration held ≡ words ++ drop 4 held)
   -- 10000002 30000001 30000001: 14 at word 2 (first word is 0)
-  pub fault : (held : List ℕ) → length held ≡ 128 → (readFigures singles faulty held ≡ record { number = numberOf BadDeck; count = 0; place = At 2 }) × (readEntries singles faulty held ≡ held)
+  pub fault : (held : List ℕ) → length held ≡ 128 → (readFigures singles faulty held ≡ record { number = 14; count = 0; place = At 2 }) × (readEntries singles faulty held ≡ held)
+
+-- Added, no line of document 01: beside the line with `a**`, `a*` is a known name. It is built, the strand's glue 1 and the scaffold's 2.
+pub record Added : Type 0 where
+  pub one-star :
+      fromParams (oneStrand 2) lent
+      ≡ record { number = 0; strandGlues = 0 ∷ 0 ∷ 0 ∷ 1 ∷ 0 ∷ 0 ∷ 0 ∷ 0 ∷ 0 ∷ 0 ∷ 0 ∷ 0 ∷ []; scaffoldGlues = 2 ∷ []; dg = emptyTable; ds = emptyTable }

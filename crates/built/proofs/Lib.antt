@@ -6,3 +6,5 @@ pub mod Written
 pub mod Fits
 pub mod Entries
 pub mod Order
+pub mod Ambients
+pub mod Bench

@@ -1,15 +1,14 @@
 -- Document 01's bench table: the line on names that is marked as proved, through the whole of `from_params`. Letters are their bytes: a is 97,
 -- the star 42.
 use mathlib.Core.Path.{_≡_, refl}
-use mathlib.Core.List.{[], _∷_}
+use mathlib.Core.List.{List, [], _∷_}
 use Prim.Native.Nat.{ℕ}
-use lib.ListN.{replicate}
-use Rattle.doubles.specs.Decimal.{zero}
+use lib.ListN.{replicate, set}
+use lib.Ieee.{Float}
+use Rattle.doubles.specs.Decimal.{plus, minus, nearest, zero}
 use Rattle.lists.specs.Build.{tabulate}
 use Rattle.lists.specs.Find.{any, firstIndex}
 use Rattle.lists.specs.Fold.{foldl}
-use Rattle.reply.specs.Number.{numberOf, answered}
-use Rattle.reply.specs.declared.Refusal.the-variants.{UnknownName}
 use Rattle.sdc_common.specs.Names.{baseLength, baseOf, starsOf, sameName}
 use Rattle.sdc_common.specs.Lent.{namesOf, partOf, glueOf, gluesOf, unfitGlue, unfitNames}
 use Rattle.sdc_common.specs.Numbers.{learn, basesOf, baseNumber, glueNumber, numbersAmong}
@@ -18,6 +17,9 @@ use Rattle.sdc1d_params.specs.Entries.{energiesOf}
 use Rattle.sdc1d_params.specs.Tables.{duplicated, emptyTable, dgTable, dsTable}
 use Rattle.sdc1d_params.specs.Params.{Params, Outcome, writesOf, wrongSize, strandGluesOf, fromParams}
 use Rattle.sdc1d_params.specs.declared.Copied.the-variants.{Nothing}
+use Rattle.units.specs.declared.Ambient.{Ambient}
+use Rattle.design.specs.Design.{design}
+use Rattle.built.specs.Fits.{designOf, WrittenSymmetric}
 
 -- The text is `a**`. One strand, whose west glue is the `a`; one scaffold position, whose name is the first so many bytes; no energy entry,
 -- no penalty, no quencher and no reporter.
@@ -38,23 +40,31 @@ oneStrand bytes =
       reporter = Nothing;
     }
 
--- what is lent: glues for strand 0, the strand, quencher and reporter, one scaffold glue, and two tables
+-- what is lent, with something in each place: glues for strand 0, the strand, quencher and reporter, one scaffold glue, and two tables
 abbrev pub lent : Outcome
-lent = record { number = 0; strandGlues = replicate 12 9; scaffoldGlues = 9 ∷ []; dg = replicate 4096 zero; ds = replicate 4096 zero }
+lent = record { number = 0; strandGlues = replicate 12 9; scaffoldGlues = 9 ∷ []; dg = replicate 4096 (nearest (minus 15 1)); ds = replicate 4096 (nearest (plus 25 2)) }
 
--- scaffold name `a**`, strands use `a`: 6
-pub line-a-two-stars : fromParams (oneStrand 3) lent .number ≡ numberOf UnknownName
+-- scaffold name `a**`, strands use `a`: 6, and all that was lent is as it was
+pub line-a-two-stars :
+    fromParams (oneStrand 3) lent ≡ record { number = 6; strandGlues = lent .strandGlues; scaffoldGlues = lent .scaffoldGlues; dg = lent .dg; ds = lent .ds }
 unfolding fromParams wrongSize unfitNames unfitGlue any tabulate gluesOf glueOf partOf isUnknown knownNames basesOf foldl learn baseOf baseLength sameName
 line-a-two-stars = refl
 
--- and the scaffold glue is as it was lent
-pub line-a-two-stars-kept : fromParams (oneStrand 3) lent .scaffoldGlues ≡ 9 ∷ []
-unfolding fromParams wrongSize unfitNames unfitGlue any tabulate gluesOf glueOf partOf isUnknown knownNames basesOf foldl learn baseOf baseLength sameName
-line-a-two-stars-kept = refl
-
--- the same with `a*` is answered: its glue is 2, that of the strand 1, and every cell is 0.0
+-- Added: the same with `a*` is answered. Its glue is 2, that of the strand 1, and every cell is 0.0.
 pub line-a-one-star :
     fromParams (oneStrand 2) lent
-    ≡ record { number = answered; strandGlues = 0 ∷ 0 ∷ 0 ∷ 1 ∷ 0 ∷ 0 ∷ 0 ∷ 0 ∷ 0 ∷ 0 ∷ 0 ∷ 0 ∷ []; scaffoldGlues = 2 ∷ []; dg = emptyTable; ds = emptyTable }
+    ≡ record { number = 0; strandGlues = 0 ∷ 0 ∷ 0 ∷ 1 ∷ 0 ∷ 0 ∷ 0 ∷ 0 ∷ 0 ∷ 0 ∷ 0 ∷ 0 ∷ []; scaffoldGlues = 2 ∷ []; dg = emptyTable; ds = emptyTable }
 unfolding fromParams wrongSize unfitNames unfitGlue any tabulate gluesOf glueOf partOf isUnknown knownNames basesOf foldl learn baseOf baseLength sameName writesOf duplicated strandGluesOf numbersAmong glueNumber baseNumber starsOf spelledNumber firstIndex dgTable dsTable
 line-a-one-star = refl
+
+-- the same lent, but with a table of dG that is not symmetric: another double at [1][2]
+abbrev pub odd : Outcome
+odd = record { number = 0; strandGlues = lent .strandGlues; scaffoldGlues = lent .scaffoldGlues; dg = set (lent .dg) 66 zero; ds = lent .ds }
+
+-- Added: what is handed on as what, and what is not said of a refusal.
+pub record HandedOn : Type 0 where
+  -- each of the four slices has its place in the design, dG and dS their own
+  pub made : (potentials : List Float) (ambient : Ambient) → designOf lent potentials ambient ≡ design (9 ∷ []) (replicate 12 9) (lent .dg) (lent .ds) potentials ambient
+  -- a refused build leaves what was lent, symmetric or not, and `WrittenSymmetric` claims nothing of it
+  pub kept : fromParams (oneStrand 3) odd .dg ≡ odd .dg
+  pub unclaimed : WrittenSymmetric (oneStrand 3) odd

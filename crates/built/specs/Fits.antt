@@ -4,11 +4,14 @@ use mathlib.Core.Bool.{Bool, false}
 use mathlib.Core.List.{List, _∷_}
 use Prim.Native.Nat.{ℕ, _+_, _<_}
 use lib.ListN.{length}
-use lib.Ieee.{Float}
+use lib.Dec.{T}
+use lib.Ieee.{Float, binary64, fits}
 use Rattle.reply.specs.Number.{answered}
 use Rattle.reply.specs.First.{Check, _if_, firstOf}
 use Rattle.reply.specs.declared.Refusal.the-variants.{WrongSize, OutOfRange}
+use Rattle.units.specs.Ambient.{ambientFigures, ambientAt}
 use Rattle.units.specs.declared.Ambient.{Ambient}
+use Rattle.units.specs.declared.AmbientAnswer.the-variants.{Given}
 use Rattle.sdc1d_params.specs.Params.{Params, Outcome, fromParams}
 use Rattle.design.specs.Design.{Design, design, cell}
 use Rattle.design.specs.Checks.{sizesOut, cellsOut, ambientOut, potentialsOut, nullBinds, designChecks, Admitted}
@@ -40,6 +43,10 @@ WrittenFits p lent =
     → (potentials : List Float) (ambient : Ambient)
     → length potentials ≡ p .users + 3
     → Fits (designOf (fromParams p lent) potentials ambient)
+
+-- Every ambient that `ambient_at` gives, at any double of kelvin, is one that a design takes: RT from 1/8 to 8, excesses within ±1,024.
+abbrev pub AmbientFits : Type 0
+AmbientFits = (kelvin : Float) → T (fits binary64 kelvin) → (ambient : Ambient) → ambientFigures (Given ambient) ≡ ambientAt kelvin → ambientOut ambient ≡ false
 
 -- a table whose cells are those of its mirror, as data: two zeros of different sign are not the same
 abbrev pub Symmetric : List Float → Type 0

@@ -7,8 +7,6 @@ use Rattle.doubles.specs.Decimal.{minus, nearest, zero}
 use Rattle.lists.specs.Build.{tabulate}
 use Rattle.lists.specs.Find.{any, firstIndex}
 use Rattle.lists.specs.Fold.{foldl}
-use Rattle.reply.specs.Number.{numberOf}
-use Rattle.reply.specs.declared.Refusal.the-variants.{DuplicatePair}
 use Rattle.sdc_common.specs.Names.{baseLength, baseOf, starsOf, sameName}
 use Rattle.sdc_common.specs.Lent.{partOf, glueOf, gluesOf, unfitGlue, unfitNames}
 use Rattle.sdc_common.specs.Numbers.{learn, basesOf, baseNumber}
@@ -44,11 +42,11 @@ unfolding withEntries writesOf writeOf tabulate gluesOf glueOf partOf basesOf fo
 name-last = refl
 
 -- each order is refused
-pub name-pair-refused : fromParams (withEntries (oneStrand 2) (forName ∷ forPair ∷ [])) lent .number ≡ numberOf DuplicatePair
+pub name-pair-refused : fromParams (withEntries (oneStrand 2) (forName ∷ forPair ∷ [])) lent .number ≡ 8
 unfolding withEntries fromParams wrongSize unfitNames unfitGlue any tabulate gluesOf glueOf partOf isUnknown knownNames basesOf foldl learn firstIndex baseOf baseLength starsOf sameName baseNumber writesOf writeOf cellOf entryAt Entries.unfitAt samePair duplicated
 name-pair-refused = refl
 
 -- and so is the other order
-pub pair-name-refused : fromParams (withEntries (oneStrand 2) (forPair ∷ forName ∷ [])) lent .number ≡ numberOf DuplicatePair
+pub pair-name-refused : fromParams (withEntries (oneStrand 2) (forPair ∷ forName ∷ [])) lent .number ≡ 8
 unfolding withEntries fromParams wrongSize unfitNames unfitGlue any tabulate gluesOf glueOf partOf isUnknown knownNames basesOf foldl learn firstIndex baseOf baseLength starsOf sameName baseNumber writesOf writeOf cellOf entryAt Entries.unfitAt samePair duplicated
 pair-name-refused = refl

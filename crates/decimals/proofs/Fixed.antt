@@ -10,7 +10,7 @@ use lib.ListN.{length, set, replicate, length-append, length-replicate}
 use lib.Seq.{sets}
 use borrow.Author.Tests.{lt-ltb, le-ltb}
 use lib.Ieee.{Float}
-use Rattle.lists.proofs.Over.{sets-append}
+use Rattle.lists.proofs.Front.{sets-append}
 use Rattle.doubles.specs.Size.{sgn}
 use Rattle.decimals.specs.Digits.{digitsIn, decimalDigits, places}
 use Rattle.decimals.specs.Print.{printed, laid, minusSigns, fixed, millionths, fixedText, unprintable, fixedPrinted, fixedOut}

@@ -5,7 +5,7 @@ use Prim.Native.Nat.{ℕ, _≤_, _<_}
 use lib.ListN.{length}
 use lib.Seq.{sets}
 use borrow.Author.Tests.{lt-ltb, le-ltb}
-use Rattle.lists.proofs.Over.{sets-over}
+use Rattle.lists.proofs.Front.{sets-over}
 use Rattle.decimals.specs.Print.{printed, laid}
 use Rattle.decimals.specs.declared.Printed.the-variants.{Text, TooShort}
 

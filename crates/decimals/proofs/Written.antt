@@ -9,7 +9,7 @@ use lib.ListN.{length, set, length-append}
 use lib.Seq.{set-comm, sets}
 use lib.Arith.{lt-of-le-ne}
 use borrow.Author.Tests.{lt-ltb, le-ltb}
-use Rattle.lists.proofs.Over.{sets-append}
+use Rattle.lists.proofs.Front.{sets-append}
 use Rattle.decimals.specs.Digits.{digitOf, digitsIn, places, decimalDigits}
 
 pub digits-length : (base count n : ℕ) → length (digitsIn base count n) ≡ count

@@ -6,7 +6,7 @@ use lib.Dec.{leb, ltb}
 use lib.ListN.{length, replicate}
 use lib.Ieee.{Float, binary64}
 use lib.Ieee.Nearest.{closest}
-use Rattle.lists.specs.Over.{over}
+use Rattle.lists.specs.Front.{over}
 use Rattle.doubles.specs.Size.{sgn, mag}
 use Rattle.decimals.specs.Digits.{digitsIn, decimalDigits}
 use Rattle.decimals.specs.declared.Printed.{Printed}

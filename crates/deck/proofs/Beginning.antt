@@ -10,16 +10,16 @@ use lib.Dec.{leb, eqb}
 use lib.ListN.{length, take, getD, replicate, length-replicate}
 use borrow.Author.Tests.{leb-true, eqb-true, eq-eqb, le-leb, not-true, not-false}
 use Rattle.lists.specs.Find.{any}
-use Rattle.lists.specs.Beginnings.{beginnings}
+use Rattle.lists.specs.Front.{beginnings}
 use Rattle.lists.proofs.Tests.{both, and-both}
 use Rattle.lists.proofs.Find.{any-replicate, first-le, fails-before, passes-first}
-use Rattle.lists.proofs.Beginnings.{length-beginnings, getD-beginnings}
+use Rattle.lists.proofs.Front.{length-beginnings, getD-beginnings}
 use Rattle.deck.specs.Word.{payloadOf}
-use Rattle.deck.specs.Form.{Form, Rules, nothing, together}
+use Rattle.deck.specs.Form.{Form, Rules, nothing, sameRun}
 use Rattle.deck.specs.Deck.{follow, positions, isDeck, CanBegin, begins, doesNotBegin, misfitOf, FirstMisfit, stretchesOf, deckOf, tooHigh}
 use Rattle.deck.specs.declared.form.Stretch.{Stretch}
-use Rattle.deck.proofs.Stretches.{lastOf, positions-append, laid-length, laid-stretches, follow-append, follow-first, tell-stretches}
-use Rattle.deck.proofs.Decks.{Parts, fit-parts, parts-fit, deck-parts, told-words, deck-valid}
+use Rattle.deck.proofs.Stretches.{lastOf, positions-append, laid-length, laid-stretches, follow-append, follow-first, stretches-have-words}
+use Rattle.deck.proofs.Decks.{Parts, fit-parts, parts-fit, deck-parts, stretches-back, deck-valid}
 
 module _ (form : Form) where
   -- a valid deck's beginnings pass
@@ -28,9 +28,9 @@ module _ (form : Form) where
   begins-if [] c = refl
   begins-if (first ∷ ws) (rest, d) =
       let p = deck-parts form first (ws ++ rest) d in
-      let ss = map (form .told) ws in
-      let ts = map (form .told) rest in
-      let m : map (form .told) (ws ++ rest) ≡ ss ++ ts = map-append (form .told) ws rest in
+      let ss = map (form .stretchOf) ws in
+      let ts = map (form .stretchOf) rest in
+      let m : map (form .stretchOf) (ws ++ rest) ≡ ss ++ ts = map-append (form .stretchOf) ws rest in
       let f : (follow form nothing ss && follow form (lastOf nothing ss) ts) ≡ true = sym (follow-append form nothing ss ts) ∙ ap (follow form nothing) (sym m) ∙ p .0 .follows in
       let s : positions ss + positions ts ≡ payloadOf first = sym (positions-append ss ts) ∙ ap positions (sym m) ∙ p .1 in
       parts-fit form leb first ws
@@ -45,11 +45,11 @@ module _ (form : Form) where
   other : ℕ → ℕ
   other o = cond (eqb o 1) 2 1
 
-  other-apart : (o : ℕ) → together form o (other o) ≡ false
+  other-apart : (o : ℕ) → sameRun form o (other o) ≡ false
   unfolding other
   other-apart o = go (eqb o 1) refl
     where
-      go : (t : Bool) → eqb o 1 ≡ t → together form o (cond t 2 1) ≡ false
+      go : (t : Bool) → eqb o 1 ≡ t → sameRun form o (cond t 2 1) ≡ false
       go true e = rw (eqb-true o 1 e)
       go false e = rw e
 
@@ -69,10 +69,10 @@ module _ (form : Form) where
 
   module _ (rules : Rules form) where
     -- the missing positions, all with one strand, make a beginning a valid deck
-    completed : (first : ℕ) (ws : List ℕ) → Parts form leb first (map (form .told) ws) → CanBegin form (first ∷ ws)
+    completed : (first : ℕ) (ws : List ℕ) → Parts form leb first (map (form .stretchOf) ws) → CanBegin form (first ∷ ws)
     unfolding isDeck
     completed first ws p =
-        let ss = map (form .told) ws in
+        let ss = map (form .stretchOf) ws in
         let left = payloadOf first - positions ss in
         let last = lastOf nothing ss in
         let strand = other (last .occupant) in
@@ -81,17 +81,17 @@ module _ (form : Form) where
         let few = p .few in
         let enough = leb-true (positions ss) (payloadOf first) (p .sum) in
         let n : positions ts ≡ left = sym (laid-length ts) ∙ ap length (laid-stretches form c) ∙ length-replicate left strand in
-        let told : map (form .told) (map (form .word) ts) ≡ ts =
-        told-words form rules ts (tell-stretches form c (any-replicate tooHigh left strand (other-low (last .occupant)))) (omega arith) in
-        let m : map (form .told) (ws ++ map (form .word) ts) ≡ ss ++ ts = map-append (form .told) ws (map (form .word) ts) ∙ ap (ss ++_) told in
+        let back : map (form .stretchOf) (map (form .wordFor) ts) ≡ ts =
+        stretches-back form rules ts (stretches-have-words form c (any-replicate tooHigh left strand (other-low (last .occupant)))) (omega arith) in
+        let m : map (form .stretchOf) (ws ++ map (form .wordFor) ts) ≡ ss ++ ts = map-append (form .stretchOf) ws (map (form .wordFor) ts) ∙ ap (ss ++_) back in
         let sum : positions (ss ++ ts) ≡ payloadOf first = positions-append ss ts ∙ omega arith in (
-          map (form .word) ts,
-          parts-fit form eqb first (ws ++ map (form .word) ts)
+          map (form .wordFor) ts,
+          parts-fit form eqb first (ws ++ map (form .wordFor) ts)
               (record {
                 kind = p .kind;
                 few = p .few;
                 follows = ap (follow form nothing) m ∙ follow-append form nothing ss ts ∙ and-both (p .follows) (follow-other last left);
-                sum = eq-eqb (positions (map (form .told) (ws ++ map (form .word) ts))) (payloadOf first) (ap positions m ∙ sum);
+                sum = eq-eqb (positions (map (form .stretchOf) (ws ++ map (form .wordFor) ts))) (payloadOf first) (ap positions m ∙ sum);
               }),
         )
 

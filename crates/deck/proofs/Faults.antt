@@ -6,7 +6,8 @@ use Prim.Native.Nat.{ℕ}
 use native.Mathlib.Omega.{arith}
 use Rattle.reply.specs.declared.Place.the-variants.{Nowhere, At}
 use Rattle.deck.specs.Form.{Form}
-use Rattle.deck.specs.Deck.{isDeck, misfitOf, faultOf}
+use Rattle.deck.specs.Deck.{isDeck, misfitOf}
+use Rattle.deck.specs.inner.Fault.{faultOf}
 
 module _ (form : Form) (words : List ℕ) where
   pub no-fault : faultOf form words ≡ Nowhere → isDeck form words ≡ true

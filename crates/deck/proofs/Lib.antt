@@ -1,11 +1,15 @@
 pub mod Split
 pub mod Stretches
 pub mod Singles
+pub mod Runs
 pub mod Decks
 pub mod Beginning
 pub mod Walk
 pub mod Faults
 pub mod Laying
-pub mod Runs
+pub mod FirstRun
+pub mod Neighbours
 pub mod Valid
+pub mod ValidRuns
 pub mod Theorems
+pub mod Moves

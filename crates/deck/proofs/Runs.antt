@@ -1,51 +1,61 @@
--- The first stretch of what is left of a configuration, in document 01's form. Assumes nothing.
-use mathlib.Core.Path.{_≡_, _∙_}
-use mathlib.Core.Bool.{true, true≢false}
-use mathlib.Core.List.{List, _∷_, _++_, append-assoc}
-use Prim.Native.Nat.{ℕ, suc, _+_, _-_, _≤_, _<_}
-use native.Mathlib.Numerals.{add-one}
+-- The form with runs keeps the rules of a form. Assumes nothing.
+use mathlib.Core.Path.{_≡_, refl, sym, ap₂, _∙_, subst}
+use mathlib.Core.Bool.{Bool, true, false, cond, true≢false}
+use Prim.Native.Nat.{ℕ, _+_, _-_, _*_, _/_, _%_, _≤_, _<_, _^_}
 use native.Mathlib.Omega.{arith}
-use lib.ListN.{length, getD, drop, replicate, drop-of-length-le, replicate-append-replicate}
-use lib.Seq.{drop-cons}
-use borrow.Author.Tests.{ne-eqb}
-use Rattle.deck.specs.Form.{singles, stretch}
-use Rattle.deck.specs.Deck.{follow, stretchesOf}
-use Rattle.deck.proofs.Stretches.{in-front-single, run-in-front, follow-first}
-use Rattle.deck.proofs.Singles.{together-empties}
+use lib.Dec.{eqb}
+use borrow.Author.Tests.{eqb-true, eqb-false, ne-eqb}
+use Rattle.deck.specs.Word.{kindOf, payloadOf, wordOf}
+use Rattle.deck.specs.Form.{HasWord, Rules, runs, stretch, nothing, strandRun, empties}
+use Rattle.deck.specs.declared.form.Stretch.{Stretch}
+use Rattle.deck.proofs.Split.{kind-word, payload-word, word-split}
 
-module _ (c : List ℕ) where
-  -- a strand is a stretch of its own
-  pub strand-first : (at : ℕ) → at < length c → (getD c at 0 ≡ 0 → ⊥) → stretchesOf singles (drop at c) ≡ stretch (getD c at 0) 1 ∷ stretchesOf singles (drop (at + 1) c)
-  unfolding stretchesOf
-  strand-first at h n = rw (add-one, drop-cons c at 0 h) (in-front-single singles (getD c at 0) (stretchesOf singles (drop (suc at) c)) (ne-eqb (getD c at 0) 0 n))
+-- a word of the form is of kind 4 with a strand and its run, or of kind 3 with a run
+pub word-cases : (C : ℕ → Stretch → Type 0) (word : ℕ)
+    → ((strand run : ℕ) → 1 ≤ strand → strand ≤ 63 → 1 ≤ run → strand + 64 * (run - 1) < 2 ^ 28 → C (wordOf 4 (strand + 64 * (run - 1))) (stretch strand run))
+    → ((run : ℕ) → 1 ≤ run → run < 2 ^ 28 → C (wordOf 3 run) (stretch 0 run))
+    → 1 ≤ runs .stretchOf word .run → C word (runs .stretchOf word)
+word-cases C word strand run h = kinds (eqb (kindOf word) 4) refl (eqb (kindOf word) 3) refl h
+  where
+    of-kind : (k payload : ℕ) {s : Stretch} → eqb (kindOf word) k ≡ true → payload ≡ payloadOf word → C (wordOf k payload) s → C word s
+    of-kind k payload {s} e q c = subst (λ (w : ℕ). C w s) (ap₂ wordOf (sym (eqb-true (kindOf word) k e)) q ∙ word-split word) c
 
-  -- empties from `at` up to `end`
-  abbrev pub Empties : ℕ → ℕ → Type 0
-  Empties at end = drop at c ≡ replicate (end - at) 0 ++ drop end c
+    strands : (t : Bool) → eqb (payloadOf word % 64) 0 ≡ t → eqb (kindOf word) 4 ≡ true
+        → 1 ≤ cond t nothing (stretch (payloadOf word % 64) (payloadOf word / 64 + 1)) .run → C word (cond t nothing (stretch (payloadOf word % 64) (payloadOf word / 64 + 1)))
+    strands true e k h = absurd (omega arith)
+    strands false e k h =
+        let z = eqb-false (payloadOf word % 64) 0 e in
+        of-kind 4 (payloadOf word % 64 + 64 * (payloadOf word / 64 + 1 - 1)) k (omega arith)
+        (strand (payloadOf word % 64) (payloadOf word / 64 + 1) (omega (arith, z)) (omega arith) (omega arith) (omega arith))
 
-  pub empties-one : (at : ℕ) → at < length c → getD c at 0 ≡ 0 → Empties at (at + 1)
-  empties-one at h e = let n : at + 1 - at ≡ 1 = omega arith in rw (n, add-one, drop-cons c at 0 h, e)
+    kinds : (t : Bool) → eqb (kindOf word) 4 ≡ t → (u : Bool) → eqb (kindOf word) 3 ≡ u
+        → 1 ≤ cond t (strandRun (payloadOf word)) (cond u (empties (payloadOf word)) nothing) .run
+        → C word (cond t (strandRun (payloadOf word)) (cond u (empties (payloadOf word)) nothing))
+    kinds true k u e h = strands (eqb (payloadOf word % 64) 0) refl k h
+    kinds false k true e h = of-kind 3 (payloadOf word) e refl (run (payloadOf word) h (omega arith))
+    kinds false k false e h = absurd (omega arith)
 
-  pub empties-more : (at end : ℕ) → at ≤ end → end < length c → getD c end 0 ≡ 0 → Empties at end → Empties at (end + 1)
-  empties-more at end l h e w =
-      let n : end + 1 - at ≡ end - at + 1 = omega arith in
-      rw (w, n, ← replicate-append-replicate {A = ℕ} (end - at) 1 0, append-assoc, add-one, drop-cons c end 0 h, e)
+word-stretch : (o r : ℕ) (empty : Bool) → eqb o 0 ≡ empty → o ≤ 63 → 1 ≤ r → r ≤ 128 → runs .stretchOf (cond empty (wordOf 3 r) (wordOf 4 (o + 64 * (r - 1)))) ≡ stretch o r
+word-stretch o r true e h l k =
+    let f : r < 2 ^ 28 = omega arith in
+    rw (kind-word 3 r f, payload-word 3 r f, eqb-true o 0 e)
+word-stretch o r false e h l k =
+    let z = eqb-false o 0 e in
+    let f : o + 64 * (r - 1) < 2 ^ 28 = omega arith in
+    let a : (o + 64 * (r - 1)) % 64 ≡ o = omega arith in
+    let b : (o + 64 * (r - 1)) / 64 + 1 ≡ r = omega arith in
+    rw (kind-word 4 (o + 64 * (r - 1)) f, payload-word 4 (o + 64 * (r - 1)) f, a, b, ne-eqb o 0 z)
 
-  -- where empties end
-  pub data Ends (end : ℕ) : Type 0 where
-    at-length : length c ≤ end → Ends end
-    at-strand : end < length c → (getD c end 0 ≡ 0 → ⊥) → Ends end
-
-  follow-ends : (end : ℕ) → Ends end → follow singles (stretch 0 1) (stretchesOf singles (drop end c)) ≡ true
-  unfolding follow stretchesOf
-  follow-ends end (at-length h) = rw (drop-of-length-le c h)
-  follow-ends end (at-strand h n) =
-      rw (drop-cons c end 0 h)
-      (follow-first singles (stretch 0 1) (getD c end 0) (drop (suc end) c) (together-empties 0 (getD c end 0) ∙ ne-eqb (getD c end 0) 0 n))
-
-  -- they are one stretch
-  pub empties-first : (at end : ℕ) → at < end → getD c at 0 ≡ 0 → Empties at end → Ends end → stretchesOf singles (drop at c) ≡ stretch (getD c at 0) (end - at) ∷ stretchesOf singles (drop (at + (end - at)) c)
-  empties-first at end l e w ends =
-      let n : end - at ≡ suc (end - at - 1) = omega arith in
-      let m : at + (end - at) ≡ end = omega arith in
-      rw (w, m, e, n) (run-in-front singles (end - at - 1) 0 (drop end c) (λ j. absurd (true≢false j)) (follow-ends end ends))
+pub runs-rules : Rules runs
+runs-rules =
+    record {
+      has-word = λ word.
+          word-cases (λ w s. HasWord runs s) word
+          (λ strand run h k l f. record { some = l; strand = k; single = λ e. absurd (true≢false e) })
+          (λ run h f. record { some = h; strand = omega arith; single = λ e. absurd (true≢false e) });
+      word-back = λ word.
+          word-cases (λ w s. runs .wordFor s ≡ w) word
+          (λ strand run h k l f. rw (ne-eqb strand 0 (λ e. omega arith)))
+          (λ run h f. refl);
+      stretch-back = λ s w few. word-stretch (s .occupant) (s .run) (eqb (s .occupant) 0) refl (w .strand) (w .some) few;
+    }

@@ -7,24 +7,24 @@ use lib.Dec.{leb, eqb}
 use borrow.Author.Tests.{leb-true, eqb-true, eqb-false, ne-eqb, le-leb}
 use Rattle.lists.proofs.Tests.{both}
 use Rattle.deck.specs.Word.{kindOf, payloadOf, wordOf}
-use Rattle.deck.specs.Form.{Tellable, Rules, singles, stretch, nothing, together, oneStrand, empties}
+use Rattle.deck.specs.Form.{HasWord, Rules, singles, stretch, nothing, sameRun, oneStrand, empties}
 use Rattle.deck.specs.declared.form.Stretch.{Stretch}
 use Rattle.deck.proofs.Split.{kind-word, payload-word, word-split}
 
--- only empties are told of together
-pub together-empties : (left right : ℕ) → together singles left right ≡ (eqb left 0 && eqb right 0)
-together-empties left right = go (eqb right 0) refl
+-- only empties stand in runs
+pub same-run-empties : (left right : ℕ) → sameRun singles left right ≡ (eqb left 0 && eqb right 0)
+same-run-empties left right = go (eqb right 0) refl
   where
     go : (t : Bool) → eqb right 0 ≡ t → (eqb left right && t) ≡ (eqb left 0 && t)
     go true e = rw (eqb-true right 0 e)
     go false e = and-false (eqb left right) ∙ sym (and-false (eqb left 0))
 
 -- a word of the form is of kind 2 with a strand, or of kind 3 with a run
-pub told-cases : (C : ℕ → Stretch → Type 0) (word : ℕ)
+pub word-cases : (C : ℕ → Stretch → Type 0) (word : ℕ)
     → ((strand : ℕ) → 1 ≤ strand → strand ≤ 63 → C (wordOf 2 strand) (stretch strand 1))
     → ((run : ℕ) → 1 ≤ run → run < 2 ^ 28 → C (wordOf 3 run) (stretch 0 run))
-    → 1 ≤ singles .told word .run → C word (singles .told word)
-told-cases C word strand run h = kinds (eqb (kindOf word) 2) refl (eqb (kindOf word) 3) refl h
+    → 1 ≤ singles .stretchOf word .run → C word (singles .stretchOf word)
+word-cases C word strand run h = kinds (eqb (kindOf word) 2) refl (eqb (kindOf word) 3) refl h
   where
     of-kind : (k : ℕ) {s : Stretch} → eqb (kindOf word) k ≡ true → C (wordOf k (payloadOf word)) s → C word s
     of-kind k {s} e c = subst (λ (w : ℕ). C w s) (ap (λ (n : ℕ). wordOf n (payloadOf word)) (sym (eqb-true (kindOf word) k e)) ∙ word-split word) c
@@ -43,11 +43,11 @@ told-cases C word strand run h = kinds (eqb (kindOf word) 2) refl (eqb (kindOf w
     kinds false k true e h = of-kind 3 e (run (payloadOf word) h (omega arith))
     kinds false k false e h = absurd (omega arith)
 
-told-word : (o r : ℕ) (empty : Bool) → eqb o 0 ≡ empty → o ≤ 63 → r ≤ 128 → (eqb o 0 ≡ false → r ≡ 1) → singles .told (cond empty (wordOf 3 r) (wordOf 2 o)) ≡ stretch o r
-told-word o r true e h k n =
+word-stretch : (o r : ℕ) (empty : Bool) → eqb o 0 ≡ empty → o ≤ 63 → r ≤ 128 → (eqb o 0 ≡ false → r ≡ 1) → singles .stretchOf (cond empty (wordOf 3 r) (wordOf 2 o)) ≡ stretch o r
+word-stretch o r true e h k n =
     let f : r < 2 ^ 28 = omega arith in
     rw (kind-word 3 r f, payload-word 3 r f, eqb-true o 0 e)
-told-word o r false e h k n =
+word-stretch o r false e h k n =
     let f : o < 2 ^ 28 = omega arith in
     let p : 1 ≤ o = pos o (eqb-false o 0 e) in
     rw (kind-word 2 o f, payload-word 2 o f, le-leb 1 o p, le-leb o 63 h, n e)
@@ -58,13 +58,13 @@ told-word o r false e h k n =
 pub singles-rules : Rules singles
 singles-rules =
     record {
-      tellable = λ word.
-          told-cases (λ w s. Tellable singles s) word
+      has-word = λ word.
+          word-cases (λ w s. HasWord singles s) word
           (λ strand h k. record { some = omega arith; strand = k; single = λ e. refl })
           (λ run h k. record { some = h; strand = omega arith; single = λ e. absurd (let z = eqb-false 0 0 e in z refl) });
-      back = λ word.
-          told-cases (λ w s. singles .word s ≡ w) word
+      word-back = λ word.
+          word-cases (λ w s. singles .wordFor s ≡ w) word
           (λ strand h k. rw (ne-eqb strand 0 (λ e. omega arith)))
           (λ run h k. refl);
-      again = λ s t few. told-word (s .occupant) (s .run) (eqb (s .occupant) 0) refl (t .strand) few (t .single);
+      stretch-back = λ s t few. word-stretch (s .occupant) (s .run) (eqb (s .occupant) 0) refl (t .strand) few (t .single);
     }

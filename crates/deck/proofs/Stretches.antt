@@ -1,4 +1,4 @@
--- Stretches and the positions that they tell of: laid out, the stretches of a configuration give it back, and stretches that may follow one
+-- Stretches and their positions: laid out, the stretches of a configuration give it back, and stretches that may follow one
 -- another are those of what they lay out. Assumes nothing.
 use mathlib.Core.Path.{_≡_, refl, sym, ap, _∙_}
 use mathlib.Core.Bool.{Bool, true, false, cond, not, _&&_, and-assoc, and-false, true≢false}
@@ -12,7 +12,7 @@ use borrow.Author.Tests.{ltb-false, eqb-true, eq-eqb, le-leb, le-ltb, not-true}
 use Rattle.lists.specs.Find.{any}
 use Rattle.lists.proofs.Tests.{both, and-both, neither}
 use Rattle.lists.proofs.Find.{any-append, any-replicate}
-use Rattle.deck.specs.Form.{Form, Tellable, stretch, nothing, something, together, mayFollow}
+use Rattle.deck.specs.Form.{Form, HasWord, stretch, nothing, something, sameRun, mayFollow}
 use Rattle.deck.specs.Deck.{follow, positions, laidOut, inFront, stretchesOf, tooHigh}
 use Rattle.deck.specs.declared.form.Stretch.{Stretch}
 
@@ -36,8 +36,8 @@ abbrev pub Each : (Stretch → Type 0) → List Stretch → Type 0
 Each P [] = Unit
 Each P (s ∷ ss) = P s × Each P ss
 
--- words tell of strands alone, so no strand number is too high
-pub strands-laid : (form : Form) (ss : List Stretch) → Each (Tellable form) ss → any tooHigh (laidOut ss) ≡ false
+-- words stand for strands and empties alone, so no strand number is too high
+pub strands-laid : (form : Form) (ss : List Stretch) → Each (HasWord form) ss → any tooHigh (laidOut ss) ≡ false
 unfolding laidOut any
 strands-laid form [] t = refl
 strands-laid form (s ∷ ss) t =
@@ -55,30 +55,30 @@ module _ (form : Form) where
   follow-same s t [] e f = refl
   follow-same s t (r ∷ ss) e f = rw (e, f)
 
-  -- a position with this occupant is not to be told of by the word of the stretch before
+  -- a position with this occupant is not of one run with the stretch before
   abbrev Apart : Stretch → ℕ → Type 0
-  Apart before o = (something before && together form (before .occupant) o) ≡ false
+  Apart before o = (something before && sameRun form (before .occupant) o) ≡ false
 
   pub may : (before s : Stretch) → something s ≡ true → Apart before (s .occupant) → mayFollow form before s ≡ true
   may before s some apart = rw (some, apart)
 
   pub may-apart : (before s : Stretch) → mayFollow form before s ≡ true → (something s ≡ true) × Apart before (s .occupant)
   may-apart before s m =
-      let p = both (something s) (not (something before && together form (before .occupant) (s .occupant))) m in
-      (p .0, not-true (something before && together form (before .occupant) (s .occupant)) (p .1))
+      let p = both (something s) (not (something before && sameRun form (before .occupant) (s .occupant))) m in
+      (p .0, not-true (something before && sameRun form (before .occupant) (s .occupant)) (p .1))
 
   -- ---- a position in front
 
   -- by whether it joins the first stretch
   in-front-cases : (C : List Stretch → Type 0) (o : ℕ) (s : Stretch) (ss : List Stretch)
-      → (o ≡ s .occupant → form .joined o ≡ true → C (stretch o (suc (s .run)) ∷ ss))
-      → (together form o (s .occupant) ≡ false → C (stretch o 1 ∷ s ∷ ss))
+      → (o ≡ s .occupant → form .inRuns o ≡ true → C (stretch o (suc (s .run)) ∷ ss))
+      → (sameRun form o (s .occupant) ≡ false → C (stretch o 1 ∷ s ∷ ss))
       → C (inFront form o (s ∷ ss))
-  in-front-cases C o s ss join alone = go (together form o (s .occupant)) refl
+  in-front-cases C o s ss join alone = go (sameRun form o (s .occupant)) refl
     where
-      go : (t : Bool) → together form o (s .occupant) ≡ t → C (cond t (stretch o (suc (s .run)) ∷ ss) (stretch o 1 ∷ s ∷ ss))
+      go : (t : Bool) → sameRun form o (s .occupant) ≡ t → C (cond t (stretch o (suc (s .run)) ∷ ss) (stretch o 1 ∷ s ∷ ss))
       go true e =
-          let p = both (eqb o (s .occupant)) (form .joined (s .occupant)) e in
+          let p = both (eqb o (s .occupant)) (form .inRuns (s .occupant)) e in
           let q = eqb-true o (s .occupant) (p .0) in
           join q (rw q (p .1))
       go false e = alone e
@@ -112,22 +112,22 @@ module _ (form : Form) where
   follow-stretches (o ∷ c) = follow-in-front nothing o (stretchesOf form c) refl (follow-stretches c)
 
   -- and its first may follow what its first position may
-  pub follow-first : (before : Stretch) (o : ℕ) (c : List ℕ) → together form (before .occupant) o ≡ false → follow form before (stretchesOf form (o ∷ c)) ≡ true
+  pub follow-first : (before : Stretch) (o : ℕ) (c : List ℕ) → sameRun form (before .occupant) o ≡ false → follow form before (stretchesOf form (o ∷ c)) ≡ true
   unfolding stretchesOf
   follow-first before o c e = follow-in-front before o (stretchesOf form c) (rw e (and-false (something before))) (follow-stretches c)
 
-  tell-in-front : (o : ℕ) (ss : List Stretch) → o ≤ 63 → Each (Tellable form) ss → Each (Tellable form) (inFront form o ss)
-  tell-in-front o [] h t = (record { some = omega arith; strand = h; single = λ e. refl }, tt)
-  tell-in-front o (s ∷ ss) h t =
-      in-front-cases (Each (Tellable form)) o s ss
+  in-front-has-word : (o : ℕ) (ss : List Stretch) → o ≤ 63 → Each (HasWord form) ss → Each (HasWord form) (inFront form o ss)
+  in-front-has-word o [] h t = (record { some = omega arith; strand = h; single = λ e. refl }, tt)
+  in-front-has-word o (s ∷ ss) h t =
+      in-front-cases (Each (HasWord form)) o s ss
       (λ e j. (record { some = omega arith; strand = h; single = λ n. absurd (true≢false (sym j ∙ n)) }, t .1))
       (λ e. (record { some = omega arith; strand = h; single = λ n. refl }, t))
 
-  -- words can tell of a configuration's stretches
-  pub tell-stretches : (c : List ℕ) → any tooHigh c ≡ false → Each (Tellable form) (stretchesOf form c)
+  -- a configuration's stretches have words
+  pub stretches-have-words : (c : List ℕ) → any tooHigh c ≡ false → Each (HasWord form) (stretchesOf form c)
   unfolding stretchesOf any
-  tell-stretches [] h = tt
-  tell-stretches (o ∷ c) h = let p = neither (tooHigh o) (any tooHigh c) h in tell-in-front o (stretchesOf form c) (ltb-false 63 o (p .0)) (tell-stretches c (p .1))
+  stretches-have-words [] h = tt
+  stretches-have-words (o ∷ c) h = let p = neither (tooHigh o) (any tooHigh c) h in in-front-has-word o (stretchesOf form c) (ltb-false 63 o (p .0)) (stretches-have-words c (p .1))
 
   fewer-in-front : (o : ℕ) (ss : List Stretch) → length (inFront form o ss) ≤ suc (length ss)
   fewer-in-front o [] = omega arith
@@ -141,7 +141,7 @@ module _ (form : Form) where
 
   -- ---- a run in front
 
-  pub in-front-single : (o : ℕ) (ss : List Stretch) → form .joined o ≡ false → inFront form o ss ≡ stretch o 1 ∷ ss
+  pub in-front-single : (o : ℕ) (ss : List Stretch) → form .inRuns o ≡ false → inFront form o ss ≡ stretch o 1 ∷ ss
   in-front-single o [] n = refl
   in-front-single o (s ∷ ss) n = in-front-cases (λ ts. ts ≡ stretch o 1 ∷ s ∷ ss) o s ss (λ e j. absurd (true≢false (sym j ∙ n))) (λ e. refl)
 
@@ -151,26 +151,26 @@ module _ (form : Form) where
   in-front-apart o (s ∷ ss) f = rw (may-apart (stretch o 1) s (both (mayFollow form (stretch o 1) s) (follow form s ss) f .0) .1)
 
   -- a run, and stretches that it does not go on into
-  pub run-in-front : (r o : ℕ) (c : List ℕ) → (form .joined o ≡ false → r ≡ 0) → follow form (stretch o 1) (stretchesOf form c) ≡ true
+  pub run-in-front : (r o : ℕ) (c : List ℕ) → (form .inRuns o ≡ false → r ≡ 0) → follow form (stretch o 1) (stretchesOf form c) ≡ true
       → stretchesOf form (replicate (suc r) o ++ c) ≡ stretch o (suc r) ∷ stretchesOf form c
   unfolding stretchesOf
   run-in-front zero o c n f = in-front-apart o (stretchesOf form c) f
-  run-in-front (suc r) o c n f = go (form .joined o) refl (λ m. run-in-front r o c m f)
+  run-in-front (suc r) o c n f = go (form .inRuns o) refl (λ m. run-in-front r o c m f)
     where
-      go : (j : Bool) → form .joined o ≡ j → ((form .joined o ≡ false → r ≡ 0) → stretchesOf form (replicate (suc r) o ++ c) ≡ stretch o (suc r) ∷ stretchesOf form c)
+      go : (j : Bool) → form .inRuns o ≡ j → ((form .inRuns o ≡ false → r ≡ 0) → stretchesOf form (replicate (suc r) o ++ c) ≡ stretch o (suc r) ∷ stretchesOf form c)
           → stretchesOf form (replicate (suc (suc r)) o ++ c) ≡ stretch o (suc (suc r)) ∷ stretchesOf form c
       go true j shorter = rw (shorter (λ e. absurd (true≢false (sym j ∙ e))), eq-eqb o o refl, j)
       go false j shorter = absurd (let z = n j in omega arith)
 
   -- stretches that may follow one another are the stretches of what they lay out
-  pub stretches-laid : (before : Stretch) (ss : List Stretch) → follow form before ss ≡ true → Each (Tellable form) ss → stretchesOf form (laidOut ss) ≡ ss
+  pub stretches-laid : (before : Stretch) (ss : List Stretch) → follow form before ss ≡ true → Each (HasWord form) ss → stretchesOf form (laidOut ss) ≡ ss
   unfolding laidOut follow stretchesOf
   stretches-laid before [] f t = refl
   stretches-laid before (s ∷ ss) f t =
       let g = both (mayFollow form before s) (follow form s ss) f .1 in
       step (s .occupant) (s .run) (t .0) g (stretches-laid s ss g (t .1))
     where
-      step : (o r : ℕ) → Tellable form (stretch o r) → follow form (stretch o r) ss ≡ true → stretchesOf form (laidOut ss) ≡ ss → stretchesOf form (replicate r o ++ laidOut ss) ≡ stretch o r ∷ ss
+      step : (o r : ℕ) → HasWord form (stretch o r) → follow form (stretch o r) ss ≡ true → stretchesOf form (laidOut ss) ≡ ss → stretchesOf form (replicate r o ++ laidOut ss) ≡ stretch o r ∷ ss
       step o zero t g e = absurd (not-suc-le-zero (t .some))
       step o (suc r) t g e =
           run-in-front r o (laidOut ss) (λ j. let z = t .single j in omega arith)

@@ -1,4 +1,4 @@
--- What specs/Theorems.antt states, of every form that keeps the rules, and of document 01's. Assumes nothing.
+-- What specs/Theorems.antt states of every form that keeps the rules, and of the two forms. Assumes nothing.
 use mathlib.Core.Path.{_≡_, refl, sym, ap, subst, _∙_}
 use mathlib.Core.Bool.{Bool, true, false, not, _||_, false≢true, true≢false}
 use mathlib.Core.List.{List, [], _∷_}
@@ -8,21 +8,23 @@ use lib.Dec.{ltb, eqb}
 use lib.ListN.{length}
 use borrow.Author.Tests.{ltb-false, le-ltb, eqb-true, eq-eqb}
 use Rattle.lists.specs.Find.{any}
-use Rattle.lists.specs.Over.{over}
-use Rattle.lists.proofs.Over.{take-over}
+use Rattle.lists.specs.Front.{over}
+use Rattle.lists.proofs.Front.{take-over}
 use Rattle.reply.specs.Number.{numberOf, answered}
 use Rattle.reply.specs.First.{firstOf, answer, _if_}
 use Rattle.reply.proofs.Lowest.{lowest-given}
 use Rattle.reply.specs.declared.Refusal.the-variants.{WrongSize, OutOfRange, BadDeck}
 use Rattle.reply.specs.declared.Place.the-variants.{Nowhere, At}
-use Rattle.deck.specs.Form.{Form, Rules, singles}
+use Rattle.deck.specs.Form.{Form, Rules, singles, runs}
 use Rattle.deck.specs.Deck.{isDeck, FirstMisfit, misfitOf, configurationOf, deckOf, tooHigh}
 use Rattle.deck.specs.Reading.{ReadFigures, readChecks, readRefused, readFigures, readEntries}
 use Rattle.deck.specs.Writing.{writeChecks, writeRefused, writeFigures, writeWords}
-use Rattle.deck.specs.Theorems.{Document, Configuration, Decks, Places, Replies, Refusals, Calls, given}
+use Rattle.deck.specs.Theorems.{Document, DocumentRuns, Configuration, Decks, Places, Replies, Refusals, Calls, given}
 use Rattle.deck.proofs.Singles.{singles-rules}
+use Rattle.deck.proofs.Runs.{runs-rules}
 use Rattle.deck.proofs.Decks.{deck-valid, deck-configuration, configuration-few, configuration-strands, configuration-deck}
 use Rattle.deck.proofs.Valid.{valid-right}
+use Rattle.deck.proofs.ValidRuns.{valid-runs-right}
 use Rattle.deck.proofs.Beginning.{begins-right, misfit-right}
 
 pub replies : (form : Form) → Replies form
@@ -179,3 +181,17 @@ singles-places = places singles singles-rules
 
 pub singles-calls : Calls singles
 singles-calls = calls singles singles-rules
+
+-- ---- the form with runs
+
+pub document-runs : DocumentRuns
+document-runs = record { valid = valid-runs-right }
+
+pub runs-decks : Decks runs
+runs-decks = decks runs runs-rules
+
+pub runs-places : Places runs
+runs-places = places runs runs-rules
+
+pub runs-calls : Calls runs
+runs-calls = calls runs runs-rules

@@ -1,22 +1,22 @@
 -- `isDeck` of document 01's form is the test for the document's rules, taken one by one. Assumes nothing.
 use mathlib.Core.Path.{_≡_, refl, sym, ap, _∙_}
-use mathlib.Core.Bool.{Bool, true, false, _&&_, and-false, true≢false, false≢true}
+use mathlib.Core.Bool.{Bool, true, false, _&&_, true≢false, false≢true}
 use mathlib.Core.List.{List, [], _∷_, _++_, map}
 use mathlib.Core.Logic.{_↔_}
 use Prim.Native.Nat.{ℕ, _≤_, _<_, _^_}
 use native.Mathlib.Omega.{arith}
 use lib.Dec.{eqb}
-use borrow.Author.Tests.{leb-true, le-leb, eqb-true, eq-eqb, ne-eqb}
-use Rattle.lists.proofs.Tests.{both, and-both}
+use borrow.Author.Tests.{le-leb, eqb-true, eq-eqb, ne-eqb}
+use Rattle.lists.proofs.Tests.{and-both}
 use Rattle.deck.specs.Word.{kindOf, payloadOf}
-use Rattle.deck.specs.Form.{singles, nothing, something, together, mayFollow}
-use Rattle.deck.specs.Deck.{follow, positions, isDeck}
+use Rattle.deck.specs.Form.{singles, sameRun}
+use Rattle.deck.specs.Deck.{positions, isDeck}
 use Rattle.deck.specs.Valid.{StrandOrEmpties, strand, empties, positionsOf, total, ValidDeck}
 use Rattle.deck.specs.declared.form.Stretch.{Stretch}
 use Rattle.deck.proofs.Split.{kind-word, payload-word}
-use Rattle.deck.proofs.Stretches.{may, may-apart}
-use Rattle.deck.proofs.Singles.{told-cases, together-empties}
+use Rattle.deck.proofs.Singles.{word-cases, same-run-empties}
 use Rattle.deck.proofs.Decks.{deck-parts, parts-fit}
+use Rattle.deck.proofs.Neighbours.{Neighbours, right-one, follow-neighbours, neighbours-follow}
 
 -- what the rules say of a word, and what the form does
 record Same (word : ℕ) (s : Stretch) : Type 0 where
@@ -24,9 +24,9 @@ record Same (word : ℕ) (s : Stretch) : Type 0 where
   run : positionsOf word ≡ s .run
   empty : eqb (s .occupant) 0 ≡ eqb (kindOf word) 3
 
-same : (word : ℕ) → 1 ≤ singles .told word .run → Same word (singles .told word)
+same : (word : ℕ) → 1 ≤ singles .stretchOf word .run → Same word (singles .stretchOf word)
 same word =
-    told-cases Same word
+    word-cases Same word
     (λ n h k.
     let f : n < 2 ^ 28 = omega arith in
     let p = payload-word 2 n f in
@@ -37,98 +37,68 @@ same word =
     let e = kind-word 3 n k in
     record { rule = empties e (omega arith); run = rw (e, p); empty = rw e })
 
-told-rule : (word : ℕ) → StrandOrEmpties word → 1 ≤ singles .told word .run
-told-rule word (strand k l h) = rw (k, le-leb 1 (payloadOf word) l, le-leb (payloadOf word) 63 h) (omega arith)
-told-rule word (empties k l) = rw k l
+rule-word : (word : ℕ) → StrandOrEmpties word → 1 ≤ singles .stretchOf word .run
+rule-word word (strand k l h) = rw (k, le-leb 1 (payloadOf word) l, le-leb (payloadOf word) 63 h) (omega arith)
+rule-word word (empties k l) = rw k l
+
+-- words of kind 3 stand for positions of one run, and no others do
+module _ {left right : ℕ} (l : Same left (singles .stretchOf left)) (r : Same right (singles .stretchOf right)) where
+  same-run-words : sameRun singles (singles .stretchOf left .occupant) (singles .stretchOf right .occupant) ≡ (eqb (kindOf left) 3 && eqb (kindOf right) 3)
+  same-run-words = same-run-empties (singles .stretchOf left .occupant) (singles .stretchOf right .occupant) ∙ rw (l .empty, r .empty)
+
+total-positions : (words : List ℕ) → ((front back : List ℕ) (word : ℕ) → words ≡ front ++ word ∷ back → 1 ≤ singles .stretchOf word .run) → total words ≡ positions (map (singles .stretchOf) words)
+unfolding total positions
+total-positions [] each = refl
+total-positions (w ∷ ws) each =
+    rw (same w (each [] ws w refl) .run, total-positions ws (λ front back word e. each (w ∷ front) back word (ap (w ∷_) e)))
 
 -- ---- from the test to the rules
-
-record Head (before : Stretch) (word : ℕ) (rest : List ℕ) : Type 0 where
-  some : something (singles .told word) ≡ true
-  is : Same word (singles .told word)
-  apart : (something before && together singles (before .occupant) (singles .told word .occupant)) ≡ false
-  follows : follow singles (singles .told word) (map (singles .told) rest) ≡ true
-
-head : (before : Stretch) (word : ℕ) (rest : List ℕ) → follow singles before (map (singles .told) (word ∷ rest)) ≡ true → Head before word rest
-unfolding follow
-head before word rest f =
-    let s = singles .told word in
-    let p = both (mayFollow singles before s) (follow singles s (map (singles .told) rest)) f in
-    let q = may-apart singles before s (p .0) in
-    record { some = q .0; is = same word (leb-true 1 (s .run) (q .0)); apart = q .1; follows = p .1 }
-
-total-positions : (before : Stretch) (ws : List ℕ) → follow singles before (map (singles .told) ws) ≡ true → total ws ≡ positions (map (singles .told) ws)
-unfolding total positions
-total-positions before [] f = refl
-total-positions before (w ∷ ws) f =
-    let h = head before w ws f in
-    rw (h .is .run, total-positions (singles .told w) ws (h .follows))
-
-each-word : (before : Stretch) (front back : List ℕ) (word : ℕ) → follow singles before (map (singles .told) (front ++ word ∷ back)) ≡ true → StrandOrEmpties word
-each-word before [] back word f = head before word back f .is .rule
-each-word before (w ∷ front) back word f = each-word (singles .told w) front back word (head before w (front ++ word ∷ back) f .follows)
-
--- runs of empties are told of together, and nothing else is
-module _ {left right : ℕ} (l : Same left (singles .told left)) (r : Same right (singles .told right)) where
-  together-runs : together singles (singles .told left .occupant) (singles .told right .occupant) ≡ (eqb (kindOf left) 3 && eqb (kindOf right) 3)
-  together-runs = together-empties (singles .told left .occupant) (singles .told right .occupant) ∙ rw (l .empty, r .empty)
-
-runs-apart : (before : Stretch) (front back : List ℕ) (left right : ℕ) → follow singles before (map (singles .told) (front ++ left ∷ right ∷ back)) ≡ true
-    → kindOf left ≡ 3 → kindOf right ≡ 3 → ⊥
-runs-apart before [] back left right f p q =
-    let l = head before left (right ∷ back) f in
-    let r = head (singles .told left) right back (l .follows) in
-    let t = together-runs (l .is) (r .is) in
-    true≢false (sym (and-both (l .some) (t ∙ and-both (eq-eqb (kindOf left) 3 p) (eq-eqb (kindOf right) 3 q))) ∙ r .apart)
-runs-apart before (w ∷ front) back left right f p q = runs-apart (singles .told w) front back left right (head before w (front ++ left ∷ right ∷ back) f .follows) p q
-
--- ---- from the rules to the test
-
-follow-rules : (before : Stretch) (ws : List ℕ)
-    → ((front back : List ℕ) (word : ℕ) → ws ≡ front ++ word ∷ back → StrandOrEmpties word)
-    → ((front back : List ℕ) (left right : ℕ) → ws ≡ front ++ left ∷ right ∷ back → kindOf left ≡ 3 → kindOf right ≡ 3 → ⊥)
-    → ((word : ℕ) (rest : List ℕ) → ws ≡ word ∷ rest → (something before && together singles (before .occupant) (singles .told word .occupant)) ≡ false)
-    → follow singles before (map (singles .told) ws) ≡ true
-unfolding follow
-follow-rules before [] each apart first = refl
-follow-rules before (w ∷ ws) each apart first =
-    let s = singles .told w in
-    let one = told-rule w (each [] ws w refl) in
-    and-both (may singles before s (le-leb 1 (s .run) one) (first w ws refl))
-    (follow-rules s ws (λ front back word e. each (w ∷ front) back word (ap (w ∷_) e)) (λ front back left right e. apart (w ∷ front) back left right (ap (w ∷_) e))
-    (λ v rest e.
-    let t = together-runs (same w one) (same v (told-rule v (each (w ∷ []) rest v (ap (w ∷_) e)))) in
-    rw t (not-both (something s) (eqb (kindOf w) 3) refl (eqb (kindOf v) 3) refl (apart [] rest w v (ap (w ∷_) e)))))
-  where
-    not-both : {k l : ℕ} (u a : Bool) → eqb k 3 ≡ a → (b : Bool) → eqb l 3 ≡ b → (k ≡ 3 → l ≡ 3 → ⊥) → (u && (a && b)) ≡ false
-    not-both {k} {l} u true p true q n = absurd (n (eqb-true k 3 p) (eqb-true l 3 q))
-    not-both u true p false q n = and-false u
-    not-both u false p b q n = and-false u
 
 to-rules : (words : List ℕ) → isDeck singles words ≡ true → ValidDeck words
 unfolding isDeck
 to-rules [] d = absurd (false≢true d)
 to-rules (first ∷ rest) d =
     let p = deck-parts singles first rest d in
-    let f = p .0 .follows in
+    let n = follow-neighbours singles rest (p .0 .follows) in
     record {
       first = first;
       rest = rest;
       split = refl;
       kind = p .0 .kind;
       most = p .0 .few;
-      each = λ front back word e. each-word nothing front back word (rw e at f);
-      apart = λ front back left right e. runs-apart nothing front back left right (rw e at f);
-      sum = total-positions nothing rest f ∙ p .1;
+      each = λ front back word e. same word (n .each front back word e) .rule;
+      apart = λ front back left right e k l.
+          let t = same-run-words (same left (n .each front (right ∷ back) left e)) (same right (n .each (front ++ left ∷ []) back right (right-one front back left right e))) in
+          true≢false (sym (and-both (eq-eqb (kindOf left) 3 k) (eq-eqb (kindOf right) 3 l)) ∙ sym t ∙ n .apart front back left right e);
+      sum = total-positions rest (n .each) ∙ p .1;
+    }
+
+-- ---- from the rules to the test
+
+not-both : {k l : ℕ} (a : Bool) → eqb k 3 ≡ a → (b : Bool) → eqb l 3 ≡ b → (k ≡ 3 → l ≡ 3 → ⊥) → (a && b) ≡ false
+not-both {k} {l} true p true q n = absurd (n (eqb-true k 3 p) (eqb-true l 3 q))
+not-both true p false q n = refl
+not-both false p b q n = refl
+
+rules-neighbours : (words : List ℕ) (v : ValidDeck words) → Neighbours singles (v .rest)
+rules-neighbours words v =
+    let each : (front back : List ℕ) (word : ℕ) → v .rest ≡ front ++ word ∷ back → 1 ≤ singles .stretchOf word .run = λ front back word e. rule-word word (v .each front back word e) in
+    record {
+      each = each;
+      apart = λ front back left right e.
+          rw (same-run-words (same left (each front (right ∷ back) left e)) (same right (each (front ++ left ∷ []) back right (right-one front back left right e))))
+          (not-both (eqb (kindOf left) 3) refl (eqb (kindOf right) 3) refl (v .apart front back left right e));
     }
 
 to-test : (words : List ℕ) → ValidDeck words → isDeck singles words ≡ true
 unfolding isDeck
 to-test words v =
-    let ss = map (singles .told) (v .rest) in
-    let f = follow-rules nothing (v .rest) (v .each) (v .apart) (λ word rest e. refl) in
-    let n : positions ss ≡ payloadOf (v .first) = sym (total-positions nothing (v .rest) f) ∙ v .sum in
-    rw (v .split) (parts-fit singles eqb (v .first) (v .rest) (record { kind = v .kind; few = v .most; follows = f; sum = eq-eqb (positions ss) (payloadOf (v .first)) n }))
+    let ss = map (singles .stretchOf) (v .rest) in
+    let n = rules-neighbours words v in
+    let sum : positions ss ≡ payloadOf (v .first) = sym (total-positions (v .rest) (n .each)) ∙ v .sum in
+    rw (v .split)
+    (parts-fit singles eqb (v .first) (v .rest)
+    (record { kind = v .kind; few = v .most; follows = neighbours-follow singles (v .rest) n; sum = eq-eqb (positions ss) (payloadOf (v .first)) sum }))
 
 pub valid-right : (words : List ℕ) → (isDeck singles words ≡ true) ↔ ValidDeck words
 valid-right words = (to-rules words, to-test words)

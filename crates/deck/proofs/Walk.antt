@@ -11,14 +11,15 @@ use lib.ListN.{length, getD, drop, drop-of-length-le}
 use lib.Seq.{drop-cons}
 use borrow.Author.Tests.{leb-true, leb-false, eqb-true, eqb-false, eq-eqb, ne-eqb, le-leb, lt-leb}
 use Rattle.lists.specs.Find.{firstIndex}
-use Rattle.lists.specs.Beginnings.{beginnings}
+use Rattle.lists.specs.Front.{beginnings}
 use Rattle.lists.proofs.Find.{first-map, first-same}
-use Rattle.lists.proofs.Beginnings.{beginnings-map}
+use Rattle.lists.proofs.Front.{beginnings-map}
 use Rattle.reply.specs.declared.Place.{Place}
 use Rattle.reply.specs.declared.Place.the-variants.{Nowhere, At}
 use Rattle.deck.specs.Word.{payloadOf}
 use Rattle.deck.specs.Form.{Form, nothing, mayFollow}
-use Rattle.deck.specs.Deck.{isFirst, follow, positions, isDeck, begins, doesNotBegin, misfitOf, faultOf}
+use Rattle.deck.specs.Deck.{isFirst, follow, positions, isDeck, begins, doesNotBegin, misfitOf}
+use Rattle.deck.specs.inner.Fault.{faultOf}
 use Rattle.deck.specs.declared.form.Stretch.{Stretch}
 
 -- r positions out of those that are left, and p more
@@ -123,28 +124,28 @@ module _ (form : Form) where
   -- ---- where a deck's fault is
 
   module _ (first : ℕ) (rest : List ℕ) (ok : isFirst first ≡ true) where
-    deck-complete : isDeck form (first ∷ rest) ≡ complete nothing (payloadOf first) (map (form .told) rest)
+    deck-complete : isDeck form (first ∷ rest) ≡ complete nothing (payloadOf first) (map (form .stretchOf) rest)
     unfolding isDeck complete ends
     deck-complete = rw ok
 
-    begins-begun : (ws : List ℕ) → begins form (first ∷ ws) ≡ begun nothing (payloadOf first) (map (form .told) ws)
+    begins-begun : (ws : List ℕ) → begins form (first ∷ ws) ≡ begun nothing (payloadOf first) (map (form .stretchOf) ws)
     unfolding begins begun ends
     begins-begun ws = rw ok
 
-    misfit-words : misfitOf form (first ∷ rest) ≡ suc (misfit nothing (payloadOf first) (map (form .told) rest))
+    misfit-words : misfitOf form (first ∷ rest) ≡ suc (misfit nothing (payloadOf first) (map (form .stretchOf) rest))
     unfolding misfitOf misfit notBegun firstIndex beginnings
     misfit-words =
         let test = notBegun nothing (payloadOf first) in
         rw (begins-begun [], begun-none nothing (payloadOf first))
         (ap suc (first-map (doesNotBegin form) (first ∷_) (beginnings rest)
-        ∙ first-same (λ ws. doesNotBegin form (first ∷ ws)) (λ ws. test (map (form .told) ws)) (λ ws. ap not (begins-begun ws)) (beginnings rest)
-        ∙ sym (first-map test (map (form .told)) (beginnings rest))
-        ∙ ap (firstIndex test) (sym (beginnings-map (form .told) rest))))
+        ∙ first-same (λ ws. doesNotBegin form (first ∷ ws)) (λ ws. test (map (form .stretchOf) ws)) (λ ws. ap not (begins-begun ws)) (beginnings rest)
+        ∙ sym (first-map test (map (form .stretchOf)) (beginnings rest))
+        ∙ ap (firstIndex test) (sym (beginnings-map (form .stretchOf) rest))))
 
-    fault-walk : faultOf form (first ∷ rest) ≡ walk 1 nothing (payloadOf first) (map (form .told) rest)
+    fault-walk : faultOf form (first ∷ rest) ≡ walk 1 nothing (payloadOf first) (map (form .stretchOf) rest)
     unfolding faultOf
     fault-walk =
-        let ss = map (form .told) rest in
+        let ss = map (form .stretchOf) rest in
         rw (deck-complete, misfit-words)
         (ap (λ (k : ℕ). cond (complete nothing (payloadOf first) ss) Nowhere (At k)) (omega arith) ∙ sym (walk-right 1 nothing (payloadOf first) ss))
 
@@ -168,24 +169,24 @@ module _ (form : Form) where
         go (w ∷ ws) h e = rw e
 
     -- otherwise it is where going through the rest finds it
-    pub fault-rest : 0 < length words → isFirst (getD words 0 0) ≡ true → faultOf form words ≡ walk 1 nothing (payloadOf (getD words 0 0)) (map (form .told) (drop 1 words))
+    pub fault-rest : 0 < length words → isFirst (getD words 0 0) ≡ true → faultOf form words ≡ walk 1 nothing (payloadOf (getD words 0 0)) (map (form .stretchOf) (drop 1 words))
     fault-rest = go words
       where
-        go : (ws : List ℕ) → 0 < length ws → isFirst (getD ws 0 0) ≡ true → faultOf form ws ≡ walk 1 nothing (payloadOf (getD ws 0 0)) (map (form .told) (drop 1 ws))
+        go : (ws : List ℕ) → 0 < length ws → isFirst (getD ws 0 0) ≡ true → faultOf form ws ≡ walk 1 nothing (payloadOf (getD ws 0 0)) (map (form .stretchOf) (drop 1 ws))
         go [] h e = absurd (not-suc-le-zero h)
         go (w ∷ ws) h e = fault-walk w ws e
 
     -- one word further
     module _ (i : ℕ) (before : Stretch) (left : ℕ) where
-      pub walk-on : i < length words → fits before left (form .told (getD words i 0)) ≡ true
-          → walk i before left (map (form .told) (drop i words)) ≡ walk (i + 1) (form .told (getD words i 0)) (left - form .told (getD words i 0) .run) (map (form .told) (drop (i + 1) words))
+      pub walk-on : i < length words → fits before left (form .stretchOf (getD words i 0)) ≡ true
+          → walk i before left (map (form .stretchOf) (drop i words)) ≡ walk (i + 1) (form .stretchOf (getD words i 0)) (left - form .stretchOf (getD words i 0) .run) (map (form .stretchOf) (drop (i + 1) words))
       unfolding walk
       walk-on h e = rw (drop-cons words i 0 h, e, add-one)
 
-      pub walk-stops : i < length words → fits before left (form .told (getD words i 0)) ≡ false → walk i before left (map (form .told) (drop i words)) ≡ At i
+      pub walk-stops : i < length words → fits before left (form .stretchOf (getD words i 0)) ≡ false → walk i before left (map (form .stretchOf) (drop i words)) ≡ At i
       unfolding walk
       walk-stops h e = rw (drop-cons words i 0 h, e)
 
-      pub walk-ends : length words ≤ i → walk i before left (map (form .told) (drop i words)) ≡ cond (eqb 0 left) Nowhere (At i)
+      pub walk-ends : length words ≤ i → walk i before left (map (form .stretchOf) (drop i words)) ≡ cond (eqb 0 left) Nowhere (At i)
       unfolding walk
       walk-ends h = rw (drop-of-length-le words h)

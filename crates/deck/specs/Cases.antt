@@ -1,18 +1,20 @@
--- Decks and what reading them into 128 entries answers, worked out by hand and computed from the definitions.
+-- Decks of document 01's form and what reading them answers, and configurations and what writing them answers, worked out by hand and computed
+-- from the definitions. The numbers are document 01's own, written out.
 use mathlib.Core.List.{List, [], _∷_, map}
 use mathlib.Core.Path.{_≡_, refl}
 use Prim.Native.Nat.{ℕ}
 use lib.ListN.{replicate}
-use Rattle.lists.specs.Find.{firstIndex}
-use Rattle.lists.specs.Beginnings.{beginnings}
-use Rattle.reply.specs.Number.{numberOf, answered}
-use Rattle.reply.specs.declared.Refusal.the-variants.{BadDeck}
+use Rattle.lists.specs.Find.{firstIndex, any}
+use Rattle.lists.specs.Front.{beginnings}
 use Rattle.reply.specs.declared.Place.the-variants.{Nowhere, At}
 use Rattle.deck.specs.Form.{singles}
-use Rattle.deck.specs.Deck.{follow, positions, isDeck, begins, misfitOf, laidOut, configurationOf}
+use Rattle.deck.specs.Deck.{follow, positions, isDeck, begins, misfitOf, laidOut, configurationOf, stretchesOf, deckOf}
 use Rattle.deck.specs.Reading.{ReadFigures, readFigures}
+use Rattle.deck.specs.Writing.{WriteFigures, writeFigures}
 
--- a deck, and what reading it answers
+-- ---- reading
+
+-- a deck, and what reading it into 128 entries answers
 pub record Case : Type 0 where
   pub words : List ℕ
   pub figures : ReadFigures
@@ -24,11 +26,11 @@ words is figures = record { words = words; figures = figures }
 
 -- an answer with so many positions
 abbrev pub configuration : ℕ → ReadFigures
-configuration count = record { number = answered; count = count; place = Nowhere }
+configuration count = record { number = 0; count = count; place = Nowhere }
 
 -- refusal 14 with its place
 abbrev pub fault : ℕ → ReadFigures
-fault place = record { number = numberOf BadDeck; count = 0; place = At place }
+fault place = record { number = 14; count = 0; place = At place }
 
 -- so many words of strand 1
 abbrev pub strands : ℕ → List ℕ
@@ -68,3 +70,41 @@ answerTo c = readFigures singles (c .words) (replicate 128 0)
 pub cases-right : map answerTo cases ≡ map (λ c. c .figures) cases
 unfolding readFigures isDeck begins follow positions misfitOf firstIndex beginnings configurationOf laidOut
 cases-right = refl
+
+-- 1 where another number of entries is lent, though the words are no deck
+pub entries-lent : readFigures singles [] (replicate 127 0) ≡ record { number = 1; count = 0; place = Nowhere }
+unfolding readFigures
+entries-lent = refl
+
+-- ---- writing
+
+-- a configuration, the number of lent words, and what writing answers
+pub record WriteCase : Type 0 where
+  pub configuration : List ℕ
+  pub lent : ℕ
+  pub figures : WriteFigures
+
+-- written as so many words
+abbrev pub written : List ℕ → ℕ → ℕ → WriteCase
+written configuration lent count = record { configuration = configuration; lent = lent; figures = record { number = 0; count = count } }
+
+-- refused with this number
+abbrev pub refused : List ℕ → ℕ → ℕ → WriteCase
+refused configuration lent number = record { configuration = configuration; lent = lent; figures = record { number = number; count = 0 } }
+
+abbrev pub writeCases : List WriteCase
+writeCases =
+    written [] 129 1
+    ∷ written (1 ∷ 1 ∷ 0 ∷ 0 ∷ 63 ∷ []) 129 5
+    ∷ refused (64 ∷ []) 129 9
+    ∷ refused (64 ∷ []) 128 1
+    ∷ refused (replicate 129 0) 129 1
+    ∷ []
+
+-- what the definitions answer to a case
+abbrev writeAnswerTo : WriteCase → WriteFigures
+writeAnswerTo c = writeFigures singles (c .configuration) (replicate (c .lent) 0)
+
+pub write-cases-right : map writeAnswerTo writeCases ≡ map (λ c. c .figures) writeCases
+unfolding writeFigures any deckOf stretchesOf
+write-cases-right = refl

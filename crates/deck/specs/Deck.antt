@@ -6,11 +6,9 @@ use Prim.Native.Nat.{ℕ, suc, _+_, _≤_, _<_}
 use lib.Dec.{leb, ltb, eqb}
 use lib.ListN.{length, drop, take, replicate}
 use Rattle.lists.specs.Find.{firstIndex}
-use Rattle.lists.specs.Beginnings.{beginnings}
-use Rattle.reply.specs.declared.Place.{Place}
-use Rattle.reply.specs.declared.Place.the-variants.{Nowhere, At}
+use Rattle.lists.specs.Front.{beginnings}
 use Rattle.deck.specs.Word.{kindOf, payloadOf, wordOf}
-use Rattle.deck.specs.Form.{Form, stretch, nothing, together, mayFollow}
+use Rattle.deck.specs.Form.{Form, stretch, nothing, sameRun, mayFollow}
 use Rattle.deck.specs.declared.form.Stretch.{Stretch}
 
 -- "Kind 1: first word only, number of positions, 0 to 128."
@@ -30,7 +28,7 @@ positions (s ∷ ss) = s .run + positions ss
 -- a first word, and words that may follow one another, whose positions pass a test against the first word's number
 abbrev pub wordsFit : Form → (ℕ → ℕ → Bool) → ℕ → List ℕ → Bool
 wordsFit form test first rest =
-    let ss = map (form .told) rest in
+    let ss = map (form .stretchOf) rest in
     isFirst first && (follow form nothing ss && test (positions ss) (payloadOf first))
 
 -- a valid deck: "positions must add up" (Valid.antt has the rules of document 01's form one by one)
@@ -61,10 +59,6 @@ doesNotBegin form words = not (begins form words)
 unfoldable pub misfitOf : Form → List ℕ → ℕ
 misfitOf form words = firstIndex (doesNotBegin form) (beginnings words)
 
--- where the fault is, and nowhere in a valid deck
-unfoldable pub faultOf : Form → List ℕ → Place
-faultOf form words = cond (isDeck form words) Nowhere (At (misfitOf form words))
-
 -- above the highest strand number
 abbrev pub tooHigh : ℕ → Bool
 tooHigh occupant = ltb 63 occupant
@@ -76,12 +70,12 @@ laidOut (s ∷ ss) = replicate (s .run) (s .occupant) ++ laidOut ss
 
 -- the configuration that a valid deck stands for
 unfoldable pub configurationOf : Form → List ℕ → List ℕ
-configurationOf form words = laidOut (map (form .told) (drop 1 words))
+configurationOf form words = laidOut (map (form .stretchOf) (drop 1 words))
 
 -- stretches with one more position in front, which joins the first stretch or is one of its own
 abbrev pub inFront : Form → ℕ → List Stretch → List Stretch
 inFront form occupant [] = stretch occupant 1 ∷ []
-inFront form occupant (s ∷ ss) = cond (together form occupant (s .occupant)) (stretch occupant (suc (s .run)) ∷ ss) (stretch occupant 1 ∷ s ∷ ss)
+inFront form occupant (s ∷ ss) = cond (sameRun form occupant (s .occupant)) (stretch occupant (suc (s .run)) ∷ ss) (stretch occupant 1 ∷ s ∷ ss)
 
 -- the stretches of a configuration
 unfoldable pub stretchesOf : Form → List ℕ → List Stretch
@@ -90,4 +84,4 @@ stretchesOf form (occupant ∷ rest) = inFront form occupant (stretchesOf form r
 
 -- the deck of a configuration
 unfoldable pub deckOf : Form → List ℕ → List ℕ
-deckOf form configuration = wordOf 1 (length configuration) ∷ map (form .word) (stretchesOf form configuration)
+deckOf form configuration = wordOf 1 (length configuration) ∷ map (form .wordFor) (stretchesOf form configuration)

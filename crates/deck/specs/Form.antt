@@ -1,8 +1,9 @@
--- A form says what the words after a deck's first one tell of, and which of them may follow which. Document 01 has one form, `singles`.
+-- A form says what the words after a deck's first one stand for, and which of them may follow which. Document 01 has one form, `singles`; document 02
+-- adds `runs`.
 -- What is shown of decks is shown of every form that keeps `Rules`.
-use mathlib.Core.Bool.{Bool, false, cond, not, _&&_}
+use mathlib.Core.Bool.{Bool, true, false, cond, not, _&&_}
 use mathlib.Core.Path.{_≡_}
-use Prim.Native.Nat.{ℕ, _≤_}
+use Prim.Native.Nat.{ℕ, _+_, _-_, _*_, _/_, _%_, _≤_}
 use lib.Dec.{leb, eqb}
 use Rattle.deck.specs.Word.{kindOf, payloadOf, wordOf}
 use Rattle.deck.specs.declared.form.Stretch.{Stretch}
@@ -19,22 +20,22 @@ nothing = stretch 0 0
 abbrev pub something : Stretch → Bool
 something s = leb 1 (s .run)
 
--- what words tell of, and the words for it
+-- the words after the first, and the stretches that they stand for
 pub record Form : Type 0 where
-  -- what a word tells of, and nothing if it is no word of the form
-  pub told : ℕ → Stretch
-  -- the word that tells of a stretch
-  pub word : Stretch → ℕ
-  -- whether one word tells of all neighbouring positions with this occupant
-  pub joined : ℕ → Bool
+  -- the stretch that a word stands for, and nothing if it is no word of the form
+  pub stretchOf : ℕ → Stretch
+  -- the word that stands for a stretch
+  pub wordFor : Stretch → ℕ
+  -- whether neighbouring positions with this occupant are one run, and have one word
+  pub inRuns : ℕ → Bool
 
--- whether neighbouring positions with these occupants are told of by one word
-abbrev pub together : Form → ℕ → ℕ → Bool
-together form left right = eqb left right && form .joined right
+-- whether neighbouring positions with these occupants are of one run
+abbrev pub sameRun : Form → ℕ → ℕ → Bool
+sameRun form left right = eqb left right && form .inRuns right
 
--- a stretch may follow another if it is something, and the two are not to be told of by one word
+-- a stretch may follow another if it is something, and the two are not of one run
 abbrev pub mayFollow : Form → Stretch → Stretch → Bool
-mayFollow form before s = something s && not (something before && together form (before .occupant) (s .occupant))
+mayFollow form before s = something s && not (something before && sameRun form (before .occupant) (s .occupant))
 
 -- "Kind 2: one strand, 1 to 63."
 abbrev pub oneStrand : ℕ → Stretch
@@ -48,19 +49,32 @@ empties payload = stretch 0 payload
 abbrev pub singles : Form
 singles =
     record {
-      told = λ word. cond (eqb (kindOf word) 2) (oneStrand (payloadOf word)) (cond (eqb (kindOf word) 3) (empties (payloadOf word)) nothing);
-      word = λ s. cond (eqb (s .occupant) 0) (wordOf 3 (s .run)) (wordOf 2 (s .occupant));
-      joined = λ occupant. eqb occupant 0;
+      stretchOf = λ word. cond (eqb (kindOf word) 2) (oneStrand (payloadOf word)) (cond (eqb (kindOf word) 3) (empties (payloadOf word)) nothing);
+      wordFor = λ s. cond (eqb (s .occupant) 0) (wordOf 3 (s .run)) (wordOf 2 (s .occupant));
+      inRuns = λ occupant. eqb occupant 0;
     }
 
--- what a word of a form can tell of
-pub record Tellable (form : Form) (s : Stretch) : Type 0 where
+-- kind 4: a strand, and 64 for each position of its run after the first
+abbrev pub strandRun : ℕ → Stretch
+strandRun payload = cond (eqb (payload % 64) 0) nothing (stretch (payload % 64) (payload / 64 + 1))
+
+-- the form with runs: neighbours with one occupant, a strand or empty, have one word
+abbrev pub runs : Form
+runs =
+    record {
+      stretchOf = λ word. cond (eqb (kindOf word) 4) (strandRun (payloadOf word)) (cond (eqb (kindOf word) 3) (empties (payloadOf word)) nothing);
+      wordFor = λ s. cond (eqb (s .occupant) 0) (wordOf 3 (s .run)) (wordOf 4 (s .occupant + 64 * (s .run - 1)));
+      inRuns = λ occupant. true;
+    }
+
+-- a stretch that has a word in a form
+pub record HasWord (form : Form) (s : Stretch) : Type 0 where
   pub some : 1 ≤ s .run
   pub strand : s .occupant ≤ 63
-  pub single : form .joined (s .occupant) ≡ false → s .run ≡ 1
+  pub single : form .inRuns (s .occupant) ≡ false → s .run ≡ 1
 
--- a form's words and the stretches that they tell of belong together one to one
+-- a form's words and its stretches stand for each other one to one
 pub record Rules (form : Form) : Type 0 where
-  pub tellable : (word : ℕ) → 1 ≤ form .told word .run → Tellable form (form .told word)
-  pub back : (word : ℕ) → 1 ≤ form .told word .run → form .word (form .told word) ≡ word
-  pub again : (s : Stretch) → Tellable form s → s .run ≤ 128 → form .told (form .word s) ≡ s
+  pub has-word : (word : ℕ) → 1 ≤ form .stretchOf word .run → HasWord form (form .stretchOf word)
+  pub word-back : (word : ℕ) → 1 ≤ form .stretchOf word .run → form .wordFor (form .stretchOf word) ≡ word
+  pub stretch-back : (s : Stretch) → HasWord form s → s .run ≤ 128 → form .stretchOf (form .wordFor s) ≡ s

@@ -1,8 +1,13 @@
 pub mod Word
 pub mod Form
+pub mod Forms
 pub mod Deck
 pub mod Valid
+pub mod ValidRuns
 pub mod Reading
 pub mod Writing
+pub mod Moving
 pub mod Theorems
 pub mod Cases
+pub mod CasesRuns
+pub mod inner

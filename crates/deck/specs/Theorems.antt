@@ -1,4 +1,5 @@
--- What is shown of decks, each fact as a field. proofs/Theorems.antt shows them of every form that keeps `Rules`, and of `singles`.
+-- What is shown of decks, each fact as a field. proofs/Theorems.antt and proofs/Moves.antt show them of every form that keeps `Rules`, and of
+-- `singles` and `runs`.
 use mathlib.Core.Bool.{true, false}
 use mathlib.Core.List.{List}
 use mathlib.Core.Logic.{_↔_}
@@ -6,22 +7,28 @@ use mathlib.Core.Path.{_≡_}
 use Prim.Native.Nat.{ℕ, _≤_}
 use lib.ListN.{length, take}
 use Rattle.lists.specs.Find.{any}
-use Rattle.lists.specs.Over.{over}
+use Rattle.lists.specs.Front.{over}
 use Rattle.reply.specs.Number.{numberOf, answered}
 use Rattle.reply.specs.First.{LowestGiven}
 use Rattle.reply.specs.declared.Refusal.the-variants.{BadDeck}
 use Rattle.reply.specs.declared.Place.the-variants.{Nowhere, At}
-use Rattle.deck.specs.Form.{Form, singles}
+use Rattle.deck.specs.Form.{Form, singles, runs}
 use Rattle.deck.specs.Deck.{isDeck, CanBegin, begins, FirstMisfit, misfitOf, configurationOf, deckOf, tooHigh}
 use Rattle.deck.specs.Valid.{ValidDeck}
+use Rattle.deck.specs.ValidRuns.{ValidRuns}
 use Rattle.deck.specs.Reading.{readChecks, readReply, readFigures, readEntries}
 use Rattle.deck.specs.Writing.{writeChecks, writeReply, writeFigures, writeWords}
+use Rattle.deck.specs.Moving.{movedWords, MovesTo, moveChecks, moveReply, moveFigures, moveWords}
 
 -- ---- valid decks
 
 -- the test of document 01's form is the document's rules
 pub record Document : Type 0 where
   pub valid : (words : List ℕ) → (isDeck singles words ≡ true) ↔ ValidDeck words
+
+-- the test of the form with runs is document 02's rules
+pub record DocumentRuns : Type 0 where
+  pub valid : (words : List ℕ) → (isDeck runs words ≡ true) ↔ ValidRuns words
 
 -- ---- decks and configurations
 
@@ -93,3 +100,27 @@ pub record Calls (form : Form) : Type 0 where
       → WriteThenRead form configuration words entries
   pub read-write : (words entries lent : List ℕ) → readFigures form words entries .number ≡ answered → length lent ≡ 129
       → ReadThenWrite form words entries lent
+
+-- ---- moving
+
+-- with 129 words lent, moving refuses what reading the deck refuses, at the same place
+pub record RefusesAsReading (from to : Form) (words entries lent : List ℕ) : Type 0 where
+  pub number : moveFigures from to words lent .number ≡ readFigures from words entries .number
+  pub place : moveFigures from to words lent .place ≡ readFigures from words entries .place
+
+-- what moving gave, moved back
+pub record MoveThenBack (from to : Form) (words lent again : List ℕ) : Type 0 where
+  pub figures : moveFigures to from (given (moveFigures from to words lent .count) (moveWords from to words lent)) again
+      ≡ record { number = answered; count = length words; place = Nowhere }
+  pub written : moveWords to from (given (moveFigures from to words lent .count) (moveWords from to words lent)) again ≡ over words again
+
+-- a valid deck moves to that of the same configuration in the other form, and from there back to the same words
+pub record Moves (from to : Form) : Type 0 where
+  pub moves : (words : List ℕ) → isDeck from words ≡ true → MovesTo from to words (movedWords from to words)
+  -- there is no other such deck
+  pub only : (words other : List ℕ) → isDeck from words ≡ true → isDeck to other ≡ true → configurationOf to other ≡ configurationOf from words
+      → other ≡ movedWords from to words
+  -- the call
+  pub lowest : (words lent : List ℕ) → LowestGiven (moveChecks from words lent) (moveReply from words lent)
+  pub refusals : (words entries lent : List ℕ) → length entries ≡ 128 → length lent ≡ 129 → RefusesAsReading from to words entries lent
+  pub move-back : (words lent again : List ℕ) → moveFigures from to words lent .number ≡ answered → length again ≡ 129 → MoveThenBack from to words lent again

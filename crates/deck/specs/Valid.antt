@@ -11,7 +11,7 @@ pub data StrandOrEmpties (word : ℕ) : Type 0 where
   strand : kindOf word ≡ 2 → 1 ≤ payloadOf word → payloadOf word ≤ 63 → StrandOrEmpties word
   empties : kindOf word ≡ 3 → 1 ≤ payloadOf word → StrandOrEmpties word
 
--- the positions that such a word tells of
+-- how many positions such a word stands for
 abbrev pub positionsOf : ℕ → ℕ
 positionsOf word = cond (eqb (kindOf word) 3) (payloadOf word) 1
 

@@ -5,7 +5,7 @@ use Prim.Native.Nat.{ℕ}
 use lib.Dec.{ltb, eqb}
 use lib.ListN.{length}
 use Rattle.lists.specs.Find.{any}
-use Rattle.lists.specs.Over.{over}
+use Rattle.lists.specs.Front.{over}
 use Rattle.reply.specs.Number.{numberOf, answered}
 use Rattle.reply.specs.First.{Check, _if_, firstOf, answer}
 use Rattle.reply.specs.declared.Refusal.the-variants.{WrongSize, OutOfRange}

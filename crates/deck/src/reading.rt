@@ -1,4 +1,5 @@
 // Reading a deck's words: the place of a fault, and the configuration that a valid deck stands for.
+use super::DeckForm;
 use super::form::FIRST;
 use super::form::POSITIONS;
 use super::form::Stretch;
@@ -9,12 +10,13 @@ ghost use mathlib.Core.Bool.{true};
 ghost use Prim.Native.Nat.{_+_, _≤_};
 ghost use lib.ListN.{length, replicate};
 ghost use lib.Seq.{sets};
-ghost use Rattle.deck.specs.Form.{singles};
-ghost use Rattle.deck.specs.Deck.{isDeck, faultOf, configurationOf};
+ghost use Rattle.deck.specs.Forms.{formOf};
+ghost use Rattle.deck.specs.Deck.{isDeck, configurationOf};
+ghost use Rattle.deck.specs.inner.Fault.{faultOf};
 
 // The place of the fault, and nowhere in a valid deck.
-pub(crate) fn fault(words: &[u32]) -> Place
-    ensures { λ r. ⌜ r ≡ faultOf singles (now (words .entry)) ⌝ }
+pub(crate) fn fault(form: DeckForm, words: &[u32]) -> Place
+    ensures { λ r. ⌜ r ≡ faultOf (formOf form) (now (words .entry)) ⌝ }
 {
     if words.len() == 0 {
         return Place::At(0);
@@ -30,8 +32,8 @@ pub(crate) fn fault(words: &[u32]) -> Place
     let mut before = Stretch::nothing();
     let mut i = 1;
     while i < words.len() {
-        let here = Stretch::of(words[i]);
-        if !here.may_follow(before) {
+        let here = Stretch::of(form, words[i]);
+        if !here.may_follow(form, before) {
             return Place::At(i);
         }
         if left < here.run {
@@ -49,14 +51,14 @@ pub(crate) fn fault(words: &[u32]) -> Place
 }
 
 // The configuration of a valid deck, and its number of positions.
-pub(crate) fn unpack(words: &[u32], entries: &mut [u8]) -> usize
-    requires { ⌜ (isDeck singles (now words) ≡ true) × (length (now entries) ≡ 128) ⌝ }
-    ensures { λ r. ⌜ (r ≡ length (configurationOf singles (now (words .entry)))) × (now (entries .exit) ≡ sets (now (entries .entry)) 0 (configurationOf singles (now (words .entry)))) ⌝ }
+pub(crate) fn unpack(form: DeckForm, words: &[u32], entries: &mut [u8]) -> usize
+    requires { ⌜ (isDeck (formOf form) (now words) ≡ true) × (length (now entries) ≡ 128) ⌝ }
+    ensures { λ r. ⌜ (r ≡ length (configurationOf (formOf form) (now (words .entry)))) × (now (entries .exit) ≡ sets (now (entries .entry)) 0 (configurationOf (formOf form) (now (words .entry)))) ⌝ }
 {
     let mut at = 0;
     let mut i = 1;
     while i < words.len() {
-        at = lay(entries, at, Stretch::of(words[i]));
+        at = lay(entries, at, Stretch::of(form, words[i]));
         i += 1;
     }
     at

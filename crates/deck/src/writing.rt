@@ -1,4 +1,5 @@
 // Writing the deck of a configuration.
+use super::DeckForm;
 use super::form::FIRST;
 use super::form::LAST_STRAND;
 use super::form::Stretch;
@@ -9,7 +10,8 @@ ghost use Prim.Native.Nat.{_+_, _≤_, _<_};
 ghost use lib.ListN.{length, getD, drop};
 ghost use lib.Seq.{sets};
 ghost use Rattle.lists.specs.Find.{firstIndex};
-ghost use Rattle.deck.specs.Form.{singles, stretch};
+ghost use Rattle.deck.specs.Form.{stretch};
+ghost use Rattle.deck.specs.Forms.{formOf};
 ghost use Rattle.deck.specs.Deck.{deckOf, stretchesOf, tooHigh};
 
 // The place of the first entry above the highest strand number, and the length if there is none.
@@ -27,9 +29,9 @@ pub(crate) fn first_too_high(configuration: &[u8]) -> usize
 }
 
 // The deck of a configuration, and its number of words.
-pub(crate) fn pack(configuration: &[u8], words: &mut [u32]) -> usize
+pub(crate) fn pack(form: DeckForm, configuration: &[u8], words: &mut [u32]) -> usize
     requires { ⌜ (length (now configuration) ≤ 128) × (length (now words) ≡ 129) ⌝ }
-    ensures { λ r. ⌜ (r ≡ length (deckOf singles (now (configuration .entry)))) × (now (words .exit) ≡ sets (now (words .entry)) 0 (deckOf singles (now (configuration .entry)))) ⌝ }
+    ensures { λ r. ⌜ (r ≡ length (deckOf (formOf form) (now (configuration .entry)))) × (now (words .exit) ≡ sets (now (words .entry)) 0 (deckOf (formOf form) (now (configuration .entry)))) ⌝ }
 {
     words[0] = Word {
         kind: FIRST,
@@ -38,28 +40,29 @@ pub(crate) fn pack(configuration: &[u8], words: &mut [u32]) -> usize
     let mut count = 1;
     let mut at = 0;
     while at < configuration.len() {
-        let run = run_at(configuration, at);
+        let run = run_at(form, configuration, at);
         words[count] = Stretch {
             occupant: configuration[at],
             run,
-        }.bits();
+        }.bits(form);
         count += 1;
         at += run;
     }
     count
 }
 
-// How many positions, from `at` on, one word tells of: one strand, or empties as far as they go.
-fn run_at(configuration: &[u8], at: usize) -> usize
+// How many positions, from `at` on, one word stands for: a run goes as far as its occupant does.
+fn run_at(form: DeckForm, configuration: &[u8], at: usize) -> usize
     requires { ⌜ at < length (now configuration) ⌝ }
-    ensures { λ r. ⌜ (1 ≤ r) × (at + r ≤ length (now (configuration .entry))) × (stretchesOf singles (drop at (now (configuration .entry))) ≡ stretch (getD (now (configuration .entry)) at 0) r ∷ stretchesOf singles (drop (at + r) (now (configuration .entry)))) ⌝ }
+    ensures { λ r. ⌜ (1 ≤ r) × (at + r ≤ length (now (configuration .entry))) × (stretchesOf (formOf form) (drop at (now (configuration .entry))) ≡ stretch (getD (now (configuration .entry)) at 0) r ∷ stretchesOf (formOf form) (drop (at + r) (now (configuration .entry)))) ⌝ }
 {
-    if configuration[at] != 0 {
+    let occupant = configuration[at];
+    if !form.in_runs(occupant) {
         return 1;
     }
     let mut end = at + 1;
     while end < configuration.len() {
-        if configuration[end] != 0 {
+        if configuration[end] != occupant {
             return end - at;
         }
         end += 1;

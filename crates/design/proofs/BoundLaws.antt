@@ -9,7 +9,7 @@ use lib.ListN.{length, getD}
 use lib.Ieee.{Float, nan, binary64, fits, sub, mul}
 use borrow.Author.Tests.{not-false}
 use Rattle.lists.specs.Find.{any}
-use Rattle.lists.proofs.Default.{getD-default}
+use Rattle.lists.proofs.Places.{getD-default}
 use Rattle.lists.proofs.Tests.{neither}
 use Rattle.lists.proofs.Any.{none-passes, none-below}
 use Rattle.lists.proofs.Build.{length-tabulate}
@@ -27,7 +27,7 @@ use Rattle.design.proofs.Sizes.{Sized, sized}
 use Rattle.design.proofs.FriendLaws.{friends-right, friend-tested}
 
 -- a number that is not beyond a limit is within it
-not-beyond : (A : ℕ) → A ≤ 1024 → (x : Float) → T (fits binary64 x) → beyond A x ≡ false → Within binary64 A x
+pub not-beyond : (A : ℕ) → A ≤ 1024 → (x : Float) → T (fits binary64 x) → beyond A x ≡ false → Within binary64 A x
 not-beyond A h x t e = in-range-within A (omega arith) x t (unfold inRange in not-false (within (nearest (minus A 0)) (nearest (plus A 0)) x) e)
 
 -- (dG − excess × dS) / RT is at most (1,024 + 1,024 × 8) × 8 in size
@@ -53,23 +53,23 @@ module _ (d : Design) (doubles : Doubles d) (a : Admitted d) where
   index : (row column : ℕ) → row < 64 → column < 64 → row * 64 + column < 4096
   index row column h k = omega arith
 
-  dg-in : (row column : ℕ) → row < 64 → column < 64 → Within binary64 1024 (cell (d .dg) row column)
+  pub dg-in : (row column : ℕ) → row < 64 → column < 64 → Within binary64 1024 (cell (d .dg) row column)
   dg-in row column h k =
       let i : row * 64 + column < length (d .dg) = rw (z .dg-cells) (index row column h k) in
       not-beyond 1024 (lit≤ tt) (cell (d .dg) row column) (held (d .dg) (row * 64 + column) i (doubles .dg (row * 64 + column) i)) (none-passes (beyond 1024) zero (d .dg) (cells-in .0) (row * 64 + column) i)
 
-  ds-in : (row column : ℕ) → row < 64 → column < 64 → Within binary64 8 (cell (d .ds) row column)
+  pub ds-in : (row column : ℕ) → row < 64 → column < 64 → Within binary64 8 (cell (d .ds) row column)
   ds-in row column h k =
       let i : row * 64 + column < length (d .ds) = rw (z .ds-cells) (index row column h k) in
       not-beyond 8 (lit≤ tt) (cell (d .ds) row column) (held (d .ds) (row * 64 + column) i (doubles .ds (row * 64 + column) i)) (none-passes (beyond 8) zero (d .ds) (cells-in .1) (row * 64 + column) i)
 
-  rt-in : inRange (plus 125 3) (plus 8 0) (d .ambient .rt .0) ≡ true
+  pub rt-in : inRange (plus 125 3) (plus 8 0) (d .ambient .rt .0) ≡ true
   unfolding ambientOut inRange
   rt-in =
       let w = neither (outside (nearest (plus 125 3)) (nearest (plus 8 0)) (d .ambient .rt .0)) (beyond 1024 (d .ambient .«strand_excess» .0) || beyond 1024 (d .ambient .«scaffold_excess» .0)) (a .ambient) in
       not-false (within (nearest (plus 125 3)) (nearest (plus 8 0)) (d .ambient .rt .0)) (w .0)
 
-  excesses-in : (beyond 1024 (d .ambient .«strand_excess» .0) ≡ false) × (beyond 1024 (d .ambient .«scaffold_excess» .0) ≡ false)
+  pub excesses-in : (beyond 1024 (d .ambient .«strand_excess» .0) ≡ false) × (beyond 1024 (d .ambient .«scaffold_excess» .0) ≡ false)
   unfolding ambientOut
   excesses-in =
       neither (beyond 1024 (d .ambient .«strand_excess» .0)) (beyond 1024 (d .ambient .«scaffold_excess» .0))

@@ -3,3 +3,7 @@ pub mod FriendLaws
 pub mod BoundLaws
 pub mod Lowest
 pub mod Replies
+pub mod Passed
+pub mod Finite
+pub mod Unread
+pub mod NullBonds

@@ -1,5 +1,5 @@
 -- The one picked from a list is one of the list, and no other is below it, whichever of equals is taken. Assumes nothing.
-use mathlib.Core.Path.{_≡_, refl, _∙_}
+use mathlib.Core.Path.{_≡_, refl, sym, ap, ap₂, _∙_, subst}
 use mathlib.Core.Logic.{_⊎_, inl, inr}
 use mathlib.Core.Bool.{Bool, true, false, cond}
 use mathlib.Core.List.{List, [], _∷_, List·Memᴰ, List·Memᴰ·head, List·Memᴰ·tail, List·Memᴰ·cases-cons, List·Memᴰ·eq-of-singleton}
@@ -10,7 +10,7 @@ use lib.Ieee.{Float, Format, lt}
 use Rattle.lists.specs.Fold.{foldl}
 use Rattle.doubles.specs.Size.{Real}
 use Rattle.doubles.specs.Order.{Le}
-use Rattle.doubles.specs.Least.{orLater, orEarlier, pick}
+use Rattle.doubles.specs.Least.{orLater, orEarlier, pick, lastLeast, firstLeast}
 use Rattle.doubles.proofs.Order.{Le-refl, Le-trans, yes→Le, no→Le}
 
 module _ (f : Format) (key : ℕ → Float) where
@@ -78,3 +78,63 @@ module _ (f : Format) (key : ℕ → Float) where
     unfolding pick
     pick-least [] h q = absurd (not-suc-le-zero h)
     pick-least (x ∷ xs) h q = from x xs (q x (List·Memᴰ·head refl)) (λ y m. q y (List·Memᴰ·tail m))
+
+-- ---- whatever the values: what is picked is one of the list, and keys that agree on the list pick the same
+
+later-one : (key : ℕ → Float) (kept x : ℕ) → (orLater key kept x ≡ kept) ⊎ (orLater key kept x ≡ x)
+later-one key kept x = go (lt (key kept) (key x))
+  where
+    go : (t : Bool) → (cond t kept x ≡ kept) ⊎ (cond t kept x ≡ x)
+    go true = inl refl
+    go false = inr refl
+
+earlier-one : (key : ℕ → Float) (kept x : ℕ) → (orEarlier key kept x ≡ kept) ⊎ (orEarlier key kept x ≡ x)
+earlier-one key kept x = go (lt (key x) (key kept))
+  where
+    go : (t : Bool) → (cond t x kept ≡ kept) ⊎ (cond t x kept ≡ x)
+    go true = inr refl
+    go false = inl refl
+
+module _ (better : ℕ → ℕ → ℕ) (one : (kept x : ℕ) → (better kept x ≡ kept) ⊎ (better kept x ≡ x)) where
+  holds-of : (P : ℕ → Type 0) (kept x : ℕ) → P kept → P x → P (better kept x)
+  holds-of P kept x p q = go (one kept x)
+    where
+      go : (better kept x ≡ kept) ⊎ (better kept x ≡ x) → P (better kept x)
+      go (inl e) = subst P (sym e) p
+      go (inr e) = subst P (sym e) q
+
+  fold-holds : (P : ℕ → Type 0) (kept : ℕ) (xs : List ℕ) → P kept → ((x : ℕ) → List·Memᴰ x xs → P x) → P (foldl better kept xs)
+  unfolding foldl
+  fold-holds P kept [] p q = p
+  fold-holds P kept (x ∷ xs) p q = fold-holds P (better kept x) xs (holds-of P kept x p (q x (List·Memᴰ·head refl))) (λ y m. q y (List·Memᴰ·tail m))
+
+  pick-one : (xs : List ℕ) → 0 < length xs → List·Memᴰ (pick better xs) xs
+  unfolding pick
+  pick-one [] h = absurd (not-suc-le-zero h)
+  pick-one (x ∷ xs) h = fold-holds (λ y. List·Memᴰ y (x ∷ xs)) x xs (List·Memᴰ·head refl) (λ y m. List·Memᴰ·tail m)
+
+  module _ (other : ℕ → ℕ → ℕ) (P : ℕ → Type 0) (same : (kept x : ℕ) → P kept → P x → better kept x ≡ other kept x) where
+    fold-same : (kept : ℕ) (xs : List ℕ) → P kept → ((x : ℕ) → List·Memᴰ x xs → P x) → foldl better kept xs ≡ foldl other kept xs
+    unfolding foldl
+    fold-same kept [] p q = refl
+    fold-same kept (x ∷ xs) p q =
+        let here = q x (List·Memᴰ·head refl) in
+        fold-same (better kept x) xs (holds-of P kept x p here) (λ y m. q y (List·Memᴰ·tail m)) ∙ ap (λ (k : ℕ). foldl other k xs) (same kept x p here)
+
+    pick-same : (xs : List ℕ) → ((x : ℕ) → List·Memᴰ x xs → P x) → pick better xs ≡ pick other xs
+    unfolding pick
+    pick-same [] q = refl
+    pick-same (x ∷ xs) q = fold-same x xs (q x (List·Memᴰ·head refl)) (λ y m. q y (List·Memᴰ·tail m))
+
+pub last-one : (key : ℕ → Float) (xs : List ℕ) → 0 < length xs → List·Memᴰ (lastLeast key xs) xs
+last-one key xs h = pick-one (orLater key) (later-one key) xs h
+
+pub first-one : (key : ℕ → Float) (xs : List ℕ) → 0 < length xs → List·Memᴰ (firstLeast key xs) xs
+first-one key xs h = pick-one (orEarlier key) (earlier-one key) xs h
+
+module _ (key other : ℕ → Float) (xs : List ℕ) (agree : (x : ℕ) → List·Memᴰ x xs → key x ≡ other x) where
+  pub last-same : lastLeast key xs ≡ lastLeast other xs
+  last-same = pick-same (orLater key) (later-one key) (orLater other) (λ x. key x ≡ other x) (λ kept x p q. ap₂ (λ (a b : Float). cond (lt a b) kept x) p q) xs agree
+
+  pub first-same : firstLeast key xs ≡ firstLeast other xs
+  first-same = pick-same (orEarlier key) (earlier-one key) (orEarlier other) (λ x. key x ≡ other x) (λ kept x p q. ap₂ (λ (a b : Float). cond (lt b a) x kept) p q) xs agree

@@ -1,4 +1,3 @@
-pub mod Sum
 pub mod Size
 pub mod Order
 pub mod Sums
@@ -6,7 +5,6 @@ pub mod Products
 pub mod NegativeZero
 pub mod Bounds
 pub mod Least
-pub mod Zero
 pub mod Rounded
 pub mod Fields
 pub mod Rounding

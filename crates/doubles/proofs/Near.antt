@@ -4,7 +4,7 @@ use mathlib.Core.Path.{_≡_, refl, sym, ap, ap₂, _∙_}
 use mathlib.Core.Bool.{Bool, true, false}
 use mathlib.Core.List.{List, [], _∷_}
 use Prim.Native.Nat.{ℕ, zero, suc, _+_, _-_, _*_, _^_, _≤_, _<_}
-use native.Mathlib.Nat.{le-trans, le-of-eq, mul-comm, mul-assoc, mul-right-comm, add-mul, mul-add, mul-le-mul-right, mul-pos, lt-of-le-of-lt, le-of-mul-le-mul-right, add-zero, zero-add, add-assoc, suc-mul, mul-mul-mul-comm, mul-le-mul, mul-zero}
+use native.Mathlib.Nat.{le-trans, le-of-eq, mul-comm, mul-assoc, add-mul, mul-add, mul-le-mul-right, mul-pos, lt-of-le-of-lt, le-of-mul-le-mul-right, add-zero, zero-add, add-assoc, suc-mul, mul-mul-mul-comm, mul-le-mul, mul-zero}
 use native.Mathlib.Omega.{arith}
 use lib.Pow.{pow-pos}
 use lib.ListN.{length}
@@ -15,7 +15,7 @@ use Rattle.doubles.specs.Sum.{sumFrom}
 use Rattle.doubles.specs.Size.{mag, sgn, Real, Within}
 use Rattle.doubles.specs.Order.{over, under, overPart, underPart}
 use Rattle.doubles.specs.Near.{Near, NearUnits, NearFraction}
-use Rattle.doubles.proofs.Sums.{Rounds, plus, less, over-le, under-le, add-rounds, add-within, sub-rounds}
+use Rattle.doubles.proofs.Sums.{plus, less, over-le, under-le, add-rounds, add-within, sub-rounds}
 use Rattle.doubles.proofs.Products.{like-le, mul-rounds, mul-within, div-rounds}
 use Rattle.doubles.proofs.Rounding.{rounds-near}
 

@@ -1,17 +1,17 @@
 -- The order is the one that the tests `<`, `<=` and `==` see, and it is total on finite values. Assumes nothing.
-use mathlib.Core.Path.{_≡_, refl, sym, ap, _∙_, subst}
-use mathlib.Core.Logic.{_⊎_, inl, inr}
-use Prim.Native.Nat.{ℕ, _+_, _*_, _^_, _≤_, _<_}
-use native.Mathlib.Nat.{le-refl, le-of-eq, zero-mul, add-mul, mul-comm, mul-assoc, mul-right-comm, mul-pos, mul-lt-mul-of-pos-right, lt-of-mul-lt-mul-right, eq-of-mul-eq-mul-right}
-use native.Mathlib.Omega.{arith}
+use mathlib.Core.Path.{_≡_, refl, sym, ap, _∙_}
+use mathlib.Core.Logic.{inl, inr}
 use mathlib.Core.Bool.{Bool, true, false, not, _||_}
+use Prim.Native.Nat.{ℕ, _+_, _*_, _^_, _≤_, _<_}
+use native.Mathlib.Nat.{le-refl, zero-mul, add-mul, mul-comm, mul-assoc, mul-right-comm, mul-pos, mul-lt-mul-of-pos-right, lt-of-mul-lt-mul-right, eq-of-mul-eq-mul-right}
+use native.Mathlib.Omega.{arith}
 use lib.IntN.{ℤ}
 use lib.Dec.{T, ltb, eqb, ltb→lt, lt→ltb, nltb→le, eqb→eq, not-T}
 use lib.Pow.{pow-pos}
 use lib.Ieee.{Float, nan, inf, fin, Format, low, up, down, lt, eq, le, below, level, fits}
 use lib.Ieee.Fits.{eq→eqb, down-pos, and-l, and-r, and-i}
 use Rattle.doubles.specs.Size.{mag, sgn, Real}
-use Rattle.doubles.proofs.Size.{exact, mag-zero, or-split}
+use Rattle.doubles.proofs.Size.{exact, or-split}
 use Rattle.doubles.specs.Order.{overPart, underPart, over, under, Le}
 
 pub Le-refl : (f : Format) (x : Float) → Le f x x
@@ -160,56 +160,10 @@ module _ (f : Format) (x y : Float) (p : Real f x) (q : Real f y) where
           let r = nlt→Le f x y p q (rw e tt) in
           rw (eq-is f x y p q) (ple-level (sgn x) (mag f x) (sgn y) (mag f y) (k .rise, k .fall) (r .rise, r .fall))
 
-  pub Le-total : Le f x y ⊎ Le f y x
-  Le-total = go (lt x y) refl
-    where
-      go : (b : Bool) → lt x y ≡ b → Le f x y ⊎ Le f y x
-      go true e = inl (lt→Le f x y p q (rw e tt))
-      go false e = inr (nlt→Le f x y p q (rw e tt))
-
-  pub Le-dec : Dec (Le f x y)
-  Le-dec = go (le x y) (le→Le f x y p q) Le→le
-    where
-      go : (b : Bool) → (T b → Le f x y) → (Le f x y → T b) → Dec (Le f x y)
-      go true h k = yes (h tt)
-      go false h k = no k
-
   -- both ways: equal, as -0 and 0 are
-  pub eq→Le : T (eq x y) → Le f x y
-  unfolding over under
-  eq→Le h = let k = level-ple (sgn x) (mag f x) (sgn y) (mag f y) (rw (eq-is f x y p q) at h) in record { rise = k .0; fall = k .1 }
-
   pub Le-antisymm : Le f x y → Le f y x → T (eq x y)
   unfolding over under
   Le-antisymm h k = rw (eq-is f x y p q) (ple-level (sgn x) (mag f x) (sgn y) (mag f y) (h .rise, h .fall) (k .rise, k .fall))
 
   pub le-yes→Le : le x y ≡ true → Le f x y
   le-yes→Le e = le→Le f x y p q (rw e tt)
-
-module _ (f : Format) (x y : Float) (p : Real f x) (q : Real f y) where
-  pub le-no→Le : le x y ≡ false → Le f y x
-  le-no→Le e = elim (Le-total f y x q p) [ inl h ↦ h | inr h ↦ absurd (subst T e (Le→le f x y p q h)) ]
-
-  -- of two finite values one test is the other's negation: `y <= x` is `!(x < y)`
-  pub le-is-not-lt : le y x ≡ not (lt x y)
-  le-is-not-lt = same-test (le y x) (not (lt x y)) (λ h. Le→nlt f x y p q (le→Le f y x q p h)) (λ h. Le→le f y x q p (nlt→Le f x y p q h))
-
--- an infinity as the first value of a search: no finite value is above it, and all are below
-pub lt-inf : (f : Format) (x : Float) → Real f x → (lt x (inf false) ≡ true) × (lt (inf false) x ≡ false)
-unfolding lt
-lt-inf f nan p = absurd (p .fini)
-lt-inf f (inf s) p = absurd (p .fini)
-lt-inf f (fin s m e) p = (refl, refl)
-
--- -0 and 0
-pub zero-Le : (f : Format) (s t : Bool) (e d : ℤ) → Le f (fin s 0 e) (fin t 0 d)
-unfolding over under sgn
-zero-Le f s t e d = record { rise = le-of-eq (none-over s (mag-zero f s e) ∙ sym (none-over t (mag-zero f t d))); fall = le-of-eq (none-under t (mag-zero f t d) ∙ sym (none-under s (mag-zero f s e))) }
-  where
-    none-over : (s : Bool) {a : ℕ} → a ≡ 0 → overPart s a ≡ 0
-    none-over false h = h
-    none-over true h = refl
-
-    none-under : (s : Bool) {a : ℕ} → a ≡ 0 → underPart s a ≡ 0
-    none-under false h = refl
-    none-under true h = h

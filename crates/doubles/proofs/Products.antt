@@ -1,19 +1,21 @@
--- The rounded product and quotient by the two parts of each value: what they are, that they keep the order, and how large they get; and
--- what a range test says of a value's size. Assumes nothing.
-use mathlib.Core.Path.{_≡_, sym, ap, ap₂, _∙_}
-use Prim.Native.Nat.{ℕ, zero, suc, _+_, _*_, _^_, _≤_, _<_, zero-le}
-use native.Mathlib.Nat.{le-trans, le-of-eq, lt-of-lt-of-le, lt-irrefl, zero-mul, mul-zero, mul-comm, mul-assoc, mul-left-comm, mul-mul-mul-comm, mul-pos, mul-le-mul, mul-le-mul-right, mul-le-mul-left, eq-of-mul-eq-mul-right, zero-lt-suc}
-use native.Mathlib.Omega.{arith}
+-- The rounded product and quotient by the two parts of each value: what they are, that they keep the order, and how large they get; what a
+-- range test says of a value's size; and 0.0 times a value above zero. Assumes nothing.
+use mathlib.Core.Path.{_≡_, sym, ap, ap₂, _∙_, refl}
 use mathlib.Core.Bool.{Bool, true, false}
+use Prim.Native.Nat.{ℕ, zero, suc, _+_, _*_, _^_, _≤_, _<_, zero-le, _-_, _/_, _%_, compare, compare·zero-suc}
+use native.Mathlib.Nat.{le-trans, le-of-eq, lt-of-lt-of-le, lt-irrefl, zero-mul, mul-zero, mul-comm, mul-assoc, mul-left-comm, mul-mul-mul-comm, mul-pos, mul-le-mul, mul-le-mul-right, mul-le-mul-left, eq-of-mul-eq-mul-right, zero-lt-suc, zero-div, zero-mod, not-suc-le-zero}
+use native.Mathlib.Omega.{arith}
 use lib.Dec.{eqb·suc-zero}
 use lib.Pow.{pow-pos}
-use lib.Ieee.{Float, nan, inf, fin, Format, prec, low, up, down, unlike, round, mul, div}
-use lib.Ieee.Fits.{down-pos, up-pos, mul-fits, div-fits}
+use lib.Ieee.{Float, nan, inf, fin, Format, prec, low, up, down, unlike, round, mul, div, binary64, size, units, odd, nearest}
+use lib.Ieee.Fits.{down-pos, up-pos, mul-fits, div-fits, round-is, core}
+use lib.IntN.{ℤ, pos}
 use Rattle.doubles.specs.Size.{mag, sgn, Real, Within}
 use Rattle.doubles.specs.Order.{overPart, underPart, over, under, Le}
 use Rattle.doubles.proofs.Size.{exact, grid, grid-mono, grid-zero, mag-zero}
 use Rattle.doubles.proofs.Order.{cross-l, cross-r}
 use Rattle.doubles.proofs.Sums.{Rounds, round-over, round-under, plus, less, rounds-same, rounds-mono, rounds-within, parts-mag, over-le, under-le}
+use Rattle.doubles.specs.Decimal as Decimal
 
 -- ---- the product
 sign-rounds : (f : Format) (s t : Bool) (w k a b c : ℕ) → 0 < k → 0 < c → w * c ≡ a * b * k
@@ -145,3 +147,30 @@ at-least f k c x h l = le-trans h (mul-le-mul-left k (l .rise))
 
 pub not-negative : (f : Format) (c x : Float) → under f c ≡ 0 → Le f c x → under f x ≡ 0
 not-negative f c x h l = let k = l .fall in omega arith
+
+-- ---- 0.0 times a finite value above zero is 0.0, to the last bit
+
+nearest-zero : (u : ℕ) → 0 < u → nearest 0 (compare 0 u) ≡ 0
+nearest-zero zero h = absurd (not-suc-le-zero h)
+nearest-zero (suc u) h = rw (compare·zero-suc u) refl
+
+-- a fraction of 0 is rounded to 0
+round-zero : (s : Bool) (den : ℕ) → 0 < den → round binary64 s 0 den ≡ fin s 0 (pos 0)
+unfolding size units odd
+round-zero s den h =
+    round-is binary64 s 0 den
+    ∙ ap (λ (n : ℕ). core binary64 s n den (size (n / den) - prec binary64)) (zero-mul (2 ^ low binary64))
+    ∙ ap (λ (n : ℕ). core binary64 s 0 den (size n - prec binary64)) (zero-div den)
+    ∙ ap (λ (n : ℕ). units binary64 s n 0) (ap (λ (n : ℕ). nearest n (compare (0 % (den * 2 ^ 0) * 2) (den * 2 ^ 0))) (zero-div (den * 2 ^ 0)) ∙ ap (λ (n : ℕ). nearest 0 (compare (n * 2) (den * 2 ^ 0))) (zero-mod (den * 2 ^ 0)) ∙ nearest-zero (den * 2 ^ 0) (mul-pos h (pow-pos 0)))
+
+zero-product : (m : ℕ) (e : ℤ) → mul binary64 Decimal.zero (fin false m e) ≡ Decimal.zero
+unfolding mul
+zero-product m e =
+    ap (λ (n : ℕ). round binary64 false n (1 * down e)) (zero-mul (m * up e)) ∙ round-zero false (1 * down e) (mul-pos (omega arith) (down-pos e))
+
+pub zero-times : (x : Float) → Real binary64 x → 0 < over binary64 x → mul binary64 Decimal.zero x ≡ Decimal.zero
+unfolding over sgn
+zero-times nan r h = absurd (r .fini)
+zero-times (inf s) r h = absurd (r .fini)
+zero-times (fin true m e) r h = absurd (lt-irrefl 0 h)
+zero-times (fin false m e) r h = zero-product m e

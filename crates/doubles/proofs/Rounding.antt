@@ -1,17 +1,15 @@
 -- How far one rounding moves a value: by half a unit of its last digit at most. Below 2 ^ K units the last of `prec` digits is worth 2 ^ (K - prec) units at
 -- most. Assumes nothing.
-use mathlib.Core.Path.{_≡_, refl, sym, ap, _∙_, subst}
-use mathlib.Core.Bool.{Bool, false, not}
+use mathlib.Core.Path.{_≡_, sym, ap, _∙_, subst}
+use mathlib.Core.Bool.{false, not}
 use Prim.Native.Nat.{ℕ, zero, suc, _+_, _-_, _*_, _/_, _%_, _^_, _≤_, _<_, compare, Ordering, Ordering·lt, Ordering·eq, Ordering·gt}
-use native.Mathlib.Nat.{le-trans, le-of-eq, mul-comm, mul-left-comm, mul-assoc, mul-right-comm, add-mul, mul-le-mul-right, mul-pos, div-add-mod', mod-lt, div-lt-iff-lt-mul, mul-div-cancel, lt-of-le-of-lt, mul-lt-mul-of-pos-right, zero-mul, pow-suc}
+use native.Mathlib.Nat.{le-trans, le-of-eq, mul-comm, mul-left-comm, mul-assoc, mul-right-comm, add-mul, mul-le-mul-right, mul-pos, div-add-mod', mod-lt, div-lt-iff-lt-mul, lt-of-le-of-lt, mul-lt-mul-of-pos-right, zero-mul, pow-suc}
 use native.Mathlib.Omega.{arith}
 use native.Mathlib.Decide.{decLt}
 use lib.Dec.{T, isLe, isEq, eqb, leb→le, nleb→lt, eqb→eq, eqb-refl}
 use lib.Arith.{lt-of-le-ne}
 use lib.Pow.{pow-pos, pow-mono}
-use lib.Ieee.{Float, nan, inf, fin, Format, prec, low, down, size, nearest, round}
-use lib.Ieee.Fits.{down-pos}
-use lib.Ieee.Exact.{HasValue}
+use lib.Ieee.{Float, Format, prec, low, down, size, nearest, round}
 use lib.Ieee.Digits.{size-le}
 use lib.Ieee.Nearest.{closest}
 use lib.Ieee.Order.{drop}
@@ -19,7 +17,7 @@ use lib.Ieee.Scale as Scale
 use Rattle.doubles.specs.Size.{mag}
 use Rattle.doubles.specs.Order.{over, under}
 use Rattle.doubles.specs.Near.{NearFraction}
-use Rattle.doubles.proofs.Size.{grid, round-mag, grid-zero, grid-le, finite-of-mag, whole-lt}
+use Rattle.doubles.proofs.Size.{grid, round-mag, grid-zero, grid-le, finite-of-mag, whole-lt, unit-mag}
 use Rattle.doubles.proofs.Sums.{Rounds}
 
 -- ---- a fraction rounded to a whole number
@@ -83,18 +81,11 @@ digits-near f a c K C h =
       below = le-trans (w .below) (omega arith);
     }
 
--- the size of a value that is a whole number of units
-units-mag : (f : Format) (x : Float) (s : Bool) (a : ℕ) → HasValue x s a (2 ^ low f) → mag f x ≡ a
-unfolding mag
-units-mag f nan s a v = absurd v
-units-mag f (inf t) s a v = absurd v
-units-mag f (fin t m e) s a v = ap (λ (z : ℕ). z / down e) (v .1) ∙ mul-div-cancel a (down-pos e)
-
 grid-is : (f : Format) (a c n : ℕ) → 0 < c → n ≤ 2 ^ prec f → a ≤ n * c → grid f a c ≡ Scale.grid f a c
 grid-is f a c n C N h =
     let small : mag f (round f false a c) < Scale.overflow f = lt-of-le-of-lt (le-trans (le-of-eq (round-mag f false a c)) (grid-le f a c n C N h)) (whole-lt f n N) in
     sym (round-mag f false a c)
-    ∙ units-mag f (round f false a c) false (Scale.grid f a c) (Scale.round-val f a c (Scale.round-under f a c (finite-of-mag f (round f false a c) small)))
+    ∙ unit-mag f (round f false a c) false (Scale.grid f a c) (Scale.round-val f a c (Scale.round-under f a c (finite-of-mag f (round f false a c) small)))
 
 -- of a fraction that is at most n, where n is below 2 ^ K units
 size-near : (f : Format) (a c n K : ℕ) → 0 < c → n ≤ 2 ^ prec f → n * 2 ^ low f < 2 ^ K → a ≤ n * c → Halves (grid f a c * c) (a * 2 ^ low f) (c * 2 ^ (K - prec f))

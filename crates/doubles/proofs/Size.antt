@@ -1,9 +1,9 @@
 -- Laws of a double's size: it is exact, rounding keeps its order, and what the format holds is not changed by rounding. Assumes nothing.
 use mathlib.Core.Path.{_≡_, refl, sym, ap, _∙_}
 use mathlib.Core.Logic.{_⊎_, inl, inr}
+use mathlib.Core.Bool.{Bool, true, false, _&&_, _||_, cond, true≢false}
 use Prim.Native.Nat.{ℕ, zero, suc, _+_, _-_, _*_, _/_, _%_, _^_, _≤_, _<_, zero-le}
 use native.Mathlib.Nat.{le-trans, le-of-eq, le-refl, le-of-lt, le-antisymm, lt-of-lt-of-le, mul-le-mul-right, le-of-suc-le-suc, lt-of-not-le, lt-irrefl, not-le-of-lt, lt-of-le-of-lt, zero-lt-suc, zero-mul, zero-div, mul-one, div-one, mul-comm, mul-assoc, mul-right-comm, mul-div-cancel, mul-lt-mul-of-pos-right, div-lt-iff-lt-mul}
-use mathlib.Core.Bool.{Bool, true, false, _&&_, _||_, cond, true≢false}
 use lib.IntN.{ℤ, pos, negsuc}
 use lib.Dec.{T, ltb, leb, eqb, ltb→lt, leb→le, eqb→eq, lit<}
 use lib.Pow.{pow-add, pow-pos, pow-lt}
@@ -194,7 +194,8 @@ shifted f s m (negsuc k) h =
           ∙ mul-div-cancel (m * 2 ^ j) (pow-pos (suc k)),
     )
 
-unit-mag : (f : Format) (x : Float) (s : Bool) (a : ℕ) → HasValue x s a (2 ^ low f) → mag f x ≡ a
+-- the size of a value that is a whole number of units
+pub unit-mag : (f : Format) (x : Float) (s : Bool) (a : ℕ) → HasValue x s a (2 ^ low f) → mag f x ≡ a
 unfolding mag
 unit-mag f nan s a v = absurd v
 unit-mag f (inf t) s a v = absurd v
@@ -213,7 +214,3 @@ grid-fix f (fin s (suc m) e) p =
     (round-exact f false (mag f x) U (suc m) (h .0) (pow-pos (low f)) (fits-parts f s m e (p .fit) .0)
     (rw (← h .1) (mag-lt f s (suc m) e (p .fit)))
     (ap (λ (z : ℕ). z * U) (h .1)))
-
--- a fraction up to a value that is held rounds to no more than it
-pub grid-hold : (f : Format) (a c : ℕ) (z : Float) → 0 < c → Real f z → a * 2 ^ low f ≤ mag f z * c → grid f a c ≤ mag f z
-grid-hold f a c z C r h = le-trans (grid-mono f a c (mag f z) (2 ^ low f) C (pow-pos (low f)) h) (le-of-eq (grid-fix f z r))

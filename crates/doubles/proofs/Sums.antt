@@ -1,20 +1,33 @@
--- The rounded sum, negative and difference by the two parts of each value: what they are, that they keep the order, and how large they get.
--- Assumes nothing.
+-- The rounded sum, negative and difference by the two parts of each value: what they are, that they keep the order, and how large they get;
+-- and sums taken in parts. Assumes nothing.
 use mathlib.Core.Path.{_≡_, refl, sym, ap, ap₂, _∙_}
+use mathlib.Core.List.{List, [], _∷_, _++_}
+use mathlib.Core.Bool.{Bool, true, false, not, cond}
 use Prim.Native.Nat.{ℕ, _+_, _-_, _*_, _^_, _≤_, _<_, zero-le}
 use native.Mathlib.Nat.{le-refl, le-trans, le-of-eq, lt-of-le-of-lt, zero-mul, add-mul, mul-sub, mul-comm, mul-pos, mul-le-mul-right}
 use native.Mathlib.Omega.{arith}
-use mathlib.Core.Bool.{Bool, true, false, not, cond}
+use lib.Ieee.{Float, Format, binary64, add, sub, neg, nan, inf, fin, prec, low, up, down, round, sum, fits}
 use lib.Dec.{T, ltb, ltb→lt, nltb→le}
 use lib.Pow.{pow-pos}
-use lib.Ieee.{Float, nan, inf, fin, Format, prec, low, up, down, round, neg, sum, add, sub, fits}
 use lib.Ieee.Fits.{down-pos, add-fits, sub-fits, neg-fits}
 use lib.Ieee.Scale.{finite}
+use Rattle.doubles.specs.Sum.{sumFrom}
 use Rattle.doubles.specs.Size.{mag, sgn, Real, Within}
 use Rattle.doubles.specs.Order.{overPart, underPart, over, under, Le}
 use Rattle.doubles.proofs.Size.{Signed, grid, grid-mono, grid-same, grid-zero, grid-le, round-signed, round-mag, finite-of-mag, whole-lt}
 use Rattle.doubles.proofs.Order.{cross-l, cross-r}
-use Rattle.doubles.proofs.Sum.{sub-is}
+
+-- ---- sums in parts
+
+pub sum-append : (sum : Float) (xs ys : List Float) → sumFrom sum (xs ++ ys) ≡ sumFrom (sumFrom sum xs) ys
+unfolding sumFrom
+sum-append sum [] ys = refl
+sum-append sum (x ∷ xs) ys = sum-append (add binary64 sum x) xs ys
+
+-- subtracting is adding with the sign turned
+pub sub-is : (f : Format) (x y : Float) → sub f x y ≡ add f x (neg y)
+unfolding sub
+sub-is f x y = refl
 
 -- ---- z is the signed fraction (p - n) / c, rounded
 abbrev pub Rounds : Format → Float → ℕ → ℕ → ℕ → Type 0
@@ -182,14 +195,6 @@ unfolding neg over under sgn mag
 neg-under f nan p = absurd (p .fini)
 neg-under f (inf s) p = absurd (p .fini)
 neg-under f (fin s m e) p = not-under s (mag f (fin s m e))
-
-pub neg-anti : (f : Format) (x y : Float) → Real f x → Real f y → Le f x y → Le f (neg y) (neg x)
-neg-anti f x y p q h =
-    let a = neg-over f x p in
-    let b = neg-over f y q in
-    let c = neg-under f x p in
-    let d = neg-under f y q in
-    record { rise = omega arith; fall = omega arith }
 
 pub sub-rounds : (f : Format) (x y : Float) → Real f x → Real f y → Rounds f (sub f x y) (over f x + under f y) (under f x + over f y) (2 ^ low f)
 sub-rounds f x y p q = rw (sub-is, ← neg-over f y q, ← neg-under f y q) (add-rounds f x (neg y) p (neg-real f y q))

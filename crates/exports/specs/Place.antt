@@ -3,7 +3,7 @@ use Prim.Native.Nat.{ℕ}
 use Rattle.reply.specs.declared.Place.{Place}
 use Rattle.reply.specs.declared.Place.the-variants.{Nowhere, At}
 
--- 0 where there is none, as the place is then not to be read
+-- all 64 bits are ones where there is none
 abbrev pub placeNumber : Place → ℕ
-placeNumber Nowhere = 0
+placeNumber Nowhere = 18446744073709551615
 placeNumber (At place) = place

@@ -1,10 +1,12 @@
-// One figure of a design's answer, as C takes it: the reply number, a count, or a double as its 64 bits. A refusal has no figure: 0.
-// A name says the kind of answer, then the figure.
+// A design's answers told to C, all of them here: the reply number is the result, the place and the figures go through pointers. A refusal
+// has no figure: 0.
 ghost use mathlib.Core.Path.{_≡_};
-ghost use lib.Ieee as Ieee;
-ghost use lib.Ieee.{binary64};
+ghost use Rattle.design.specs.Answers.{Chain};
 ghost use Rattle.sdc1d.specs.Figures.{bondFigures, friendsFigures, countFigures, stateFigures, energyFigures, chainFigures};
-use doubles::bits;
+ghost use Rattle.mfe.specs.Answers.{settledFigures};
+ghost use Rattle.exports.specs.Told.{Told, chainOf};
+use super::place;
+use mfe::Settled;
 use reply::Reply;
 use sdc1d::BondAnswer;
 use sdc1d::ChainAnswer;
@@ -13,122 +15,133 @@ use sdc1d::EnergyAnswer;
 use sdc1d::FriendsAnswer;
 use sdc1d::StateAnswer;
 
-// The reply number of a bond.
-pub(crate) fn bond_reply(answer: BondAnswer) -> u32
-    ensures { λ r. ⌜ r ≡ bondFigures answer .number ⌝ }
-{
-    match answer {
-        BondAnswer::Bond(_) => Reply::Admitted.number(),
-        BondAnswer::Refused(refusal, _) => refusal.number(),
-    }
-}
-
 // A bond.
-pub(crate) fn bond_bits(answer: BondAnswer) -> u64
-    ensures { λ r. ⌜ r ≡ Ieee.toBits binary64 (bondFigures answer .figure) ⌝ }
+pub(crate) fn tell_bond(answer: BondAnswer, place: &mut u64, bond: &mut f64) -> u32
+    ensures { λ r. ⌜ Told (bondFigures answer) r (now (place .exit)) (now (bond .exit)) ⌝ }
 {
     match answer {
-        BondAnswer::Bond(bond) => bits(bond),
-        BondAnswer::Refused(_, _) => 0,
-    }
-}
-
-// The reply number of the friends of a position.
-pub(crate) fn friends_reply(answer: FriendsAnswer) -> u32
-    ensures { λ r. ⌜ r ≡ friendsFigures answer .number ⌝ }
-{
-    match answer {
-        FriendsAnswer::Friends(_) => Reply::Admitted.number(),
-        FriendsAnswer::Refused(refusal, _) => refusal.number(),
+        BondAnswer::Bond(given) => {
+            *place = place::NOWHERE;
+            *bond = given;
+            Reply::Admitted.number()
+        }
+        BondAnswer::Refused(refusal, at) => {
+            *place = place::number(at);
+            *bond = 0.0;
+            refusal.number()
+        }
     }
 }
 
 // How many friends there are.
-pub(crate) fn friends_count(answer: FriendsAnswer) -> usize
-    ensures { λ r. ⌜ r ≡ friendsFigures answer .figure ⌝ }
+pub(crate) fn tell_friends(answer: FriendsAnswer, place: &mut u64, count: &mut u64) -> u32
+    ensures { λ r. ⌜ Told (friendsFigures answer) r (now (place .exit)) (now (count .exit)) ⌝ }
 {
     match answer {
-        FriendsAnswer::Friends(count) => count,
-        FriendsAnswer::Refused(_, _) => 0,
+        FriendsAnswer::Friends(given) => {
+            *place = place::NOWHERE;
+            *count = given as u64;
+            Reply::Admitted.number()
+        }
+        FriendsAnswer::Refused(refusal, at) => {
+            *place = place::number(at);
+            *count = 0;
+            refusal.number()
+        }
     }
 }
 
-// The reply number of the count of states.
-pub(crate) fn count_reply(answer: CountAnswer) -> u32
-    ensures { λ r. ⌜ r ≡ countFigures answer .number ⌝ }
+// How many states there are.
+pub(crate) fn tell_count(answer: CountAnswer, place: &mut u64, count: &mut u64) -> u32
+    ensures { λ r. ⌜ Told (countFigures answer) r (now (place .exit)) (now (count .exit)) ⌝ }
 {
     match answer {
-        CountAnswer::States(_) => Reply::Admitted.number(),
-        CountAnswer::Refused(refusal, _) => refusal.number(),
+        CountAnswer::States(given) => {
+            *place = place::NOWHERE;
+            *count = given;
+            Reply::Admitted.number()
+        }
+        CountAnswer::Refused(refusal, at) => {
+            *place = place::number(at);
+            *count = 0;
+            refusal.number()
+        }
     }
 }
 
-// The number of states.
-pub(crate) fn count_count(answer: CountAnswer) -> u64
-    ensures { λ r. ⌜ r ≡ countFigures answer .figure ⌝ }
+// A state, which stands in the lent entries.
+pub(crate) fn tell_state(answer: StateAnswer, place: &mut u64) -> u32
+    ensures { λ r. ⌜ Told (stateFigures answer) r (now (place .exit)) tt ⌝ }
 {
     match answer {
-        CountAnswer::States(count) => count,
-        CountAnswer::Refused(_, _) => 0,
-    }
-}
-
-// The reply number of the state at a rank.
-pub(crate) fn state_reply(answer: StateAnswer) -> u32
-    ensures { λ r. ⌜ r ≡ stateFigures answer .number ⌝ }
-{
-    match answer {
-        StateAnswer::Written => Reply::Admitted.number(),
-        StateAnswer::Refused(refusal, _) => refusal.number(),
-    }
-}
-
-// The reply number of the state energy.
-pub(crate) fn energy_reply(answer: EnergyAnswer) -> u32
-    ensures { λ r. ⌜ r ≡ energyFigures answer .number ⌝ }
-{
-    match answer {
-        EnergyAnswer::Energy(_) => Reply::Admitted.number(),
-        EnergyAnswer::Refused(refusal, _) => refusal.number(),
+        StateAnswer::Written => {
+            *place = place::NOWHERE;
+            Reply::Admitted.number()
+        }
+        StateAnswer::Refused(refusal, at) => {
+            *place = place::number(at);
+            refusal.number()
+        }
     }
 }
 
 // The state energy.
-pub(crate) fn energy_bits(answer: EnergyAnswer) -> u64
-    ensures { λ r. ⌜ r ≡ Ieee.toBits binary64 (energyFigures answer .figure) ⌝ }
+pub(crate) fn tell_energy(answer: EnergyAnswer, place: &mut u64, energy: &mut f64) -> u32
+    ensures { λ r. ⌜ Told (energyFigures answer) r (now (place .exit)) (now (energy .exit)) ⌝ }
 {
     match answer {
-        EnergyAnswer::Energy(energy) => bits(energy.0),
-        EnergyAnswer::Refused(_, _) => 0,
+        EnergyAnswer::Energy(given) => {
+            *place = place::NOWHERE;
+            *energy = given.0;
+            Reply::Admitted.number()
+        }
+        EnergyAnswer::Refused(refusal, at) => {
+            *place = place::number(at);
+            *energy = 0.0;
+            refusal.number()
+        }
     }
 }
 
-// The reply number of the chain energy.
-pub(crate) fn chain_reply(answer: ChainAnswer) -> u32
-    ensures { λ r. ⌜ r ≡ chainFigures answer .number ⌝ }
+// The chain energy, as it is and times RT.
+pub(crate) fn tell_chain(
+    answer: ChainAnswer,
+    place: &mut u64,
+    sum: &mut f64,
+    energy: &mut f64,
+) -> u32
+    ensures { λ r. ⌜ Told (chainFigures answer) r (now (place .exit)) (chainOf (now (sum .exit)) (now (energy .exit))) ⌝ }
 {
     match answer {
-        ChainAnswer::Energy(_, _) => Reply::Admitted.number(),
-        ChainAnswer::Refused(refusal, _) => refusal.number(),
+        ChainAnswer::Energy(bare, times_rt) => {
+            *place = place::NOWHERE;
+            *sum = bare;
+            *energy = times_rt.0;
+            Reply::Admitted.number()
+        }
+        ChainAnswer::Refused(refusal, at) => {
+            *place = place::number(at);
+            *sum = 0.0;
+            *energy = 0.0;
+            refusal.number()
+        }
     }
 }
 
-// RT times the chain energy.
-pub(crate) fn chain_bits(answer: ChainAnswer) -> u64
-    ensures { λ r. ⌜ r ≡ Ieee.toBits binary64 (chainFigures answer .figure .timesRt) ⌝ }
+// The energy of the configuration that stands in the lent entries.
+pub(crate) fn tell_settled(answer: Settled, place: &mut u64, energy: &mut f64) -> u32
+    ensures { λ r. ⌜ Told (settledFigures answer) r (now (place .exit)) (now (energy .exit)) ⌝ }
 {
     match answer {
-        ChainAnswer::Energy(_, energy) => bits(energy.0),
-        ChainAnswer::Refused(_, _) => 0,
-    }
-}
-
-// The chain energy as it is.
-pub(crate) fn chain_sum(answer: ChainAnswer) -> u64
-    ensures { λ r. ⌜ r ≡ Ieee.toBits binary64 (chainFigures answer .figure .bare) ⌝ }
-{
-    match answer {
-        ChainAnswer::Energy(sum, _) => bits(sum),
-        ChainAnswer::Refused(_, _) => 0,
+        Settled::Energy(lowest) => {
+            *place = place::NOWHERE;
+            *energy = lowest.0;
+            Reply::Admitted.number()
+        }
+        Settled::Refused(refusal, at) => {
+            *place = place::number(at);
+            *energy = 0.0;
+            refusal.number()
+        }
     }
 }

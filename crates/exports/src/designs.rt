@@ -1,11 +1,8 @@
-// A design's calls as C functions. Each works out its whole call anew: the one that ends in `_reply` answers the reply number, the others a
-// figure of the answer, a double as its 64 bits, and 0 on a refusal. Those of one call leave the same in the lent entries.
-// A design is lent as sdc1d takes it, the ambient as its three doubles.
+// A design's calls as C functions. A design is lent as sdc1d takes it, the ambient as its three doubles.
 ghost use mathlib.Core.Path.{_≡_};
-ghost use lib.Ieee as Ieee;
-ghost use lib.Ieee.{binary64};
 ghost use Rattle.design.specs.Answers.{strandBondAnswer, scaffoldBondAnswer, friendsAnswer, friendsEntries, countAnswer, rankAnswer, rankEntries, stateEnergyAnswer, chainEnergyAnswer};
 ghost use Rattle.exports.specs.Lent.{ambientOf, lentAt};
+ghost use Rattle.exports.specs.Told.{Told, chainOf};
 use super::answers;
 use units::Ambient;
 use units::KcalPerMol;
@@ -24,34 +21,6 @@ pub(crate) fn ambient(rt: f64, strand_excess: f64, scaffold_excess: f64) -> Ambi
 
 // The bond between strand x and strand y to the east of it.
 #[no_mangle]
-pub extern "C" fn mj_strand_bond_reply(
-    scaffold: &[u8],
-    glues: &[u8],
-    dg: &[f64],
-    ds: &[f64],
-    potentials: &[f64],
-    rt: f64,
-    strand_excess: f64,
-    scaffold_excess: f64,
-    x: u8,
-    y: u8,
-) -> u32
-    ensures { λ r. ⌜ r ≡ strandBondAnswer (lentAt (scaffold .entry) (glues .entry) (dg .entry) (ds .entry) (potentials .entry) rt «strand_excess» «scaffold_excess») x y .number ⌝ }
-{
-    answers::bond_reply(sdc1d::bond_between_strands(
-        scaffold,
-        glues,
-        dg,
-        ds,
-        potentials,
-        ambient(rt, strand_excess, scaffold_excess),
-        x,
-        y,
-    ))
-}
-
-// The bond itself, as its bits.
-#[no_mangle]
 pub extern "C" fn mj_strand_bond(
     scaffold: &[u8],
     glues: &[u8],
@@ -63,50 +32,28 @@ pub extern "C" fn mj_strand_bond(
     scaffold_excess: f64,
     x: u8,
     y: u8,
-) -> u64
-    ensures { λ r. ⌜ r ≡ Ieee.toBits binary64 (strandBondAnswer (lentAt (scaffold .entry) (glues .entry) (dg .entry) (ds .entry) (potentials .entry) rt «strand_excess» «scaffold_excess») x y .figure) ⌝ }
+    place: &mut u64,
+    bond: &mut f64,
+) -> u32
+    ensures { λ r. ⌜ Told (strandBondAnswer (lentAt (scaffold .entry) (glues .entry) (dg .entry) (ds .entry) (potentials .entry) rt «strand_excess» «scaffold_excess») x y) r (now (place .exit)) (now (bond .exit)) ⌝ }
 {
-    answers::bond_bits(sdc1d::bond_between_strands(
-        scaffold,
-        glues,
-        dg,
-        ds,
-        potentials,
-        ambient(rt, strand_excess, scaffold_excess),
-        x,
-        y,
-    ))
+    answers::tell_bond(
+        sdc1d::bond_between_strands(
+            scaffold,
+            glues,
+            dg,
+            ds,
+            potentials,
+            ambient(rt, strand_excess, scaffold_excess),
+            x,
+            y,
+        ),
+        place,
+        bond,
+    )
 }
 
 // The bond between the scaffold at a position and a strand.
-#[no_mangle]
-pub extern "C" fn mj_scaffold_bond_reply(
-    scaffold: &[u8],
-    glues: &[u8],
-    dg: &[f64],
-    ds: &[f64],
-    potentials: &[f64],
-    rt: f64,
-    strand_excess: f64,
-    scaffold_excess: f64,
-    position: usize,
-    strand: u8,
-) -> u32
-    ensures { λ r. ⌜ r ≡ scaffoldBondAnswer (lentAt (scaffold .entry) (glues .entry) (dg .entry) (ds .entry) (potentials .entry) rt «strand_excess» «scaffold_excess») position strand .number ⌝ }
-{
-    answers::bond_reply(sdc1d::bond_with_scaffold(
-        scaffold,
-        glues,
-        dg,
-        ds,
-        potentials,
-        ambient(rt, strand_excess, scaffold_excess),
-        position,
-        strand,
-    ))
-}
-
-// The bond itself, as its bits.
 #[no_mangle]
 pub extern "C" fn mj_scaffold_bond(
     scaffold: &[u8],
@@ -119,53 +66,30 @@ pub extern "C" fn mj_scaffold_bond(
     scaffold_excess: f64,
     position: usize,
     strand: u8,
-) -> u64
-    ensures { λ r. ⌜ r ≡ Ieee.toBits binary64 (scaffoldBondAnswer (lentAt (scaffold .entry) (glues .entry) (dg .entry) (ds .entry) (potentials .entry) rt «strand_excess» «scaffold_excess») position strand .figure) ⌝ }
-{
-    answers::bond_bits(sdc1d::bond_with_scaffold(
-        scaffold,
-        glues,
-        dg,
-        ds,
-        potentials,
-        ambient(rt, strand_excess, scaffold_excess),
-        position,
-        strand,
-    ))
-}
-
-// The friends of a position, into 64 lent entries.
-#[no_mangle]
-pub extern "C" fn mj_friends_reply(
-    scaffold: &[u8],
-    glues: &[u8],
-    dg: &[f64],
-    ds: &[f64],
-    potentials: &[f64],
-    rt: f64,
-    strand_excess: f64,
-    scaffold_excess: f64,
-    position: usize,
-    entries: &mut [u8],
+    place: &mut u64,
+    bond: &mut f64,
 ) -> u32
-    ensures { λ r. ⌜ r ≡ friendsAnswer (lentAt (scaffold .entry) (glues .entry) (dg .entry) (ds .entry) (potentials .entry) rt «strand_excess» «scaffold_excess») position (now (entries .entry)) .number ⌝ }
-    ensures { λ r. ⌜ now (entries .exit) ≡ friendsEntries (lentAt (scaffold .entry) (glues .entry) (dg .entry) (ds .entry) (potentials .entry) rt «strand_excess» «scaffold_excess») position (now (entries .entry)) ⌝ }
+    ensures { λ r. ⌜ Told (scaffoldBondAnswer (lentAt (scaffold .entry) (glues .entry) (dg .entry) (ds .entry) (potentials .entry) rt «strand_excess» «scaffold_excess») position strand) r (now (place .exit)) (now (bond .exit)) ⌝ }
 {
-    answers::friends_reply(sdc1d::friends_btm(
-        scaffold,
-        glues,
-        dg,
-        ds,
-        potentials,
-        ambient(rt, strand_excess, scaffold_excess),
-        position,
-        entries,
-    ))
+    answers::tell_bond(
+        sdc1d::bond_with_scaffold(
+            scaffold,
+            glues,
+            dg,
+            ds,
+            potentials,
+            ambient(rt, strand_excess, scaffold_excess),
+            position,
+            strand,
+        ),
+        place,
+        bond,
+    )
 }
 
-// How many friends there are.
+// The friends of a position, into 64 lent entries, and how many there are.
 #[no_mangle]
-pub extern "C" fn mj_friends_count(
+pub extern "C" fn mj_friends(
     scaffold: &[u8],
     glues: &[u8],
     dg: &[f64],
@@ -176,25 +100,31 @@ pub extern "C" fn mj_friends_count(
     scaffold_excess: f64,
     position: usize,
     entries: &mut [u8],
-) -> usize
-    ensures { λ r. ⌜ r ≡ friendsAnswer (lentAt (scaffold .entry) (glues .entry) (dg .entry) (ds .entry) (potentials .entry) rt «strand_excess» «scaffold_excess») position (now (entries .entry)) .figure ⌝ }
+    place: &mut u64,
+    count: &mut u64,
+) -> u32
+    ensures { λ r. ⌜ Told (friendsAnswer (lentAt (scaffold .entry) (glues .entry) (dg .entry) (ds .entry) (potentials .entry) rt «strand_excess» «scaffold_excess») position (now (entries .entry))) r (now (place .exit)) (now (count .exit)) ⌝ }
     ensures { λ r. ⌜ now (entries .exit) ≡ friendsEntries (lentAt (scaffold .entry) (glues .entry) (dg .entry) (ds .entry) (potentials .entry) rt «strand_excess» «scaffold_excess») position (now (entries .entry)) ⌝ }
 {
-    answers::friends_count(sdc1d::friends_btm(
-        scaffold,
-        glues,
-        dg,
-        ds,
-        potentials,
-        ambient(rt, strand_excess, scaffold_excess),
-        position,
-        entries,
-    ))
+    answers::tell_friends(
+        sdc1d::friends_btm(
+            scaffold,
+            glues,
+            dg,
+            ds,
+            potentials,
+            ambient(rt, strand_excess, scaffold_excess),
+            position,
+            entries,
+        ),
+        place,
+        count,
+    )
 }
 
 // How many states there are.
 #[no_mangle]
-pub extern "C" fn mj_states_reply(
+pub extern "C" fn mj_states(
     scaffold: &[u8],
     glues: &[u8],
     dg: &[f64],
@@ -203,46 +133,28 @@ pub extern "C" fn mj_states_reply(
     rt: f64,
     strand_excess: f64,
     scaffold_excess: f64,
+    place: &mut u64,
+    count: &mut u64,
 ) -> u32
-    ensures { λ r. ⌜ r ≡ countAnswer (lentAt (scaffold .entry) (glues .entry) (dg .entry) (ds .entry) (potentials .entry) rt «strand_excess» «scaffold_excess») .number ⌝ }
+    ensures { λ r. ⌜ Told (countAnswer (lentAt (scaffold .entry) (glues .entry) (dg .entry) (ds .entry) (potentials .entry) rt «strand_excess» «scaffold_excess»)) r (now (place .exit)) (now (count .exit)) ⌝ }
 {
-    answers::count_reply(sdc1d::number_of_states(
-        scaffold,
-        glues,
-        dg,
-        ds,
-        potentials,
-        ambient(rt, strand_excess, scaffold_excess),
-    ))
-}
-
-// The number of states itself.
-#[no_mangle]
-pub extern "C" fn mj_states_count(
-    scaffold: &[u8],
-    glues: &[u8],
-    dg: &[f64],
-    ds: &[f64],
-    potentials: &[f64],
-    rt: f64,
-    strand_excess: f64,
-    scaffold_excess: f64,
-) -> u64
-    ensures { λ r. ⌜ r ≡ countAnswer (lentAt (scaffold .entry) (glues .entry) (dg .entry) (ds .entry) (potentials .entry) rt «strand_excess» «scaffold_excess») .figure ⌝ }
-{
-    answers::count_count(sdc1d::number_of_states(
-        scaffold,
-        glues,
-        dg,
-        ds,
-        potentials,
-        ambient(rt, strand_excess, scaffold_excess),
-    ))
+    answers::tell_count(
+        sdc1d::number_of_states(
+            scaffold,
+            glues,
+            dg,
+            ds,
+            potentials,
+            ambient(rt, strand_excess, scaffold_excess),
+        ),
+        place,
+        count,
+    )
 }
 
 // The state at a rank, into one lent entry for each position.
 #[no_mangle]
-pub extern "C" fn mj_state_reply(
+pub extern "C" fn mj_state(
     scaffold: &[u8],
     glues: &[u8],
     dg: &[f64],
@@ -253,49 +165,27 @@ pub extern "C" fn mj_state_reply(
     scaffold_excess: f64,
     rank: u64,
     entries: &mut [u8],
+    place: &mut u64,
 ) -> u32
-    ensures { λ r. ⌜ r ≡ rankAnswer (lentAt (scaffold .entry) (glues .entry) (dg .entry) (ds .entry) (potentials .entry) rt «strand_excess» «scaffold_excess») rank (now (entries .entry)) .number ⌝ }
+    ensures { λ r. ⌜ Told (rankAnswer (lentAt (scaffold .entry) (glues .entry) (dg .entry) (ds .entry) (potentials .entry) rt «strand_excess» «scaffold_excess») rank (now (entries .entry))) r (now (place .exit)) tt ⌝ }
     ensures { λ r. ⌜ now (entries .exit) ≡ rankEntries (lentAt (scaffold .entry) (glues .entry) (dg .entry) (ds .entry) (potentials .entry) rt «strand_excess» «scaffold_excess») rank (now (entries .entry)) ⌝ }
 {
-    answers::state_reply(sdc1d::state_at_rank(
-        scaffold,
-        glues,
-        dg,
-        ds,
-        potentials,
-        ambient(rt, strand_excess, scaffold_excess),
-        rank,
-        entries,
-    ))
+    answers::tell_state(
+        sdc1d::state_at_rank(
+            scaffold,
+            glues,
+            dg,
+            ds,
+            potentials,
+            ambient(rt, strand_excess, scaffold_excess),
+            rank,
+            entries,
+        ),
+        place,
+    )
 }
 
 // The state energy of a configuration.
-#[no_mangle]
-pub extern "C" fn mj_state_energy_reply(
-    scaffold: &[u8],
-    glues: &[u8],
-    dg: &[f64],
-    ds: &[f64],
-    potentials: &[f64],
-    rt: f64,
-    strand_excess: f64,
-    scaffold_excess: f64,
-    configuration: &[u8],
-) -> u32
-    ensures { λ r. ⌜ r ≡ stateEnergyAnswer (lentAt (scaffold .entry) (glues .entry) (dg .entry) (ds .entry) (potentials .entry) rt «strand_excess» «scaffold_excess») (now (configuration .entry)) .number ⌝ }
-{
-    answers::energy_reply(sdc1d::g_system(
-        scaffold,
-        glues,
-        dg,
-        ds,
-        potentials,
-        ambient(rt, strand_excess, scaffold_excess),
-        configuration,
-    ))
-}
-
-// The state energy itself, as its bits.
 #[no_mangle]
 pub extern "C" fn mj_state_energy(
     scaffold: &[u8],
@@ -307,47 +197,27 @@ pub extern "C" fn mj_state_energy(
     strand_excess: f64,
     scaffold_excess: f64,
     configuration: &[u8],
-) -> u64
-    ensures { λ r. ⌜ r ≡ Ieee.toBits binary64 (stateEnergyAnswer (lentAt (scaffold .entry) (glues .entry) (dg .entry) (ds .entry) (potentials .entry) rt «strand_excess» «scaffold_excess») (now (configuration .entry)) .figure) ⌝ }
-{
-    answers::energy_bits(sdc1d::g_system(
-        scaffold,
-        glues,
-        dg,
-        ds,
-        potentials,
-        ambient(rt, strand_excess, scaffold_excess),
-        configuration,
-    ))
-}
-
-// The chain energy of a configuration, times RT, and the bare sum.
-#[no_mangle]
-pub extern "C" fn mj_chain_energy_reply(
-    scaffold: &[u8],
-    glues: &[u8],
-    dg: &[f64],
-    ds: &[f64],
-    potentials: &[f64],
-    rt: f64,
-    strand_excess: f64,
-    scaffold_excess: f64,
-    configuration: &[u8],
+    place: &mut u64,
+    energy: &mut f64,
 ) -> u32
-    ensures { λ r. ⌜ r ≡ chainEnergyAnswer (lentAt (scaffold .entry) (glues .entry) (dg .entry) (ds .entry) (potentials .entry) rt «strand_excess» «scaffold_excess») (now (configuration .entry)) .number ⌝ }
+    ensures { λ r. ⌜ Told (stateEnergyAnswer (lentAt (scaffold .entry) (glues .entry) (dg .entry) (ds .entry) (potentials .entry) rt «strand_excess» «scaffold_excess») (now (configuration .entry))) r (now (place .exit)) (now (energy .exit)) ⌝ }
 {
-    answers::chain_reply(sdc1d::chain_energy(
-        scaffold,
-        glues,
-        dg,
-        ds,
-        potentials,
-        ambient(rt, strand_excess, scaffold_excess),
-        configuration,
-    ))
+    answers::tell_energy(
+        sdc1d::g_system(
+            scaffold,
+            glues,
+            dg,
+            ds,
+            potentials,
+            ambient(rt, strand_excess, scaffold_excess),
+            configuration,
+        ),
+        place,
+        energy,
+    )
 }
 
-// RT times the chain energy, as its bits.
+// The chain energy of a configuration, as it is and times RT.
 #[no_mangle]
 pub extern "C" fn mj_chain_energy(
     scaffold: &[u8],
@@ -359,42 +229,24 @@ pub extern "C" fn mj_chain_energy(
     strand_excess: f64,
     scaffold_excess: f64,
     configuration: &[u8],
-) -> u64
-    ensures { λ r. ⌜ r ≡ Ieee.toBits binary64 (chainEnergyAnswer (lentAt (scaffold .entry) (glues .entry) (dg .entry) (ds .entry) (potentials .entry) rt «strand_excess» «scaffold_excess») (now (configuration .entry)) .figure .timesRt) ⌝ }
+    place: &mut u64,
+    sum: &mut f64,
+    energy: &mut f64,
+) -> u32
+    ensures { λ r. ⌜ Told (chainEnergyAnswer (lentAt (scaffold .entry) (glues .entry) (dg .entry) (ds .entry) (potentials .entry) rt «strand_excess» «scaffold_excess») (now (configuration .entry))) r (now (place .exit)) (chainOf (now (sum .exit)) (now (energy .exit))) ⌝ }
 {
-    answers::chain_bits(sdc1d::chain_energy(
-        scaffold,
-        glues,
-        dg,
-        ds,
-        potentials,
-        ambient(rt, strand_excess, scaffold_excess),
-        configuration,
-    ))
-}
-
-// The chain energy as it is, as its bits.
-#[no_mangle]
-pub extern "C" fn mj_chain_sum(
-    scaffold: &[u8],
-    glues: &[u8],
-    dg: &[f64],
-    ds: &[f64],
-    potentials: &[f64],
-    rt: f64,
-    strand_excess: f64,
-    scaffold_excess: f64,
-    configuration: &[u8],
-) -> u64
-    ensures { λ r. ⌜ r ≡ Ieee.toBits binary64 (chainEnergyAnswer (lentAt (scaffold .entry) (glues .entry) (dg .entry) (ds .entry) (potentials .entry) rt «strand_excess» «scaffold_excess») (now (configuration .entry)) .figure .bare) ⌝ }
-{
-    answers::chain_sum(sdc1d::chain_energy(
-        scaffold,
-        glues,
-        dg,
-        ds,
-        potentials,
-        ambient(rt, strand_excess, scaffold_excess),
-        configuration,
-    ))
+    answers::tell_chain(
+        sdc1d::chain_energy(
+            scaffold,
+            glues,
+            dg,
+            ds,
+            potentials,
+            ambient(rt, strand_excess, scaffold_excess),
+            configuration,
+        ),
+        place,
+        sum,
+        energy,
+    )
 }

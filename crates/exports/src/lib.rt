@@ -1,12 +1,14 @@
-// The calls on sequences and temperatures as C functions, one for the reply number and one for each double, as its 64 bits.
-// include/mujplesten.h declares them; each works out its whole call.
+// The calls as C functions, which include/mujplesten.h declares; in this file those on sequences and temperatures.
+// One function is one call: it answers the reply number and writes places and figures through pointers. Of one and of two sequences there is
+// also a function for the reply number and one for each double, as its 64 bits.
 mod answers;
 pub mod designs;
 mod figures;
 pub mod names;
 pub mod params;
+mod place;
 pub mod search;
-mod stored;
+pub mod stored;
 
 ghost use mathlib.Core.Path.{_≡_};
 ghost use lib.Ieee as Ieee;
@@ -41,6 +43,16 @@ pub extern "C" fn mj_sequence_ds(s: &[u8]) -> u64
     ensures { λ r. ⌜ r ≡ Ieee.toBits binary64 (stringDnaDgDs (now (s .entry)) .ds) ⌝ }
 {
     figures::dg_ds_ds(utils::string_dna_dg_ds(s))
+}
+
+// All three at once.
+#[no_mangle]
+pub extern "C" fn mj_sequence(s: &[u8], dg: &mut f64, ds: &mut f64) -> u32
+    ensures { λ r. ⌜ r ≡ stringDnaDgDs (now (s .entry)) .number ⌝ }
+    ensures { λ r. ⌜ now (dg .exit) ≡ stringDnaDgDs (now (s .entry)) .dg ⌝ }
+    ensures { λ r. ⌜ now (ds .exit) ≡ stringDnaDgDs (now (s .entry)) .ds ⌝ }
+{
+    figures::dg_ds_tell(utils::string_dna_dg_ds(s), dg, ds)
 }
 
 // One sequence in the published mode.
@@ -91,82 +103,60 @@ pub extern "C" fn mj_pair_ds(a: &[u8], b: &[u8]) -> u64
     figures::dg_ds_ds(utils::sequence_pair_dg_ds(a, b))
 }
 
+// All three at once.
+#[no_mangle]
+pub extern "C" fn mj_pair(a: &[u8], b: &[u8], dg: &mut f64, ds: &mut f64) -> u32
+    ensures { λ r. ⌜ r ≡ sequencePairDgDs (now (a .entry)) (now (b .entry)) .number ⌝ }
+    ensures { λ r. ⌜ now (dg .exit) ≡ sequencePairDgDs (now (a .entry)) (now (b .entry)) .dg ⌝ }
+    ensures { λ r. ⌜ now (ds .exit) ≡ sequencePairDgDs (now (a .entry)) (now (b .entry)) .ds ⌝ }
+{
+    figures::dg_ds_tell(utils::sequence_pair_dg_ds(a, b), dg, ds)
+}
+
 // A loop.
 #[no_mangle]
-pub extern "C" fn mj_loop_reply(length: usize, kind: u32) -> u32
+pub extern "C" fn mj_loop_penalty(length: usize, kind: u32, dg: &mut f64) -> u32
     ensures { λ r. ⌜ r ≡ loopPenalty length kind .number ⌝ }
+    ensures { λ r. ⌜ now (dg .exit) ≡ loopPenalty length kind .dg ⌝ }
 {
-    figures::dg_reply(utils::loop_penalty(length, kind))
+    figures::dg_tell(utils::loop_penalty(length, kind), dg)
 }
 
-// Its dG.
+// The strength of one sequence.
 #[no_mangle]
-pub extern "C" fn mj_loop_dg(length: usize, kind: u32) -> u64
-    ensures { λ r. ⌜ r ≡ Ieee.toBits binary64 (loopPenalty length kind .dg) ⌝ }
-{
-    figures::dg_dg(utils::loop_penalty(length, kind))
-}
-
-// Strengths of one sequence and of two.
-#[no_mangle]
-pub extern "C" fn mj_sequence_strength_reply(s: &[u8], excess: f64) -> u32
+pub extern "C" fn mj_sequence_strength(s: &[u8], excess: f64, strength: &mut f64) -> u32
     ensures { λ r. ⌜ r ≡ sequenceStrength (now (s .entry)) excess .number ⌝ }
+    ensures { λ r. ⌜ now (strength .exit) ≡ sequenceStrength (now (s .entry)) excess .dg ⌝ }
 {
-    figures::dg_reply(utils::sequence_strength(s, Kelvin(excess)))
-}
-
-// The strength itself.
-#[no_mangle]
-pub extern "C" fn mj_sequence_strength(s: &[u8], excess: f64) -> u64
-    ensures { λ r. ⌜ r ≡ Ieee.toBits binary64 (sequenceStrength (now (s .entry)) excess .dg) ⌝ }
-{
-    figures::dg_dg(utils::sequence_strength(s, Kelvin(excess)))
+    figures::dg_tell(utils::sequence_strength(s, Kelvin(excess)), strength)
 }
 
 // The strength of two sequences.
 #[no_mangle]
-pub extern "C" fn mj_pair_strength_reply(a: &[u8], b: &[u8], excess: f64) -> u32
+pub extern "C" fn mj_pair_strength(a: &[u8], b: &[u8], excess: f64, strength: &mut f64) -> u32
     ensures { λ r. ⌜ r ≡ pairStrength (now (a .entry)) (now (b .entry)) excess .number ⌝ }
+    ensures { λ r. ⌜ now (strength .exit) ≡ pairStrength (now (a .entry)) (now (b .entry)) excess .dg ⌝ }
 {
-    figures::dg_reply(utils::pair_strength(a, b, Kelvin(excess)))
+    figures::dg_tell(utils::pair_strength(a, b, Kelvin(excess)), strength)
 }
 
-// The strength itself.
+// The ambient: RT and the two excesses.
 #[no_mangle]
-pub extern "C" fn mj_pair_strength(a: &[u8], b: &[u8], excess: f64) -> u64
-    ensures { λ r. ⌜ r ≡ Ieee.toBits binary64 (pairStrength (now (a .entry)) (now (b .entry)) excess .dg) ⌝ }
-{
-    figures::dg_dg(utils::pair_strength(a, b, Kelvin(excess)))
-}
-
-// The ambient.
-#[no_mangle]
-pub extern "C" fn mj_ambient_reply(kelvin: f64) -> u32
+pub extern "C" fn mj_ambient(
+    kelvin: f64,
+    rt: &mut f64,
+    strand_excess: &mut f64,
+    scaffold_excess: &mut f64,
+) -> u32
     ensures { λ r. ⌜ r ≡ ambientAt kelvin .number ⌝ }
+    ensures { λ r. ⌜ now (rt .exit) ≡ ambientAt kelvin .rt ⌝ }
+    ensures { λ r. ⌜ now («strand_excess» .exit) ≡ ambientAt kelvin .strandExcess ⌝ }
+    ensures { λ r. ⌜ now («scaffold_excess» .exit) ≡ ambientAt kelvin .scaffoldExcess ⌝ }
 {
-    figures::ambient_reply(units::ambient_at(Kelvin(kelvin)))
-}
-
-// Its RT.
-#[no_mangle]
-pub extern "C" fn mj_ambient_rt(kelvin: f64) -> u64
-    ensures { λ r. ⌜ r ≡ Ieee.toBits binary64 (ambientAt kelvin .rt) ⌝ }
-{
-    figures::ambient_rt(units::ambient_at(Kelvin(kelvin)))
-}
-
-// Its strand excess.
-#[no_mangle]
-pub extern "C" fn mj_ambient_strand_excess(kelvin: f64) -> u64
-    ensures { λ r. ⌜ r ≡ Ieee.toBits binary64 (ambientAt kelvin .strandExcess) ⌝ }
-{
-    figures::ambient_strand_excess(units::ambient_at(Kelvin(kelvin)))
-}
-
-// Its scaffold excess.
-#[no_mangle]
-pub extern "C" fn mj_ambient_scaffold_excess(kelvin: f64) -> u64
-    ensures { λ r. ⌜ r ≡ Ieee.toBits binary64 (ambientAt kelvin .scaffoldExcess) ⌝ }
-{
-    figures::ambient_scaffold_excess(units::ambient_at(Kelvin(kelvin)))
+    figures::ambient_tell(
+        units::ambient_at(Kelvin(kelvin)),
+        rt,
+        strand_excess,
+        scaffold_excess,
+    )
 }

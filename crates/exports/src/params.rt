@@ -18,7 +18,7 @@ fn copied(strand: usize) -> Copied
 
 // Strand glues, scaffold glues and both tables from names and energies.
 #[no_mangle]
-pub extern "C" fn mj_params_reply(
+pub extern "C" fn mj_params(
     text: &[u8],
     users: usize,
     strand_starts: &[usize],

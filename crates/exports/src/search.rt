@@ -1,37 +1,15 @@
-// The search for the lowest configuration as C functions. Each works out its whole call anew, and both leave the same in the lent entries.
+// The search for the lowest configuration as a C function.
 ghost use mathlib.Core.Path.{_≡_};
-ghost use lib.Ieee as Ieee;
-ghost use lib.Ieee.{binary64};
-ghost use Rattle.mfe.specs.Answers.{settledFigures, searchAnswer, searchEntries};
+ghost use Rattle.mfe.specs.Answers.{searchAnswer, searchEntries};
 ghost use Rattle.exports.specs.Lent.{lentAt};
+ghost use Rattle.exports.specs.Lowest.{LowestTold};
+ghost use Rattle.exports.specs.Told.{Told};
+use super::answers;
 use super::designs::ambient;
-use doubles::bits;
-use mfe::Settled;
-use reply::Reply;
 
-// The reply number of the search.
-fn settled_reply(answer: Settled) -> u32
-    ensures { λ r. ⌜ r ≡ settledFigures answer .number ⌝ }
-{
-    match answer {
-        Settled::Energy(_) => Reply::Admitted.number(),
-        Settled::Refused(refusal, _) => refusal.number(),
-    }
-}
-
-// The energy of the lowest configuration.
-fn settled_bits(answer: Settled) -> u64
-    ensures { λ r. ⌜ r ≡ Ieee.toBits binary64 (settledFigures answer .figure) ⌝ }
-{
-    match answer {
-        Settled::Energy(energy) => bits(energy.0),
-        Settled::Refused(_, _) => 0,
-    }
-}
-
-// The reply number; the configuration stands in the lent entries.
+// The lowest configuration, into one lent entry for each position, and its energy.
 #[no_mangle]
-pub extern "C" fn mj_search_reply(
+pub extern "C" fn mj_search(
     scaffold: &[u8],
     glues: &[u8],
     dg: &[f64],
@@ -41,44 +19,24 @@ pub extern "C" fn mj_search_reply(
     strand_excess: f64,
     scaffold_excess: f64,
     configuration: &mut [u8],
+    place: &mut u64,
+    energy: &mut f64,
 ) -> u32
-    ensures { λ r. ⌜ r ≡ searchAnswer (lentAt (scaffold .entry) (glues .entry) (dg .entry) (ds .entry) (potentials .entry) rt «strand_excess» «scaffold_excess») (now (configuration .entry)) .number ⌝ }
+    ensures { λ r. ⌜ Told (searchAnswer (lentAt (scaffold .entry) (glues .entry) (dg .entry) (ds .entry) (potentials .entry) rt «strand_excess» «scaffold_excess») (now (configuration .entry))) r (now (place .exit)) (now (energy .exit)) ⌝ }
     ensures { λ r. ⌜ now (configuration .exit) ≡ searchEntries (lentAt (scaffold .entry) (glues .entry) (dg .entry) (ds .entry) (potentials .entry) rt «strand_excess» «scaffold_excess») (now (configuration .entry)) ⌝ }
+    ensures { λ r. ⌜ LowestTold (lentAt (scaffold .entry) (glues .entry) (dg .entry) (ds .entry) (potentials .entry) rt «strand_excess» «scaffold_excess») r (now (configuration .exit)) (now (energy .exit)) ⌝ }
 {
-    settled_reply(mfe::mfe_configuration(
-        scaffold,
-        glues,
-        dg,
-        ds,
-        potentials,
-        ambient(rt, strand_excess, scaffold_excess),
-        configuration,
-    ))
-}
-
-// The energy itself, as its bits; the configuration stands in the lent entries.
-#[no_mangle]
-pub extern "C" fn mj_search_energy(
-    scaffold: &[u8],
-    glues: &[u8],
-    dg: &[f64],
-    ds: &[f64],
-    potentials: &[f64],
-    rt: f64,
-    strand_excess: f64,
-    scaffold_excess: f64,
-    configuration: &mut [u8],
-) -> u64
-    ensures { λ r. ⌜ r ≡ Ieee.toBits binary64 (searchAnswer (lentAt (scaffold .entry) (glues .entry) (dg .entry) (ds .entry) (potentials .entry) rt «strand_excess» «scaffold_excess») (now (configuration .entry)) .figure) ⌝ }
-    ensures { λ r. ⌜ now (configuration .exit) ≡ searchEntries (lentAt (scaffold .entry) (glues .entry) (dg .entry) (ds .entry) (potentials .entry) rt «strand_excess» «scaffold_excess») (now (configuration .entry)) ⌝ }
-{
-    settled_bits(mfe::mfe_configuration(
-        scaffold,
-        glues,
-        dg,
-        ds,
-        potentials,
-        ambient(rt, strand_excess, scaffold_excess),
-        configuration,
-    ))
+    answers::tell_settled(
+        mfe::mfe_configuration(
+            scaffold,
+            glues,
+            dg,
+            ds,
+            potentials,
+            ambient(rt, strand_excess, scaffold_excess),
+            configuration,
+        ),
+        place,
+        energy,
+    )
 }

@@ -1,14 +1,10 @@
 pub mod Tests
 pub mod Find
-pub mod Map
-pub mod Beginnings
-pub mod Over
 pub mod Build
 pub mod Any
 pub mod Keep
 pub mod Front
 pub mod Each
-pub mod Default
 pub mod Grid
 pub mod Counted
 pub mod Permuted

@@ -1,16 +1,31 @@
--- Lists and their places: made of each place of another, tested at each, stored into at one. Assumes nothing.
+-- Lists and their places: what stands at one and past the end, made of each place of another, mapped, tested at each, stored into at one. Assumes nothing.
 use mathlib.Core.Path.{_≡_, refl, ap₂, sym, _∙_}
-use mathlib.Core.Bool.{Bool, false, _||_}
 use mathlib.Core.List.{List, [], _∷_, map, List·Memᴰ, List·Memᴰ·head, List·Memᴰ·tail}
+use mathlib.Core.Bool.{Bool, false, _||_}
 use Prim.Native.Nat.{ℕ, zero, suc, _<_}
 use native.Mathlib.Nat.{le-of-suc-le-suc, not-suc-le-zero}
 use native.Mathlib.Omega.{arith}
-use lib.ListN.{length, getD, set}
+use lib.ListN.{length, getD, drop, set}
 use lib.Seq.{ext-getD}
 use Rattle.lists.specs.Find.{any}
 use Rattle.lists.specs.Build.{tabulate}
 use Rattle.lists.proofs.Tests.{neither}
 use Rattle.lists.proofs.Build.{length-tabulate, getD-tabulate}
+
+pub getD-default : {A : Type 0} (xs : List A) (k : ℕ) (d e : A) → k < length xs → getD xs k d ≡ getD xs k e
+getD-default [] k d e h = absurd (not-suc-le-zero h)
+getD-default (x ∷ xs) zero d e h = refl
+getD-default (x ∷ xs) (suc k) d e h = getD-default xs k d e (le-of-suc-le-suc h)
+
+pub drop-map : {A B : Type 0} (f : A → B) (xs : List A) (i : ℕ) → drop i (map f xs) ≡ map f (drop i xs)
+drop-map f xs zero = refl
+drop-map f [] (suc i) = refl
+drop-map f (x ∷ xs) (suc i) = drop-map f xs i
+
+pub getD-map-lt : {A B : Type 0} (f : A → B) (xs : List A) (i : ℕ) (d : A) (e : B) → i < length xs → getD (map f xs) i e ≡ f (getD xs i d)
+getD-map-lt f [] i d e h = absurd (not-suc-le-zero h)
+getD-map-lt f (x ∷ xs) zero d e h = refl
+getD-map-lt f (x ∷ xs) (suc i) d e h = getD-map-lt f xs i d e (le-of-suc-le-suc h)
 
 module _ {A : Type 0} where
   pub tabulate-places : {B : Type 0} (f : A → B) (d : A) (xs : List A) (g : ℕ → B) → ((k : ℕ) → k < length xs → g k ≡ f (getD xs k d)) → tabulate (length xs) g ≡ map f xs

@@ -1,7 +1,6 @@
 pub mod Find
 pub mod Fold
-pub mod Beginnings
-pub mod Over
+pub mod Front
 pub mod Build
 pub mod Order
 pub mod Each

@@ -5,3 +5,5 @@ pub mod Vector
 pub mod Positions
 pub mod Shown
 pub mod Replies
+pub mod Answered
+pub mod NearLowest

@@ -6,5 +6,5 @@ use Rattle.reply.proofs.Lowest.{lowest-given}
 use Rattle.design.specs.Design.{Design}
 use Rattle.mfe.specs.Answers.{searchChecks}
 
-pub search-lowest : (d : Design) (entries : List ℕ) → LowestGiven (searchChecks d entries) (firstOf (searchChecks d entries))
-search-lowest d entries = lowest-given (searchChecks d entries) tt
+pub search-reply : (d : Design) (entries : List ℕ) → LowestGiven (searchChecks d entries) (firstOf (searchChecks d entries))
+search-reply d entries = lowest-given (searchChecks d entries) tt

@@ -7,13 +7,13 @@ use native.Mathlib.Nat.{mul-le-mul}
 use native.Mathlib.Omega.{arith}
 use lib.Ieee.{Float, nan}
 use Rattle.lists.specs.Grid.{Grid}
-use Rattle.lists.proofs.Default.{getD-default}
+use Rattle.lists.proofs.Places.{getD-default}
 use Rattle.doubles.specs.Decimal.{zero}
 use Rattle.reply.specs.First.{firstOf}
 use Rattle.reply.specs.declared.Refusal.{Refusal}
 use Rattle.reply.specs.declared.Reply.the-variants as Reply
 use Rattle.model.specs.Search.{search}
-use Rattle.model.specs.Lowest.{LowestConfiguration}
+use Rattle.model.specs.LowestConfiguration.{LowestConfiguration}
 use Rattle.model.proofs.Search.{search-lowest}
 use Rattle.design.specs.Design.{Design, positions, strands, strandBondIn, scaffoldBondIn, isFriend, modelOf}
 use Rattle.design.specs.Checks.{Admitted, designChecks}

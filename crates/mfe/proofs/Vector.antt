@@ -12,18 +12,18 @@ use borrow.Author.Tests.{ne-eqb}
 use Rattle.doubles.specs.Decimal as Decimal
 use Rattle.doubles.specs.Least.{pick, lastLeast}
 use Rattle.model.specs.Model.{Model, friendsAt}
-use Rattle.model.specs.Search.{reached, entry, compared, leftChoice, optionsAt}
+use Rattle.model.specs.Search.{leastLeft, entry, compared, leftChoice, optionsAt}
 use Rattle.mfe.specs.declared.matrix.Attached.{Attached}
 use Rattle.mfe.specs.Entries.{keyOf, Chosen, Left}
 
 -- the left choice of a strand at a position, and the least that it compares
 pub record Attaches (m : Model) (i x : ℕ) (r : Attached) : Type 0 where
   pub strand : r .strand ≡ leftChoice m (optionsAt m) i x
-  pub energy : r .energy ≡ reached m (optionsAt m) i x
+  pub energy : r .energy ≡ leastLeft m (optionsAt m) i x
 
 -- at position 0 there is nothing to choose from
 pub attaches-first : (m : Model) (x : ℕ) (key : ℕ → Float) (lefts : List ℕ) (r : Attached) → lefts ≡ [] → Chosen key lefts (lastLeast key lefts) r → Attaches m 0 x r
-unfolding leftChoice reached pick keyOf
+unfolding leftChoice leastLeft pick keyOf
 attaches-first m x key lefts r e w = let v = rw e at w in record { strand = v .strand; energy = v .energy }
 
 pub some-options : (m : Model) (i : ℕ) (key : ℕ → Float) (x : ℕ) → keyOf key (optionsAt m i) x ≡ key x
@@ -35,7 +35,7 @@ some-options m i key x = go (friendsAt m i)
 
 -- later on the left entries are the options
 pub attaches-next : (m : Model) (i x : ℕ) (lefts : List ℕ) (r : Attached) → lefts ≡ optionsAt m i → Chosen (compared m (optionsAt m) i x) lefts (lastLeast (compared m (optionsAt m) i x) lefts) r → Attaches m (suc i) x r
-unfolding leftChoice reached
+unfolding leftChoice leastLeft
 attaches-next m i x lefts r e w =
     let v = rw e at w in
     record { strand = v .strand; energy = v .energy ∙ some-options m i (compared m (optionsAt m) i x) (lastLeast (compared m (optionsAt m) i x) (optionsAt m i)) }
@@ -64,7 +64,7 @@ module _ (m : Model) (count : ℕ) (left : List ℕ) (energies : List Float) (fe
   empty-attaches (suc i) w chosen = attaches-next m i 0 (take count left) r (w .options) (chosen (compared m (optionsAt m) i 0) (w .entries))
 
 -- the energy of a friend's entry
-pub friend-entry : (m : Model) (i x : ℕ) {energy site potential : Float} → (x ≡ 0 → ⊥) → energy ≡ reached m (optionsAt m) i x → site ≡ m .site i x → potential ≡ m .potential x
+pub friend-entry : (m : Model) (i x : ℕ) {energy site potential : Float} → (x ≡ 0 → ⊥) → energy ≡ leastLeft m (optionsAt m) i x → site ≡ m .site i x → potential ≡ m .potential x
     → sub binary64 (add binary64 energy site) potential ≡ entry m (optionsAt m) i x
 friend-entry m i x some e s p = rw (e, s, p, ne-eqb x 0 some) refl
 

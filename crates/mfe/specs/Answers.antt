@@ -10,7 +10,7 @@ use Rattle.doubles.specs.Decimal.{zero}
 use Rattle.reply.specs.Number.{numberOf}
 use Rattle.reply.specs.First.{Check, firstOf, answer}
 use Rattle.model.specs.Search.{search}
-use Rattle.model.specs.Lowest.{LowestConfiguration}
+use Rattle.model.specs.LowestConfiguration.{LowestConfiguration}
 use Rattle.design.specs.Design.{Design, positions, modelOf}
 use Rattle.design.specs.Checks.{Admitted, designChecks}
 use Rattle.design.specs.Answers.{Figures, given, refused}

@@ -1,3 +1,5 @@
 pub mod Tables
 pub mod Entries
 pub mod Answers
+pub mod Answered
+pub mod NearLowest

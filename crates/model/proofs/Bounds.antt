@@ -5,10 +5,11 @@ use mathlib.Core.Bool.{Bool, true, false, cond}
 use mathlib.Core.List.{List, [], _∷_, _++_}
 use mathlib.Core.Option.{Option, none, some}
 use Prim.Native.Nat.{ℕ, zero, suc, _+_, _*_, _^_, _<_, _≤_}
-use native.Mathlib.Nat.{add-zero, zero-add, add-suc, suc-add, le-trans}
+use native.Mathlib.Nat.{add-zero, zero-add, add-suc, suc-add, le-refl, le-trans}
 use native.Mathlib.Omega.{arith}
 use lib.Dec.{eqb, lit≤}
 use lib.ListN.{length, getD, take, length-append, length-take}
+use lib.Seq.{take-all}
 use lib.Ieee.{Float, binary64, prec, mul, neg}
 use borrow.Author.Tests.{eq-eqb}
 use Rattle.lists.specs.Each.{Each}
@@ -20,11 +21,11 @@ use Rattle.doubles.proofs.Sums.{weaken}
 use Rattle.doubles.proofs.Products.{mul-within}
 use Rattle.doubles.proofs.Bounds.{neg-within, zero-within, zero-not, sum-within, sum-not, rt-range}
 use Rattle.model.specs.Model.{Model, State, Friend}
-use Rattle.model.specs.Energy.{ifOccupied, toRight, statePlace, stateTerms, fromLeft, chainPlace, chainTerms}
+use Rattle.model.specs.Energy.{ifOccupied, toRight, statePlace, stateTerms, fromLeft, chainPlace, chainTerms, stateEnergy, chainEnergy, chainProduct}
 use Rattle.model.specs.Bounds.{Bounded, Finite}
 
 -- the occupants of the places from a position on
-abbrev Occupants : Model → ℕ → List ℕ → Type 0
+abbrev pub Occupants : Model → ℕ → List ℕ → Type 0
 Occupants m i [] = Unit
 Occupants m i (x ∷ s) = ((x ≡ 0) ⊎ Friend m i x) × Occupants m (suc i) s
 
@@ -35,11 +36,17 @@ occupants-from m i (x ∷ s) h = (
   occupants-from m (suc i) s (λ k l. subst (λ (j : ℕ). (getD s k 0 ≡ 0) ⊎ Friend m j (getD s k 0)) (add-suc i k ∙ sym (suc-add i k)) (h (suc k) (omega arith))),
 )
 
-abbrev Small : List Float → Type 0
+-- of a state
+pub occupants : (m : Model) (s : List ℕ) → State m s → Occupants m 0 s
+occupants m s w =
+    occupants-from m 0 s
+    (λ k l. subst (λ (j : ℕ). (getD s k 0 ≡ 0) ⊎ Friend m j (getD s k 0)) (sym (zero-add k)) (w .occupants k (omega (arith, w .places))))
+
+abbrev pub Small : List Float → Type 0
 Small terms = Each (Within binary64 80000) terms
 
 module _ (m : Model) (n : ℕ) (b : Bounded m n) where
-  strand-below : (i x : ℕ) → (x ≡ 0) ⊎ Friend m i x → x < n
+  pub strand-below : (i x : ℕ) → (x ≡ 0) ⊎ Friend m i x → x < n
   strand-below i x (inl e) = omega (arith, b .null)
   strand-below i x (inr f) = b .known i x f
 
@@ -61,7 +68,7 @@ module _ (m : Model) (n : ℕ) (b : Bounded m n) where
   small-right i x [] f o = tt
   small-right i x (y ∷ right) f o = (b .pairs x y (b .known i x f) (strand-below (suc i) y (o .0)), tt)
 
-  small-state : (i : ℕ) (s : List ℕ) → Occupants m i s → Small (stateTerms m i s)
+  pub small-state : (i : ℕ) (s : List ℕ) → Occupants m i s → Small (stateTerms m i s)
   unfolding stateTerms
   small-state i [] o = tt
   small-state i (x ∷ s) o =
@@ -73,7 +80,7 @@ module _ (m : Model) (n : ℕ) (b : Bounded m n) where
   -- ---- chain energy
 
   -- what stands to the left is a strand
-  abbrev Left : Option ℕ → Type 0
+  abbrev pub Left : Option ℕ → Type 0
   Left none = Unit
   Left (some x) = x < n
 
@@ -81,7 +88,7 @@ module _ (m : Model) (n : ℕ) (b : Bounded m n) where
   small-left none x l h = tt
   small-left (some y) x l h = (b .pairs y x l h, tt)
 
-  small-chain : (i : ℕ) (left : Option ℕ) (s : List ℕ) → Left left → Occupants m i s → Small (chainTerms m i left s)
+  pub small-chain : (i : ℕ) (left : Option ℕ) (s : List ℕ) → Left left → Occupants m i s → Small (chainTerms m i left s)
   unfolding chainTerms
   small-chain i left [] l o = tt
   small-chain i left (x ∷ s) l o =
@@ -107,14 +114,14 @@ few-left : (m : Model) (left : Option ℕ) (x : ℕ) → length (fromLeft m left
 few-left m none x = omega arith
 few-left m (some y) x = omega arith
 
-few-state : (m : Model) (i : ℕ) (s : List ℕ) → length (stateTerms m i s) ≤ 3 * length s
+pub few-state : (m : Model) (i : ℕ) (s : List ℕ) → length (stateTerms m i s) ≤ 3 * length s
 unfolding stateTerms
 few-state m i [] = omega arith
 few-state m i (x ∷ s) =
     let here : length (statePlace m i x s) ≤ 3 = few-place x (m .site i x ∷ toRight m x s ++ neg (m .potential x) ∷ []) (simp length-append (omega (arith, few-right m x s))) in
     simp length-append (omega (arith, here, few-state m (suc i) s))
 
-few-chain : (m : Model) (i : ℕ) (left : Option ℕ) (s : List ℕ) → length (chainTerms m i left s) ≤ 3 * length s
+pub few-chain : (m : Model) (i : ℕ) (left : Option ℕ) (s : List ℕ) → length (chainTerms m i left s) ≤ 3 * length s
 unfolding chainTerms
 few-chain m i left [] = omega arith
 few-chain m i left (x ∷ s) =
@@ -146,13 +153,26 @@ finite-sums m n b terms small few = record { sums = sums; products = products; n
     never k = sum-not 80000 0 Decimal.zero (take k terms) zero-within zero-not (part k) (room k)
 
 module _ (m : Model) (n : ℕ) (b : Bounded m n) (s : List ℕ) (w : State m s) where
-  occupants : Occupants m 0 s
-  occupants =
-      occupants-from m 0 s
-      (λ k l. subst (λ (j : ℕ). (getD s k 0 ≡ 0) ⊎ Friend m j (getD s k 0)) (sym (zero-add k)) (w .occupants k (omega (arith, w .places))))
-
   pub state-finite : Finite m (stateTerms m 0 s)
-  state-finite = finite-sums m n b (stateTerms m 0 s) (small-state m n b 0 s occupants) (omega (arith, few-state m 0 s, w .places, b .short))
+  state-finite = finite-sums m n b (stateTerms m 0 s) (small-state m n b 0 s (occupants m s w)) (omega (arith, few-state m 0 s, w .places, b .short))
 
   pub chain-finite : Finite m (chainTerms m 0 none s)
-  chain-finite = finite-sums m n b (chainTerms m 0 none s) (small-chain m n b 0 none s tt occupants) (omega (arith, few-chain m 0 none s, w .places, b .short))
+  chain-finite = finite-sums m n b (chainTerms m 0 none s) (small-chain m n b 0 none s tt (occupants m s w)) (omega (arith, few-chain m 0 none s, w .places, b .short))
+
+  sum-of : (terms : List Float) → Finite m terms → Within binary64 30720000 (sumFrom Decimal.zero terms)
+  sum-of terms f = subst (λ (t : List Float). Within binary64 30720000 (sumFrom Decimal.zero t)) (take-all (length terms) terms (le-refl _)) (f .sums (length terms))
+
+  product-of : (terms : List Float) → Finite m terms → Within binary64 245760000 (mul binary64 (sumFrom Decimal.zero terms) (m .rt))
+  product-of terms f = subst (λ (t : List Float). Within binary64 245760000 (mul binary64 (sumFrom Decimal.zero t) (m .rt))) (take-all (length terms) terms (le-refl _)) (f .products (length terms))
+
+  pub state-energy-within : Within binary64 245760000 (stateEnergy m s)
+  unfolding stateEnergy
+  state-energy-within = product-of (stateTerms m 0 s) state-finite
+
+  pub chain-energy-within : Within binary64 30720000 (chainEnergy m s)
+  unfolding chainEnergy
+  chain-energy-within = sum-of (chainTerms m 0 none s) chain-finite
+
+  pub chain-product-within : Within binary64 245760000 (chainProduct m s)
+  unfolding chainProduct chainEnergy
+  chain-product-within = product-of (chainTerms m 0 none s) chain-finite

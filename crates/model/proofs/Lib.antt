@@ -1,3 +1,4 @@
+pub mod Bits
 pub mod Count
 pub mod Sums
 pub mod Choices
@@ -7,3 +8,5 @@ pub mod Traced
 pub mod Optimal
 pub mod Walk
 pub mod Search
+pub mod Read
+pub mod TwoEnergies

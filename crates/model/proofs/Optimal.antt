@@ -21,13 +21,13 @@ use Rattle.doubles.proofs.Bounds.{zero-within}
 use Rattle.doubles.proofs.Least.{Least, pick-least, later-better, earlier-better}
 use Rattle.model.specs.Model.{Model, Friend, occupant}
 use Rattle.model.specs.Bounds.{Bounded}
-use Rattle.model.specs.Search.{joined, settled, reached, entry, compared, leftChoice, traced, Settled, product, lastStrand, searchOver}
+use Rattle.model.specs.Search.{withStrandBond, withScaffoldBond, leastLeft, entry, compared, leftChoice, traced, SearchResult, product, lastStrand, searchOver}
 use Rattle.model.proofs.Traced.{traced-at, traced-left, traced-options}
 
 -- the sum of a chain up to a position: σ i is its occupant there
 unfoldable pub score : Model → (ℕ → ℕ) → ℕ → Float
-score m σ zero = settled m 0 (σ 0) Decimal.zero
-score m σ (suc i) = settled m (suc i) (σ (suc i)) (joined m (σ (suc i)) (σ i) (score m σ i))
+score m σ zero = withScaffoldBond m 0 (σ 0) Decimal.zero
+score m σ (suc i) = withScaffoldBond m (suc i) (σ (suc i)) (withStrandBond m (σ (suc i)) (σ i) (score m σ i))
 
 -- ---- one step: its bounds, and that it keeps the order
 
@@ -40,16 +40,16 @@ module _ (m : Model) (n : ℕ) (b : Bounded m n) where
   below i x (inr f) = b .known i x f
 
   module _ (A : ℕ) (room : A + 160000 ≤ 2 ^ prec binary64) where
-    pub join-ok : (i x left : ℕ) (s : Float) → Occupant i x → left < n → Within binary64 A s → Within binary64 (A + 80000) (joined m x left s)
-    join-ok i x left s o l w = go (eqb x 0)
+    pub strand-bond-ok : (i x left : ℕ) (s : Float) → Occupant i x → left < n → Within binary64 A s → Within binary64 (A + 80000) (withStrandBond m x left s)
+    strand-bond-ok i x left s o l w = go (eqb x 0)
       where
         go : (t : Bool) → Within binary64 (A + 80000) (cond t s (add binary64 s (m .pair left x)))
         go true = weaken (A + 80000) (omega arith) w
         go false = add-within binary64 A 80000 s (m .pair left x) w (b .pairs left x l (below i x o)) (omega arith)
 
-    pub join-mono : (i x left : ℕ) (s r : Float) → Occupant i x → left < n → Within binary64 A s → Within binary64 A r → Le binary64 s r
-        → Le binary64 (joined m x left s) (joined m x left r)
-    join-mono i x left s r o l v w h = go (eqb x 0)
+    pub strand-bond-mono : (i x left : ℕ) (s r : Float) → Occupant i x → left < n → Within binary64 A s → Within binary64 A r → Le binary64 s r
+        → Le binary64 (withStrandBond m x left s) (withStrandBond m x left r)
+    strand-bond-mono i x left s r o l v w h = go (eqb x 0)
       where
         p : Real binary64 (m .pair left x)
         p = b .pairs left x l (below i x o) .real
@@ -61,17 +61,17 @@ module _ (m : Model) (n : ℕ) (b : Bounded m n) where
     bonded : (i x : ℕ) (s : Float) → Friend m i x → Within binary64 A s → Within binary64 (A + 80000) (add binary64 s (m .site i x))
     bonded i x s f w = add-within binary64 A 80000 s (m .site i x) w (b .sites i x f) (omega arith)
 
-    pub settle-ok : (i x : ℕ) (s : Float) → Occupant i x → Within binary64 A s → Within binary64 (A + 160000) (settled m i x s)
-    settle-ok i x s (inl e) w = rw (eq-eqb x 0 e) (weaken (A + 160000) (omega arith) w)
-    settle-ok i x s (inr f) w = go (eqb x 0)
+    pub scaffold-bond-ok : (i x : ℕ) (s : Float) → Occupant i x → Within binary64 A s → Within binary64 (A + 160000) (withScaffoldBond m i x s)
+    scaffold-bond-ok i x s (inl e) w = rw (eq-eqb x 0 e) (weaken (A + 160000) (omega arith) w)
+    scaffold-bond-ok i x s (inr f) w = go (eqb x 0)
       where
         go : (t : Bool) → Within binary64 (A + 160000) (cond t s (sub binary64 (add binary64 s (m .site i x)) (m .potential x)))
         go true = weaken (A + 160000) (omega arith) w
         go false = weaken (A + 160000) (omega arith) (sub-within binary64 (A + 80000) 1024 _ (m .potential x) (bonded i x s f w) (b .potentials i x f) (omega arith))
 
-    pub settle-mono : (i x : ℕ) (s r : Float) → Occupant i x → Within binary64 A s → Within binary64 A r → Le binary64 s r → Le binary64 (settled m i x s) (settled m i x r)
-    settle-mono i x s r (inl e) v w h = rw (eq-eqb x 0 e) h
-    settle-mono i x s r (inr f) v w h = go (eqb x 0)
+    pub scaffold-bond-mono : (i x : ℕ) (s r : Float) → Occupant i x → Within binary64 A s → Within binary64 A r → Le binary64 s r → Le binary64 (withScaffoldBond m i x s) (withScaffoldBond m i x r)
+    scaffold-bond-mono i x s r (inl e) v w h = rw (eq-eqb x 0 e) h
+    scaffold-bond-mono i x s r (inr f) v w h = go (eqb x 0)
       where
         p : Real binary64 (m .potential x)
         p = b .potentials i x f .real
@@ -97,30 +97,30 @@ module _ (m : Model) (n : ℕ) (b : Bounded m n) (options : ℕ → List ℕ) (o
   abbrev pub Sum : ℕ → Float → Type 0
   Sum i s = Within binary64 (240000 * suc i) s
 
-  settle-sum : (i x : ℕ) (s : Float) → i < 128 → List·Memᴰ x (options i) → Within binary64 (240000 * i + 80000) s → Sum i (settled m i x s)
-  settle-sum i x s h o w = weaken (240000 * suc i) (omega arith) (settle-ok m n b (240000 * i + 80000) (omega (arith, room i h)) i x s (own i x o) w)
+  entry-bound : (i x : ℕ) (s : Float) → i < 128 → List·Memᴰ x (options i) → Within binary64 (240000 * i + 80000) s → Sum i (withScaffoldBond m i x s)
+  entry-bound i x s h o w = weaken (240000 * suc i) (omega arith) (scaffold-bond-ok m n b (240000 * i + 80000) (omega (arith, room i h)) i x s (own i x o) w)
 
-  join-sum : (i x left : ℕ) (s : Float) → suc i < 128 → List·Memᴰ x (options (suc i)) → List·Memᴰ left (options i) → Sum i s → Within binary64 (240000 * suc i + 80000) (joined m x left s)
-  join-sum i x left s h o l w = join-ok m n b (240000 * suc i) (omega (arith, room (suc i) h)) (suc i) x left s (own (suc i) x o) (below m n b i left (own i left l)) w
+  compared-bound : (i x left : ℕ) (s : Float) → suc i < 128 → List·Memᴰ x (options (suc i)) → List·Memᴰ left (options i) → Sum i s → Within binary64 (240000 * suc i + 80000) (withStrandBond m x left s)
+  compared-bound i x left s h o l w = strand-bond-ok m n b (240000 * suc i) (omega (arith, room (suc i) h)) (suc i) x left s (own (suc i) x o) (below m n b i left (own i left l)) w
 
   -- the left choice is an option, and the least of those compared
   picked : (i x : ℕ) → suc i < 128 → List·Memᴰ x (options (suc i)) → ((left : ℕ) → List·Memᴰ left (options i) → Sum i (entry m options i left))
       → Least binary64 (compared m options i x) (options i) (lastLeast (compared m options i x) (options i))
   picked i x h o sums =
       pick-least binary64 (compared m options i x) (orLater (compared m options i x)) (later-better binary64 (compared m options i x)) (options i) (some i)
-      (λ left l. join-sum i x left (entry m options i left) h o l (sums left l) .real)
+      (λ left l. compared-bound i x left (entry m options i left) h o l (sums left l) .real)
 
-  reached-sum : (i x : ℕ) → i < 128 → List·Memᴰ x (options i) → Within binary64 (240000 * i + 80000) (reached m options i x)
-  unfolding reached
-  reached-sum zero x h o = weaken (240000 * 0 + 80000) (omega arith) zero-within
-  reached-sum (suc i) x h o =
-      let sums : (left : ℕ) → List·Memᴰ left (options i) → Sum i (entry m options i left) = λ left l. settle-sum i left (reached m options i left) (omega arith) l (reached-sum i left (omega arith) l) in
+  left-bound : (i x : ℕ) → i < 128 → List·Memᴰ x (options i) → Within binary64 (240000 * i + 80000) (leastLeft m options i x)
+  unfolding leastLeft
+  left-bound zero x h o = weaken (240000 * 0 + 80000) (omega arith) zero-within
+  left-bound (suc i) x h o =
+      let sums : (left : ℕ) → List·Memᴰ left (options i) → Sum i (entry m options i left) = λ left l. entry-bound i left (leastLeft m options i left) (omega arith) l (left-bound i left (omega arith) l) in
       let left = lastLeast (compared m options i x) (options i) in
       let l = picked i x h o sums .member in
-      join-sum i x left (entry m options i left) h o l (sums left l)
+      compared-bound i x left (entry m options i left) h o l (sums left l)
 
   pub entry-sum : (i x : ℕ) → i < 128 → List·Memᴰ x (options i) → Sum i (entry m options i x)
-  entry-sum i x h o = settle-sum i x (reached m options i x) h o (reached-sum i x h o)
+  entry-sum i x h o = entry-bound i x (leastLeft m options i x) h o (left-bound i x h o)
 
   pub choice-option : (i x : ℕ) → suc i < 128 → List·Memᴰ x (options (suc i)) → List·Memᴰ (leftChoice m options (suc i) x) (options i)
   unfolding leftChoice
@@ -134,15 +134,15 @@ module _ (m : Model) (n : ℕ) (b : Bounded m n) (options : ℕ → List ℕ) (o
 
   pub score-sum : (σ : ℕ → ℕ) (i : ℕ) → i < 128 → Inside i σ → Sum i (score m σ i)
   unfolding score
-  score-sum σ zero h o = settle-sum 0 (σ 0) Decimal.zero h (o 0 zero-le) (weaken (240000 * 0 + 80000) (omega arith) zero-within)
+  score-sum σ zero h o = entry-bound 0 (σ 0) Decimal.zero h (o 0 zero-le) (weaken (240000 * 0 + 80000) (omega arith) zero-within)
   score-sum σ (suc i) h o =
       let l = o i (omega arith) in
       let r = o (suc i) (le-refl (suc i)) in
-      settle-sum (suc i) (σ (suc i)) _ h r (join-sum i (σ (suc i)) (σ i) _ h r l (score-sum σ i (omega arith) (λ j k. o j (omega arith))))
+      entry-bound (suc i) (σ (suc i)) _ h r (compared-bound i (σ (suc i)) (σ i) _ h r l (score-sum σ i (omega arith) (λ j k. o j (omega arith))))
 
   -- no chain is below the entry of the strand that it ends with
   pub entry-least : (σ : ℕ → ℕ) (i : ℕ) → i < 128 → Inside i σ → Le binary64 (entry m options i (σ i)) (score m σ i)
-  unfolding score reached
+  unfolding score leastLeft
   entry-least σ zero h o = Le-refl binary64 _
   entry-least σ (suc i) h o =
       let x = σ (suc i) in
@@ -151,22 +151,22 @@ module _ (m : Model) (n : ℕ) (b : Bounded m n) (options : ℕ → List ℕ) (o
       let earlier : Inside i σ = λ j k. o j (omega arith) in
       let e = entry-sum i (σ i) (omega arith) l in
       let s = score-sum σ i (omega arith) earlier in
-      let join = join-mono m n b (240000 * suc i) (omega (arith, room (suc i) h)) (suc i) x (σ i) _ _ (own (suc i) x r) (below m n b i (σ i) (own i (σ i) l)) e s (entry-least σ i (omega arith) earlier) in
-      settle-mono m n b (240000 * suc i + 80000) (omega (arith, room (suc i) h)) (suc i) x _ _ (own (suc i) x r) (reached-sum (suc i) x h r) (join-sum i x (σ i) _ h r l s)
+      let join = strand-bond-mono m n b (240000 * suc i) (omega (arith, room (suc i) h)) (suc i) x (σ i) _ _ (own (suc i) x r) (below m n b i (σ i) (own i (σ i) l)) e s (entry-least σ i (omega arith) earlier) in
+      scaffold-bond-mono m n b (240000 * suc i + 80000) (omega (arith, room (suc i) h)) (suc i) x _ _ (own (suc i) x r) (left-bound (suc i) x h r) (compared-bound i x (σ i) _ h r l s)
       (Le-trans (picked i x h r (λ left k. entry-sum i left (omega arith) k) .least (σ i) l) join)
 
   -- a chain that follows the left choices has the sum of its entry
   pub traced-score : (σ : ℕ → ℕ) (last : ℕ) → ((i : ℕ) → i < last → σ i ≡ leftChoice m options (suc i) (σ (suc i))) → (i : ℕ) → i ≤ last → score m σ i ≡ entry m options i (σ i)
-  unfolding score reached leftChoice
+  unfolding score leastLeft leftChoice
   traced-score σ last t zero h = refl
   traced-score σ last t (suc i) h =
       let x = σ (suc i) in
-      ap (settled m (suc i) x)
-      (ap (joined m x (σ i)) (traced-score σ last t i (omega arith)) ∙ ap (compared m options i x) (t i h))
+      ap (withScaffoldBond m (suc i) x)
+      (ap (withStrandBond m x (σ i)) (traced-score σ last t i (omega arith)) ∙ ap (compared m options i x) (t i h))
 
   -- ---- the search
 
-  pub record Optimal (ending : ℕ → Float → Float) (last : ℕ) (found : Settled) : Type 0 where
+  pub record Optimal (ending : ℕ → Float → Float) (last : ℕ) (found : SearchResult) : Type 0 where
     pub inside : Inside last (occupant (found .configuration))
     pub energy : found .energy ≡ ending (occupant (found .configuration) last) (score m (occupant (found .configuration)) last)
     pub least : (σ : ℕ → ℕ) → Inside last σ → Le binary64 (found .energy) (ending (σ last) (score m σ last))

@@ -3,37 +3,35 @@
 -- smaller RT times chain energy; and the walk that tries every state ends with that same energy. Why: each entry of the search is the least
 -- sum of all chains that end with its strand, since adding the same terms and rounding each time never turns the order of two sums
 -- round; the product with RT does not either; and the left choices lead back through a chain that has its entry's sum. Assumes nothing.
-use mathlib.Core.Path.{_≡_, refl, sym, ap, _∙_, subst}
+use mathlib.Core.Path.{_≡_, refl, sym, ap, _∙_}
 use mathlib.Core.Logic.{_⊎_, inl, inr}
-use mathlib.Core.Bool.{Bool, true, false, not, cond}
+use mathlib.Core.Bool.{Bool, true, false, cond}
 use mathlib.Core.List.{List, [], _∷_, List·Memᴰ, List·Memᴰ·head, List·Memᴰ·append-cases, List·Memᴰ·eq-of-singleton, Memᴰ·append-left, Memᴰ·append-right}
 use mathlib.Core.Option.{none, some}
 use Prim.Native.Nat.{ℕ, zero, suc, _*_, _^_, _<_, _≤_}
-use native.Mathlib.Nat.{le-refl, le-trans}
+use native.Mathlib.Nat.{le-trans}
 use native.Mathlib.Numerals.{add-one}
 use native.Mathlib.Omega.{arith}
 use lib.Dec.{T, eqb, lit≤}
 use lib.Pow.{pow-pos}
 use lib.ListN.{length, getD, drop, length-append}
-use lib.Seq.{take-all}
-use lib.Ieee.{Float, binary64, low, add, sub, neg, mul, round, lt, eq}
+use lib.Ieee.{Float, binary64, low, add, sub, neg, mul, le, eq}
 use Rattle.doubles.specs.Decimal as Decimal
 use Rattle.doubles.specs.Sum.{sumFrom}
 use Rattle.doubles.specs.Size.{Real}
 use Rattle.doubles.specs.Order.{Le, over}
-use Rattle.doubles.proofs.Sum.{sub-is}
-use Rattle.doubles.proofs.Order.{Le-refl, Le-antisymm, Le→nlt}
-use Rattle.doubles.proofs.Products.{mul-mono, mul-within}
+use Rattle.doubles.proofs.Sums.{sub-is}
+use Rattle.doubles.proofs.Order.{Le-refl, Le-antisymm, Le→le}
+use Rattle.doubles.proofs.Products.{mul-mono, mul-within, zero-times}
 use Rattle.doubles.proofs.Bounds.{Rt, rt-range}
-use Rattle.doubles.proofs.Zero.{zero-times}
 use Rattle.model.specs.Model.{Model, State, Friend, occupant, positions, friendsAt}
 use Rattle.model.specs.States.{states, stateAt, count}
 use Rattle.model.specs.Energy.{chainPlace, chainTerms, chainEnergy, chainProduct, walk}
 use Rattle.model.specs.Bounds.{Bounded}
-use Rattle.model.specs.Search.{joined, settled, leftChoice, lastStrand, Settled, optionsAt, timesRt, searchOver, search}
-use Rattle.model.specs.Lowest.{LowestConfiguration}
+use Rattle.model.specs.Search.{withStrandBond, withScaffoldBond, leftChoice, lastStrand, SearchResult, optionsAt, timesRt, searchOver, search}
+use Rattle.model.specs.LowestConfiguration.{LowestConfiguration}
 use Rattle.model.proofs.Sums.{chain-more, chain-done}
-use Rattle.model.proofs.Bounds.{chain-finite}
+use Rattle.model.proofs.Bounds.{chain-product-within}
 use Rattle.model.proofs.Listing.{listed}
 use Rattle.model.proofs.Count.{ways-pos}
 use Rattle.model.proofs.Optimal.{score, Optimal, search-optimal}
@@ -43,7 +41,7 @@ use Rattle.model.proofs.Walk.{Ends, walk-ends}
 -- ---- the chain energy is the score of the configuration's occupants
 
 module _ (m : Model) (i x : ℕ) (s : Float) where
-  place-first : sumFrom s (chainPlace m i none x) ≡ settled m i x s
+  place-first : sumFrom s (chainPlace m i none x) ≡ withScaffoldBond m i x s
   unfolding sumFrom
   place-first = go (eqb x 0)
     where
@@ -51,7 +49,7 @@ module _ (m : Model) (i x : ℕ) (s : Float) where
       go true = refl
       go false = sym (sub-is binary64 (add binary64 s (m .site i x)) (m .potential x))
 
-  place-next : (left : ℕ) → sumFrom s (chainPlace m i (some left) x) ≡ settled m i x (joined m x left s)
+  place-next : (left : ℕ) → sumFrom s (chainPlace m i (some left) x) ≡ withScaffoldBond m i x (withStrandBond m x left s)
   unfolding sumFrom
   place-next left = go (eqb x 0)
     where
@@ -72,38 +70,36 @@ module _ (m : Model) (s : List ℕ) where
       ∙ rw add-one at (chain-more m s (score m (occupant s) i) (suc i) h)
       ∙ ap (λ (sum : Float). sumFrom sum (chainTerms m (suc (suc i)) (some (occupant s (suc i))) (drop (suc (suc i)) s))) (place-next m (suc i) (occupant s (suc i)) (score m (occupant s) i) (occupant s i))
 
-  chain-score : (last : ℕ) → length s ≡ suc last → chainEnergy m s ≡ score m (occupant s) last
+  pub chain-score : (last : ℕ) → length s ≡ suc last → chainEnergy m s ≡ score m (occupant s) last
   chain-score last e = prefix last (omega arith) ∙ chain-done m s (score m (occupant s) last) (suc last) (omega arith)
 
-module _ (m : Model) (n : ℕ) (b : Bounded m n) where
-  rt : Rt (m .rt)
-  rt = rt-range (m .rt) (b .rt-double) (b .rt-range)
+-- ---- the options of a model are friends or 0, and there are some
 
-  -- ---- its options are friends or 0, and there are some
-
-  own : (i x : ℕ) → List·Memᴰ x (optionsAt m i) → (x ≡ 0) ⊎ Friend m i x
+module _ (m : Model) where
+  pub own : (i x : ℕ) → List·Memᴰ x (optionsAt m i) → (x ≡ 0) ⊎ Friend m i x
   own i x o = go (List·Memᴰ·append-cases (friendsAt m i) o)
     where
       go : Friend m i x ⊎ List·Memᴰ x (0 ∷ []) → (x ≡ 0) ⊎ Friend m i x
       go (inl f) = inr f
       go (inr z) = inl (List·Memᴰ·eq-of-singleton z)
 
-  an-option : (i x : ℕ) → (x ≡ 0) ⊎ Friend m i x → List·Memᴰ x (optionsAt m i)
+  pub an-option : (i x : ℕ) → (x ≡ 0) ⊎ Friend m i x → List·Memᴰ x (optionsAt m i)
   an-option i x (inl e) = Memᴰ·append-right (friendsAt m i) (List·Memᴰ·head e)
   an-option i x (inr f) = Memᴰ·append-left (0 ∷ []) f
 
-  some-option : (i : ℕ) → 0 < length (optionsAt m i)
+  pub some-option : (i : ℕ) → 0 < length (optionsAt m i)
   some-option i = rw (length-append (friendsAt m i) (0 ∷ [])) (omega arith)
+
+module _ (m : Model) (n : ℕ) (b : Bounded m n) where
+  pub rt : Rt (m .rt)
+  rt = rt-range (m .rt) (b .rt-double) (b .rt-range)
 
   -- ---- products
 
   product-real : (s : List ℕ) → State m s → Real binary64 (chainProduct m s)
-  unfolding chainProduct chainEnergy
-  product-real s w =
-      let all = take-all (length (chainTerms m 0 none s)) (chainTerms m 0 none s) (le-refl _) in
-      subst (λ (terms : List Float). Real binary64 (mul binary64 (sumFrom Decimal.zero terms) (m .rt))) all (chain-finite m n b s w .products (length (chainTerms m 0 none s)) .real)
+  product-real s w = chain-product-within m n b s w .real
 
-  times-mono : (s r : Float) → Real binary64 s → Real binary64 r → Le binary64 s r → Le binary64 (mul binary64 s (m .rt)) (mul binary64 r (m .rt))
+  pub times-mono : (s r : Float) → Real binary64 s → Real binary64 r → Le binary64 s r → Le binary64 (mul binary64 s (m .rt)) (mul binary64 r (m .rt))
   times-mono s r p q h = mul-mono binary64 s r (m .rt) p q (rt .size .real) (rt .sign) h
 
   rt-over : 0 < over binary64 (m .rt)
@@ -114,17 +110,13 @@ module _ (m : Model) (n : ℕ) (b : Bounded m n) where
 
   -- ---- a state that is least has both properties that are compared as doubles
 
-  not-true : (t : Bool) → T (not t) → t ≡ false
-  not-true true h = absurd h
-  not-true false h = refl
-
   is-true : (t : Bool) → T t → t ≡ true
   is-true true h = refl
   is-true false h = absurd h
 
   module _ (s : List ℕ) (w : State m s) (least : (t : List ℕ) → State m t → Le binary64 (chainProduct m s) (chainProduct m t)) where
-    lowest-of : (t : List ℕ) → State m t → lt (chainProduct m t) (chainProduct m s) ≡ false
-    lowest-of t v = not-true _ (Le→nlt binary64 (chainProduct m t) (chainProduct m s) (product-real t v) (product-real s w) (least t v))
+    lowest-of : (t : List ℕ) → State m t → le (chainProduct m s) (chainProduct m t) ≡ true
+    lowest-of t v = is-true _ (Le→le binary64 (chainProduct m s) (chainProduct m t) (product-real s w) (product-real t v) (least t v))
 
     walk-of : eq (walk m) (chainProduct m s) ≡ true
     unfolding walk count
@@ -169,12 +161,12 @@ module _ (m : Model) (n : ℕ) (b : Bounded m n) where
     short : last < 128
     short = omega (arith, b .short)
 
-    abbrev found : Settled
+    abbrev found : SearchResult
     found = searchOver m (optionsAt m) (timesRt m) (suc last)
 
-    optimal : Optimal m n b (optionsAt m) own some-option (timesRt m) last found
+    optimal : Optimal m n b (optionsAt m) (own m) (some-option m) (timesRt m) last found
     optimal =
-        search-optimal m n b (optionsAt m) own some-option (timesRt m) last short
+        search-optimal m n b (optionsAt m) (own m) (some-option m) (timesRt m) last short
         (λ x s o w. mul-within binary64 (240000 * suc last) 8 s (m .rt) w (rt .size) (le-trans (let k : 240000 * suc last * 8 ≤ 245760000 = omega (arith, short) in k) (lit≤ tt)) .real)
         (λ x s r o v w h. times-mono s r (v .real) (w .real) h)
 
@@ -183,7 +175,7 @@ module _ (m : Model) (n : ℕ) (b : Bounded m n) where
     sized = traced-length (leftChoice m (optionsAt m)) last (lastStrand m (optionsAt m) (timesRt m) last) [] ∙ (omega arith)
 
     shown : State m (found .configuration)
-    shown = record { places = sized; occupants = λ i h. own i _ (optimal .inside i (omega arith)) }
+    shown = record { places = sized; occupants = λ i h. own m i _ (optimal .inside i (omega arith)) }
 
     product-score : (t : List ℕ) → State m t → chainProduct m t ≡ mul binary64 (score m (occupant t) last) (m .rt)
     unfolding chainProduct
@@ -193,7 +185,7 @@ module _ (m : Model) (n : ℕ) (b : Bounded m n) where
     energy-is = optimal .energy ∙ sym (product-score (found .configuration) shown)
 
     least : (t : List ℕ) → State m t → Le binary64 (chainProduct m (found .configuration)) (chainProduct m t)
-    least t v = rw (← energy-is, product-score t v) (optimal .least (occupant t) (λ i h. an-option i (occupant t i) (v .occupants i (omega arith))))
+    least t v = rw (← energy-is, product-score t v) (optimal .least (occupant t) (λ i h. an-option m i (occupant t i) (v .occupants i (omega arith))))
 
     of-some : LowestConfiguration m (found .configuration) (found .energy)
     of-some = record {

@@ -9,7 +9,7 @@ use lib.Seq.{drop-cons}
 use lib.Ieee.{Float, binary64, add, sub}
 use borrow.Author.Tests.{eq-eqb, ne-eqb}
 use Rattle.doubles.specs.Sum.{sumFrom}
-use Rattle.doubles.proofs.Sum.{sum-append, sub-is}
+use Rattle.doubles.proofs.Sums.{sum-append, sub-is}
 use Rattle.model.specs.Model.{Model, occupant}
 use Rattle.model.specs.Energy.{statePlace, stateTerms, leftOf, chainPlace, chainTerms}
 

@@ -4,4 +4,7 @@ pub mod Energy
 pub mod Listed
 pub mod Bounds
 pub mod Search
-pub mod Lowest
+pub mod LowestConfiguration
+pub mod Read
+pub mod Bits
+pub mod TwoEnergies

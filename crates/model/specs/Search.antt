@@ -13,33 +13,33 @@ use Rattle.model.specs.Model.{Model, positions, friendsAt, optionsOf}
 -- ---- the entries: each position has one for each option, with an energy and a left choice
 
 -- what a strand compares of a left entry: its energy plus the strand bond; empty compares the energy alone
-abbrev pub joined : Model → ℕ → ℕ → Float → Float
-joined m strand left energy = cond (eqb strand 0) energy (add binary64 energy (m .pair left strand))
+abbrev pub withStrandBond : Model → ℕ → ℕ → Float → Float
+withStrandBond m strand left energy = cond (eqb strand 0) energy (add binary64 energy (m .pair left strand))
 
--- then it adds the scaffold bond and subtracts the potential; empty adds nothing
-abbrev pub settled : Model → ℕ → ℕ → Float → Float
-settled m i strand energy = cond (eqb strand 0) energy (sub binary64 (add binary64 energy (m .site i strand)) (m .potential strand))
+-- then a strand adds the scaffold bond and subtracts the potential; empty adds nothing
+abbrev pub withScaffoldBond : Model → ℕ → ℕ → Float → Float
+withScaffoldBond m i strand energy = cond (eqb strand 0) energy (sub binary64 (add binary64 energy (m .site i strand)) (m .potential strand))
 
 module _ (m : Model) (options : ℕ → List ℕ) where
   -- the least that a strand at a position compares, among equals the later; at position 0 there is no left term, and it is 0.0
-  unfoldable pub reached : ℕ → ℕ → Float
+  unfoldable pub leastLeft : ℕ → ℕ → Float
   unfolding pick
-  reached zero strand = Decimal.zero
-  reached (suc i) strand =
-      let compared : ℕ → Float = λ left. joined m strand left (settled m i left (reached i left)) in
+  leastLeft zero strand = Decimal.zero
+  leastLeft (suc i) strand =
+      let compared : ℕ → Float = λ left. withStrandBond m strand left (withScaffoldBond m i left (leastLeft i left)) in
       compared (lastLeast compared (options i))
 
   -- the energy of the entry of a strand at a position
   abbrev pub entry : ℕ → ℕ → Float
-  entry i strand = settled m i strand (reached i strand)
+  entry i strand = withScaffoldBond m i strand (leastLeft i strand)
 
   -- a left entry as a strand at the next position compares it
   abbrev pub compared : ℕ → ℕ → ℕ → Float
-  compared i strand left = joined m strand left (entry i left)
+  compared i strand left = withStrandBond m strand left (entry i left)
 
   -- the left choice of that entry; at position 0 there is none, and it is 0
   unfoldable pub leftChoice : ℕ → ℕ → ℕ
-  unfolding pick reached
+  unfolding pick leastLeft
   leftChoice zero strand = 0
   leftChoice (suc i) strand = lastLeast (compared i strand) (options i)
 
@@ -51,7 +51,7 @@ traced left zero strand right = strand ∷ right
 traced left (suc i) strand right = traced left i (left (suc i) strand) (strand ∷ right)
 
 -- what a search gives
-pub record Settled : Type 0 where
+pub record SearchResult : Type 0 where
   pub configuration : List ℕ
   pub energy : Float
 
@@ -65,8 +65,8 @@ module _ (m : Model) (options : ℕ → List ℕ) (ending : ℕ → Float → Fl
   lastStrand last = firstLeast (product last) (options last)
 
   -- Over a number of positions. With none, the configuration is empty and the energy 0.0.
-  unfoldable pub searchOver : ℕ → Settled
-  unfolding pick reached leftChoice traced
+  unfoldable pub searchOver : ℕ → SearchResult
+  unfolding pick leastLeft leftChoice traced
   searchOver zero = record { configuration = []; energy = Decimal.zero }
   searchOver (suc last) = record {
     configuration = traced (leftChoice m options) last (lastStrand last) [];
@@ -84,6 +84,6 @@ abbrev pub timesRt : Model → ℕ → Float → Float
 timesRt m strand sum = mul binary64 sum (m .rt)
 
 -- document 01's search, over the friends and RT of a model
-unfoldable pub search : Model → Settled
+unfoldable pub search : Model → SearchResult
 unfolding searchOver
 search m = searchOver m (optionsAt m) (timesRt m) (positions m)

@@ -32,12 +32,12 @@ pub record ScaffoldBondLine (d : Design) (words : List ℕ) : Type 0 where
   pub second : Decimal (word (later words)) strand
   pub answer : SaysDouble (later (later words)) (scaffoldBondAnswer d position strand)
 
--- POSITION; the reply and the friends are of two calls, each lent a slice
-pub record FriendsLine (d : Design) (words spare entries : List ℕ) : Type 0 where
+-- POSITION
+pub record FriendsLine (d : Design) (words entries : List ℕ) : Type 0 where
   pub position : ℕ
   pub first : Decimal (word words) position
   pub answer :
-      SaysPlaces (later words) (friendsAnswer d position spare .number)
+      SaysPlaces (later words) (friendsAnswer d position entries .number)
       (take (friendsAnswer d position entries .figure) (friendsEntries d position entries))
 
 -- no words: the number of states
@@ -62,9 +62,9 @@ pub record ChainEnergyLine (d : Design) (words configuration : List ℕ) : Type 
       Says (later words) (chainEnergyAnswer d configuration .number)
       (toBits binary64 (chainEnergyAnswer d configuration .figure .bare) ∷ toBits binary64 (chainEnergyAnswer d configuration .figure .timesRt) ∷ [])
 
--- no words: the energy of the search; the reply and the energy are of two calls, each lent a slice
-abbrev pub SearchLine : Design → List ℕ → List ℕ → List ℕ → Type 0
-SearchLine d words spare lent = Says words (searchAnswer d spare .number) (toBits binary64 (searchAnswer d lent .figure) ∷ [])
+-- no words: the energy of the search
+abbrev pub SearchLine : Design → List ℕ → List ℕ → Type 0
+SearchLine d words lent = SaysDouble words (searchAnswer d lent)
 
 -- no words: the configuration that the search settles on
 abbrev pub SettledLine : Design → List ℕ → List ℕ → Type 0

@@ -135,7 +135,6 @@ fn of_states(
     strand_excess: f64,
     scaffold_excess: f64,
 ) -> bool {
-    let mut spare = [0u8; 64];
     let mut entries = [0u8; 64];
     match kind {
         Kind::StrandBond => designs::strand_bond(
@@ -170,7 +169,6 @@ fn of_states(
             rt,
             strand_excess,
             scaffold_excess,
-            &mut spare,
             &mut entries,
         ),
         Kind::Count => designs::count(
@@ -201,7 +199,6 @@ fn of_places(
     strand_excess: f64,
     scaffold_excess: f64,
 ) -> bool {
-    let mut spare = [0u8; 128];
     let mut places = [0u8; 128];
     let n = scaffold.len();
     if 128 < n {
@@ -230,7 +227,6 @@ fn of_places(
             rt,
             strand_excess,
             scaffold_excess,
-            &mut spare[..n],
             &mut places[..n],
         ),
         Kind::Settled => designs::settled(

@@ -14,6 +14,7 @@ use crate::places::is_places;
 use crate::places::says_first;
 use crate::places::says_places;
 use crate::says::says;
+use doubles::bits;
 
 // `X Y`: the bond of two strands.
 pub(crate) fn strand_bond(
@@ -36,7 +37,9 @@ pub(crate) fn strand_bond(
     let Byte::Is(y) = small(up_to(rest, b' ')) else {
         return false;
     };
-    let reply = exports::designs::mj_strand_bond_reply(
+    let mut place: u64 = 0;
+    let mut bond = 0.0;
+    let reply = exports::designs::mj_strand_bond(
         scaffold,
         glues,
         dg,
@@ -47,19 +50,10 @@ pub(crate) fn strand_bond(
         scaffold_excess,
         x,
         y,
+        &mut place,
+        &mut bond,
     );
-    let figures = [exports::designs::mj_strand_bond(
-        scaffold,
-        glues,
-        dg,
-        ds,
-        potentials,
-        rt,
-        strand_excess,
-        scaffold_excess,
-        x,
-        y,
-    )];
+    let figures = [bits(bond)];
     says(past(rest, b' '), reply, &figures)
 }
 
@@ -84,7 +78,9 @@ pub(crate) fn scaffold_bond(
     let Byte::Is(strand) = small(up_to(rest, b' ')) else {
         return false;
     };
-    let reply = exports::designs::mj_scaffold_bond_reply(
+    let mut place: u64 = 0;
+    let mut bond = 0.0;
+    let reply = exports::designs::mj_scaffold_bond(
         scaffold,
         glues,
         dg,
@@ -95,19 +91,10 @@ pub(crate) fn scaffold_bond(
         scaffold_excess,
         position as usize,
         strand,
+        &mut place,
+        &mut bond,
     );
-    let figures = [exports::designs::mj_scaffold_bond(
-        scaffold,
-        glues,
-        dg,
-        ds,
-        potentials,
-        rt,
-        strand_excess,
-        scaffold_excess,
-        position as usize,
-        strand,
-    )];
+    let figures = [bits(bond)];
     says(past(rest, b' '), reply, &figures)
 }
 
@@ -122,27 +109,16 @@ pub(crate) fn friends(
     rt: f64,
     strand_excess: f64,
     scaffold_excess: f64,
-    spare: &mut [u8],
     entries: &mut [u8],
 ) -> bool
-    ensures { λ r. ⌜ (r ≡ true → FriendsLine (lentAt (scaffold .entry) (glues .entry) (dg .entry) (ds .entry) (potentials .entry) rt «strand_excess» «scaffold_excess») (now (words .entry)) (now (spare .entry)) (now (entries .entry))) ⌝ }
+    ensures { λ r. ⌜ (r ≡ true → FriendsLine (lentAt (scaffold .entry) (glues .entry) (dg .entry) (ds .entry) (potentials .entry) rt «strand_excess» «scaffold_excess») (now (words .entry)) (now (entries .entry))) ⌝ }
 {
     let Number::Is(position) = decimal(up_to(words, b' ')) else {
         return false;
     };
-    let reply = exports::designs::mj_friends_reply(
-        scaffold,
-        glues,
-        dg,
-        ds,
-        potentials,
-        rt,
-        strand_excess,
-        scaffold_excess,
-        position as usize,
-        spare,
-    );
-    let count = exports::designs::mj_friends_count(
+    let mut place: u64 = 0;
+    let mut count: u64 = 0;
+    let reply = exports::designs::mj_friends(
         scaffold,
         glues,
         dg,
@@ -153,8 +129,10 @@ pub(crate) fn friends(
         scaffold_excess,
         position as usize,
         entries,
+        &mut place,
+        &mut count,
     );
-    says_first(past(words, b' '), reply, entries, count)
+    says_first(past(words, b' '), reply, entries, count as usize)
 }
 
 // The number of states.
@@ -171,7 +149,9 @@ pub(crate) fn count(
 ) -> bool
     ensures { λ r. ⌜ (r ≡ true → CountLine (lentAt (scaffold .entry) (glues .entry) (dg .entry) (ds .entry) (potentials .entry) rt «strand_excess» «scaffold_excess») (now (words .entry))) ⌝ }
 {
-    let reply = exports::designs::mj_states_reply(
+    let mut place: u64 = 0;
+    let mut count: u64 = 0;
+    let reply = exports::designs::mj_states(
         scaffold,
         glues,
         dg,
@@ -180,17 +160,10 @@ pub(crate) fn count(
         rt,
         strand_excess,
         scaffold_excess,
+        &mut place,
+        &mut count,
     );
-    let figures = [exports::designs::mj_states_count(
-        scaffold,
-        glues,
-        dg,
-        ds,
-        potentials,
-        rt,
-        strand_excess,
-        scaffold_excess,
-    )];
+    let figures = [count];
     says(words, reply, &figures)
 }
 
@@ -212,7 +185,8 @@ pub(crate) fn state(
     let Number::Is(rank) = decimal(up_to(words, b' ')) else {
         return false;
     };
-    let reply = exports::designs::mj_state_reply(
+    let mut place: u64 = 0;
+    let reply = exports::designs::mj_state(
         scaffold,
         glues,
         dg,
@@ -223,6 +197,7 @@ pub(crate) fn state(
         scaffold_excess,
         rank,
         places,
+        &mut place,
     );
     says_places(past(words, b' '), reply, places)
 }
@@ -245,7 +220,9 @@ pub(crate) fn state_energy(
     if !is_places(up_to(words, b' '), configuration) {
         return false;
     }
-    let reply = exports::designs::mj_state_energy_reply(
+    let mut place: u64 = 0;
+    let mut energy = 0.0;
+    let reply = exports::designs::mj_state_energy(
         scaffold,
         glues,
         dg,
@@ -255,18 +232,10 @@ pub(crate) fn state_energy(
         strand_excess,
         scaffold_excess,
         configuration,
+        &mut place,
+        &mut energy,
     );
-    let figures = [exports::designs::mj_state_energy(
-        scaffold,
-        glues,
-        dg,
-        ds,
-        potentials,
-        rt,
-        strand_excess,
-        scaffold_excess,
-        configuration,
-    )];
+    let figures = [bits(energy)];
     says(past(words, b' '), reply, &figures)
 }
 
@@ -288,7 +257,10 @@ pub(crate) fn chain_energy(
     if !is_places(up_to(words, b' '), configuration) {
         return false;
     }
-    let reply = exports::designs::mj_chain_energy_reply(
+    let mut place: u64 = 0;
+    let mut sum = 0.0;
+    let mut energy = 0.0;
+    let reply = exports::designs::mj_chain_energy(
         scaffold,
         glues,
         dg,
@@ -298,32 +270,11 @@ pub(crate) fn chain_energy(
         strand_excess,
         scaffold_excess,
         configuration,
+        &mut place,
+        &mut sum,
+        &mut energy,
     );
-    let sum = exports::designs::mj_chain_sum(
-        scaffold,
-        glues,
-        dg,
-        ds,
-        potentials,
-        rt,
-        strand_excess,
-        scaffold_excess,
-        configuration,
-    );
-    let figures = [
-        sum,
-        exports::designs::mj_chain_energy(
-            scaffold,
-            glues,
-            dg,
-            ds,
-            potentials,
-            rt,
-            strand_excess,
-            scaffold_excess,
-            configuration,
-        ),
-    ];
+    let figures = [bits(sum), bits(energy)];
     says(past(words, b' '), reply, &figures)
 }
 
@@ -338,23 +289,13 @@ pub(crate) fn search(
     rt: f64,
     strand_excess: f64,
     scaffold_excess: f64,
-    spare: &mut [u8],
     places: &mut [u8],
 ) -> bool
-    ensures { λ r. ⌜ (r ≡ true → SearchLine (lentAt (scaffold .entry) (glues .entry) (dg .entry) (ds .entry) (potentials .entry) rt «strand_excess» «scaffold_excess») (now (words .entry)) (now (spare .entry)) (now (places .entry))) ⌝ }
+    ensures { λ r. ⌜ (r ≡ true → SearchLine (lentAt (scaffold .entry) (glues .entry) (dg .entry) (ds .entry) (potentials .entry) rt «strand_excess» «scaffold_excess») (now (words .entry)) (now (places .entry))) ⌝ }
 {
-    let reply = exports::search::mj_search_reply(
-        scaffold,
-        glues,
-        dg,
-        ds,
-        potentials,
-        rt,
-        strand_excess,
-        scaffold_excess,
-        spare,
-    );
-    let figures = [exports::search::mj_search_energy(
+    let mut place: u64 = 0;
+    let mut energy = 0.0;
+    let reply = exports::search::mj_search(
         scaffold,
         glues,
         dg,
@@ -364,7 +305,10 @@ pub(crate) fn search(
         strand_excess,
         scaffold_excess,
         places,
-    )];
+        &mut place,
+        &mut energy,
+    );
+    let figures = [bits(energy)];
     says(words, reply, &figures)
 }
 
@@ -383,7 +327,9 @@ pub(crate) fn settled(
 ) -> bool
     ensures { λ r. ⌜ (r ≡ true → SettledLine (lentAt (scaffold .entry) (glues .entry) (dg .entry) (ds .entry) (potentials .entry) rt «strand_excess» «scaffold_excess») (now (words .entry)) (now (places .entry))) ⌝ }
 {
-    let reply = exports::search::mj_search_reply(
+    let mut place: u64 = 0;
+    let mut energy = 0.0;
+    let reply = exports::search::mj_search(
         scaffold,
         glues,
         dg,
@@ -393,6 +339,8 @@ pub(crate) fn settled(
         strand_excess,
         scaffold_excess,
         places,
+        &mut place,
+        &mut energy,
     );
     says_places(words, reply, places)
 }

@@ -9,6 +9,7 @@ use crate::numbers::hex;
 use crate::parts::past;
 use crate::parts::up_to;
 use crate::says::says;
+use doubles::bits;
 use doubles::double;
 
 // The sequence that a word stands for; an empty one is written as `-`.
@@ -59,8 +60,9 @@ pub(crate) fn loop_energy(words: &[u8]) -> bool
     if 0xffff_ffff < kind {
         return false;
     }
-    let reply = exports::mj_loop_reply(length as usize, kind as u32);
-    let figures = [exports::mj_loop_dg(length as usize, kind as u32)];
+    let mut dg = 0.0;
+    let reply = exports::mj_loop_penalty(length as usize, kind as u32, &mut dg);
+    let figures = [bits(dg)];
     says(past(rest, b' '), reply, &figures)
 }
 
@@ -69,13 +71,14 @@ pub(crate) fn strength(words: &[u8]) -> bool
     ensures { λ r. ⌜ (r ≡ true → StrengthLine (now (words .entry))) ⌝ }
 {
     let rest = past(words, b' ');
-    let Number::Is(bits) = hex(up_to(words, b' ')) else {
+    let Number::Is(read) = hex(up_to(words, b' ')) else {
         return false;
     };
-    let excess = double(bits);
+    let excess = double(read);
     let s = letters(up_to(rest, b' '));
-    let reply = exports::mj_sequence_strength_reply(s, excess);
-    let figures = [exports::mj_sequence_strength(s, excess)];
+    let mut strength = 0.0;
+    let reply = exports::mj_sequence_strength(s, excess, &mut strength);
+    let figures = [bits(strength)];
     says(past(rest, b' '), reply, &figures)
 }
 
@@ -85,14 +88,15 @@ pub(crate) fn strength2(words: &[u8]) -> bool
 {
     let rest = past(words, b' ');
     let last = past(rest, b' ');
-    let Number::Is(bits) = hex(up_to(words, b' ')) else {
+    let Number::Is(read) = hex(up_to(words, b' ')) else {
         return false;
     };
-    let excess = double(bits);
+    let excess = double(read);
     let a = letters(up_to(rest, b' '));
     let b = letters(up_to(last, b' '));
-    let reply = exports::mj_pair_strength_reply(a, b, excess);
-    let figures = [exports::mj_pair_strength(a, b, excess)];
+    let mut strength = 0.0;
+    let reply = exports::mj_pair_strength(a, b, excess, &mut strength);
+    let figures = [bits(strength)];
     says(past(last, b' '), reply, &figures)
 }
 
@@ -100,16 +104,15 @@ pub(crate) fn strength2(words: &[u8]) -> bool
 pub(crate) fn ambient(words: &[u8]) -> bool
     ensures { λ r. ⌜ (r ≡ true → AmbientLine (now (words .entry))) ⌝ }
 {
-    let Number::Is(bits) = hex(up_to(words, b' ')) else {
+    let Number::Is(read) = hex(up_to(words, b' ')) else {
         return false;
     };
-    let kelvin = double(bits);
-    let reply = exports::mj_ambient_reply(kelvin);
-    let figures = [
-        exports::mj_ambient_rt(kelvin),
-        exports::mj_ambient_strand_excess(kelvin),
-        exports::mj_ambient_scaffold_excess(kelvin),
-    ];
+    let kelvin = double(read);
+    let mut rt = 0.0;
+    let mut strand_excess = 0.0;
+    let mut scaffold_excess = 0.0;
+    let reply = exports::mj_ambient(kelvin, &mut rt, &mut strand_excess, &mut scaffold_excess);
+    let figures = [bits(rt), bits(strand_excess), bits(scaffold_excess)];
     says(past(words, b' '), reply, &figures)
 }
 
@@ -119,9 +122,10 @@ pub(crate) fn name(words: &[u8]) -> bool
 {
     let s = letters(up_to(words, b' '));
     let n = s.len();
-    let reply = exports::names::mj_name_reply(s, 0, n);
-    let size = exports::names::mj_name_length(s, 0, n);
-    let is_base = exports::names::mj_name_is_base(s, 0, n);
-    let figures = [size as u64, is_base as u64];
+    let mut start: u64 = 0;
+    let mut size: u64 = 0;
+    let mut is_base: u64 = 0;
+    let reply = exports::names::mj_name(s, 0, n, &mut start, &mut size, &mut is_base);
+    let figures = [size, is_base];
     says(past(words, b' '), reply, &figures)
 }

@@ -1,3 +1,4 @@
+pub mod Table
 pub mod Lowest
 pub mod First
 pub mod Answer

@@ -1,2 +1,3 @@
 pub mod Number
 pub mod First
+pub mod Table

@@ -20,8 +20,8 @@ use Rattle.sdc_common.specs.Calls.{tooManyBases}
 use Rattle.sdc_common.proofs.Spelled.{bases-bare}
 use Rattle.sdc_common.proofs.Looked.{unknown-spelled, spelled-number, number-at-most, glue-at-most}
 use Rattle.sdc1d_params.specs.Entries.{cell, cellOf}
-use Rattle.sdc1d_params.specs.Cells.{baseAt, refOrPair, cellOfNames}
-use Rattle.sdc1d_params.specs.Scaffold.{unknownBy, unknownAt}
+use Rattle.sdc1d_params.specs.inner.Cells.{baseAt, refOrPair, cellOfNames}
+use Rattle.sdc1d_params.specs.inner.Scaffold.{unknownBy, unknownAt}
 use Rattle.sdc1d_params.specs.declared.cells.RefOrPair.the-variants.{Ref, Pair}
 
 -- two tests that agree at each place

@@ -10,7 +10,7 @@ use borrow.Author.Tests.{eq-eqb}
 use Rattle.lists.proofs.Build.{length-tabulate}
 use Rattle.sdc_common.specs.Lent.{Names, glueAt, gluesOf}
 use Rattle.sdc_common.specs.Numbers.{basesOf, glueNumber, numbersAmong}
-use Rattle.sdc_common.specs.Calls.{unfitStrands, tooManyBases, strandGlues, gluesAfter}
+use Rattle.sdc_common.specs.Calls.{unfitStrands, tooManyBases, gluesAfter}
 use Rattle.sdc_common.proofs.Fit.{strand-glues}
 use Rattle.sdc1d_params.specs.Params.{unfitCopied, glueOfStrand, quencherGlues, reporterGlues, withCopies}
 use Rattle.sdc1d_params.specs.declared.Copied.{Copied}
@@ -38,7 +38,7 @@ laid before part rest a k h = rw (take-at before rest a h, drop-at before rest a
 -- what the strands' own call writes
 module _ (users : ℕ) (text : List ℕ) (strands : Names) (fit : unfitStrands users text strands ≡ false) (few : tooManyBases (gluesOf text strands) ≡ false) where
   pub glues-given : (lent : List ℕ) → length lent ≡ 3 * users → gluesAfter users text strands lent ≡ numbersAmong (gluesOf text strands) (gluesOf text strands)
-  unfolding gluesAfter strandGlues
+  unfolding gluesAfter
   glues-given lent l = rw (fit, eq-eqb _ _ l, few)
 
 -- the copies see the user strands' numbers

@@ -16,7 +16,7 @@ use Rattle.lists.specs.Build.{tabulate}
 use Rattle.lists.proofs.Each.{each-tabulate}
 use Rattle.sdc1d_params.specs.Entries.{Cell, cell, isWritten, samePair}
 use Rattle.sdc1d_params.specs.Tables.{placeOf}
-use Rattle.sdc1d_params.specs.Cells.{markBoth, isMarked}
+use Rattle.sdc1d_params.specs.inner.Cells.{markBoth, isMarked}
 
 -- a cell of the tables
 abbrev Inside : Cell → Type 0

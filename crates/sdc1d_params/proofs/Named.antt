@@ -17,7 +17,7 @@ use Rattle.sdc_common.specs.Numbers.{basesOf, numbersAmong}
 use Rattle.sdc_common.specs.Calls.{NameFigures, refusedName, givenName, selfAndInverse, NumbersFigures, refusedNumbers, givenNumbers, unfitStrands, nameNumbers, numbersAfter}
 use Rattle.sdc_common.proofs.Bases.{base-le}
 use Rattle.sdc_common.proofs.Held.{fits, part-length, glue-absent, glue-present}
-use Rattle.sdc1d_params.specs.Scaffold.{unknownBy}
+use Rattle.sdc1d_params.specs.inner.Scaffold.{unknownBy}
 
 -- ---- numbers of names
 

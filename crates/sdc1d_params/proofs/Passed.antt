@@ -22,11 +22,12 @@ use Rattle.sdc_common.specs.Spelled.{isUnknown}
 use Rattle.sdc_common.specs.Calls.{tooManyBases}
 use Rattle.sdc_common.proofs.Fit.{as-many}
 use Rattle.sdc_common.proofs.Held.{glue-present}
-use Rattle.sdc1d_params.specs.Entries.{Cell, cell, Energies, entryAt, entriesOf, unfitAt, badForm, unfitEntry, hasBadBase, isShort, FitEntries}
+use Rattle.sdc1d_params.specs.Entries.{Cell, cell, Energies, entryAt, entriesOf, unfitAt, badForm, unfitEntry, hasBadBase, isShort}
+use Rattle.sdc1d_params.specs.inner.Fit.{FitEntries}
 use Rattle.sdc1d_params.specs.Tables.{Write, writeOf, cellsOf, duplicated, outOfRange}
-use Rattle.sdc1d_params.specs.Cells.{cellFrom, rowFrom, columnFrom, cellAt, writeAt, InTables}
+use Rattle.sdc1d_params.specs.inner.Cells.{cellFrom, rowFrom, columnFrom, cellAt, writeAt, InTables}
 use Rattle.sdc1d_params.specs.Params.{Params, Outcome, entryCount, strandNames, bases, firstAt, cellAtEntry, writesOf, unfitEnergies, wrongSize, paramChecks}
-use Rattle.sdc1d_params.specs.Checked.{Checked}
+use Rattle.sdc1d_params.specs.inner.Checked.{Checked}
 use Rattle.sdc1d_params.proofs.Lengths.{Sized}
 use Rattle.sdc1d_params.proofs.Found.{number-at, number-small, numbers-length, numbers-spelled, cell-found, cell-inside}
 

@@ -4,7 +4,7 @@ use Prim.Native.Nat.{ℕ, _+_, _-_, _<_, _%_}
 use native.Mathlib.Omega.{arith}
 use lib.Dec.{eqb}
 use Rattle.sdc1d_params.specs.Entries.{cell}
-use Rattle.sdc1d_params.specs.Cells.{refOrPair, cellOfNames}
+use Rattle.sdc1d_params.specs.inner.Cells.{refOrPair, cellOfNames}
 use Rattle.sdc1d_params.specs.declared.cells.RefOrPair.the-variants.{Ref, Pair}
 
 one-small : (zero even : Bool) (n : ℕ) → n < 64 → cond zero (cell 0 0) (cell (cond even (n - 1) n) (cond even (n - 1) n + 1)) .column < 65

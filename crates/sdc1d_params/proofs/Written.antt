@@ -29,9 +29,9 @@ use Rattle.sdc_common.specs.Calls.{tooManyStrands, tooManyBases}
 use Rattle.sdc_common.proofs.Fit.{as-many}
 use Rattle.sdc1d_params.specs.Entries.{Cell, entryAt, entriesOf, hasBadBase, isShort}
 use Rattle.sdc1d_params.specs.Tables.{Write, writeOf, cellsOf, duplicated, outOfRange, writeDg, writeDs, emptyTable, dgTable, dsTable}
-use Rattle.sdc1d_params.specs.Cells.{writeAt}
+use Rattle.sdc1d_params.specs.inner.Cells.{writeAt}
 use Rattle.sdc1d_params.specs.Params.{Params, Outcome, outcomeOf, entryCount, firsts, strandNames, bases, cellAtEntry, writesOf, unfitCopied, unfitLent, unfitScaffold, unfitEntries, wrongSize, paramChecks, withCopies, strandGluesOf, fromParams}
-use Rattle.sdc1d_params.specs.Checked.{Checked}
+use Rattle.sdc1d_params.specs.inner.Checked.{Checked}
 use Rattle.sdc1d_params.proofs.Lengths.{Sized, sized}
 use Rattle.sdc1d_params.proofs.Passed.{never, reply-size}
 

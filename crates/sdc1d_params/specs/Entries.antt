@@ -2,11 +2,10 @@
 use mathlib.Core.Bool.{Bool, false, cond, not, _&&_, _||_}
 use mathlib.Core.List.{List}
 use mathlib.Core.Option.{none, some}
-use mathlib.Core.Path.{_≡_}
-use Prim.Native.Nat.{ℕ, _<_}
+use Prim.Native.Nat.{ℕ}
 use lib.Dec.{eqb}
 use lib.Ieee.{Float, nan}
-use lib.ListN.{length, getD}
+use lib.ListN.{getD}
 use Rattle.lists.specs.Find.{any}
 use Rattle.lists.specs.Build.{tabulate}
 use Rattle.utils.specs.Bases.{notABase}
@@ -75,18 +74,6 @@ entriesOf e n = tabulate n (entryAt e)
 -- its form or its sequence is unfit
 unfoldable pub unfitAt : List ℕ → Energies → ℕ → Bool
 unfitAt text e i = badForm (getD (e .forms) i 0) || unfitEntry text (entryAt e i)
-
--- what the checks leave of lent entries: as many of each number
-pub record Entries (e : Energies) : Type 0 where
-  pub dgs : length (e .dgs) ≡ length (e .forms)
-  pub dss : length (e .dss) ≡ length (e .forms)
-  pub starts : length (e .starts) ≡ length (e .forms)
-  pub lengths : length (e .lengths) ≡ length (e .forms)
-
--- and each of them fit
-pub record FitEntries (text : List ℕ) (e : Energies) : Type 0 where
-  pub many : Entries e
-  pub each : (k : ℕ) → k < length (e .forms) → unfitEntry text (entryAt e k) ≡ false
 
 -- ---- where it is written
 

@@ -5,7 +5,7 @@ ghost use lib.ListN.{length};
 ghost use Rattle.lists.specs.Build.{tabulate};
 ghost use Rattle.sdc1d_params.specs.Entries.{cell, isWritten};
 ghost use Rattle.sdc1d_params.specs.Tables.{duplicated};
-ghost use Rattle.sdc1d_params.specs.Cells.{refOrPair, cellOfNames, placeCell, rowFrom, columnFrom, cellAt, InTables, markBoth, isMarked};
+ghost use Rattle.sdc1d_params.specs.inner.Cells.{refOrPair, cellOfNames, cellFound, rowFrom, columnFrom, cellAt, InTables, markBoth, isMarked};
 
 // How an entry's names are lent: one name, and anything else is a pair.
 const REF: u8 = 0;
@@ -17,7 +17,7 @@ pub(crate) enum RefOrPair {
 }
 
 // A row and a column; 0 where a name is not known.
-pub(crate) struct Place(usize, usize);
+pub(crate) struct RowColumn(usize, usize);
 
 // What an entry is for, out of the mark of its second name and the numbers of both.
 fn ref_or_pair(kind: u8, first: usize, second: usize) -> RefOrPair
@@ -30,20 +30,20 @@ fn ref_or_pair(kind: u8, first: usize, second: usize) -> RefOrPair
 }
 
 // The cell of one name's base and base*, or of a pair.
-fn cell_of(names: RefOrPair) -> Place
+fn cell_of(names: RefOrPair) -> RowColumn
     requires { ⌜ cellOfNames names .column < 65 ⌝ }
-    ensures { λ r. ⌜ placeCell r ≡ cellOfNames names ⌝ }
+    ensures { λ r. ⌜ cellFound r ≡ cellOfNames names ⌝ }
 {
     match names {
-        RefOrPair::Pair(first, second) => Place(first, second),
+        RefOrPair::Pair(first, second) => RowColumn(first, second),
         RefOrPair::Ref(n) => {
             if n == 0 {
-                return Place(0, 0);
+                return RowColumn(0, 0);
             }
             if n % 2 == 0 {
-                return Place(n - 1, n);
+                return RowColumn(n - 1, n);
             }
-            Place(n, n + 1)
+            RowColumn(n, n + 1)
         }
     }
 }

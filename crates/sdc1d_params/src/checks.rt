@@ -9,7 +9,7 @@ ghost use Rattle.sdc_common.specs.Lent.{namesOf, gluesOf, unfitNames};
 ghost use Rattle.sdc_common.specs.Numbers.{basesOf, numbersAmong};
 ghost use Rattle.sdc_common.specs.Calls.{unfitStrands};
 ghost use Rattle.sdc1d_params.specs.Params.{paramsOf, lentOf, paramChecks};
-ghost use Rattle.sdc1d_params.specs.Checked.{Checked};
+ghost use Rattle.sdc1d_params.specs.inner.Checked.{Checked};
 use crate::Copied;
 use crate::cells::any_repeated;
 use crate::cells::to_cells;

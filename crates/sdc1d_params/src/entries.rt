@@ -5,7 +5,7 @@ ghost use Prim.Native.Nat.{_<_};
 ghost use lib.ListN.{length};
 ghost use Rattle.lists.specs.Find.{any};
 ghost use Rattle.sdc1d_params.specs.Entries.{badForm, unfitEntry, hasBadBase, isShort, entryDg, entryDs, energiesOf, entryAt, entriesOf, unfitAt};
-ghost use Rattle.sdc1d_params.specs.Entries.{Entries, FitEntries};
+ghost use Rattle.sdc1d_params.specs.inner.Fit.{Entries, FitEntries};
 ghost use Rattle.lists.specs.Build.{upTo};
 use reply::Refusal;
 use units::KcalPerMol;

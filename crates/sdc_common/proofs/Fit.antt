@@ -10,7 +10,8 @@ use Rattle.lists.specs.Find.{any}
 use Rattle.lists.specs.Build.{upTo}
 use Rattle.lists.proofs.Tests.{neither}
 use Rattle.lists.proofs.Counted.{any-fails}
-use Rattle.sdc_common.specs.Lent.{Names, unfitAt, unfitNames, notAsMany, FitNames}
+use Rattle.sdc_common.specs.Lent.{Names, unfitAt, unfitNames, notAsMany}
+use Rattle.sdc_common.specs.inner.Fit.{FitNames}
 use Rattle.sdc_common.specs.Calls.{tooManyStrands, unfitStrands}
 
 module _ (n : ℕ) (text : List ℕ) (names : Names) (e : unfitNames n text names ≡ false) where

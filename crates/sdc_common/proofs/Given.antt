@@ -5,12 +5,12 @@ use mathlib.Core.List.{List, map}
 use Prim.Native.Nat.{ℕ, _*_, _<_, _≤_}
 use lib.ListN.{length}
 use borrow.Author.Tests.{lt-ltb, le-ltb, eq-eqb}
+use Rattle.reply.specs.Number.{numberOf, answered}
 use Rattle.reply.specs.declared.Refusal.the-variants.{TooManyGlues}
-use Rattle.reply.specs.declared.Reply.the-variants.{Admitted, Refused}
 use Rattle.sdc_common.specs.Names.{Name}
 use Rattle.sdc_common.specs.Lent.{Names, gluesOf, unfitNames}
 use Rattle.sdc_common.specs.Numbers.{basesOf, glueNumber, numbersAmong}
-use Rattle.sdc_common.specs.Table.{held}
+use Rattle.sdc_common.specs.inner.Table.{held}
 use Rattle.sdc_common.specs.Calls.{unfitStrands, tooManyBases, givenNumbers, nameNumbers, numbersAfter, strandGlues, gluesAfter}
 use Rattle.sdc_common.proofs.Held.{held-length}
 
@@ -30,7 +30,7 @@ module _ (users : ℕ) (text : List ℕ) (strands : Names) (heads sizes : List �
   unfolding nameNumbers numbersAfter
   numbers-given names lent out good e = (simp (fit, good) (ap givenNumbers counted), simp (fit, good) (e ∙ numbered names))
 
-  pub glues-many : (lent : List ℕ) → length lent ≡ 3 * users → 31 < count → (Refused TooManyGlues ≡ strandGlues users text strands (length lent)) × (lent ≡ gluesAfter users text strands lent)
+  pub glues-many : (lent : List ℕ) → length lent ≡ 3 * users → 31 < count → (numberOf TooManyGlues ≡ strandGlues users text strands (length lent)) × (lent ≡ gluesAfter users text strands lent)
   unfolding strandGlues gluesAfter
   glues-many lent l many =
       let k = eq-eqb _ _ l in
@@ -42,7 +42,7 @@ module _ (users : ℕ) (text : List ℕ) (strands : Names) (heads sizes : List �
       → length lent ≡ 3 * users
       → count ≤ 31
       → out ≡ map (glueNumber (held text heads sizes count)) (gluesOf text strands)
-      → (Admitted ≡ strandGlues users text strands (length lent)) × (out ≡ gluesAfter users text strands lent)
+      → (answered ≡ strandGlues users text strands (length lent)) × (out ≡ gluesAfter users text strands lent)
   unfolding strandGlues gluesAfter
   glues-given lent out l few e =
       let k = eq-eqb _ _ l in

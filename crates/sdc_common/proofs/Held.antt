@@ -18,9 +18,10 @@ use Rattle.lists.proofs.Find.{any-true, any-false}
 use Rattle.lists.proofs.Build.{length-tabulate}
 use Rattle.lists.proofs.Counted.{tabulate-suc, tabulate-same}
 use Rattle.sdc_common.specs.Names.{Name, baseLength, baseOf, starsOf, isFrom, sameName}
-use Rattle.sdc_common.specs.Lent.{partOf, unfitName, unfitGlue, isAbsent, isPresent, Fit, Names, glueOf, glueAt}
+use Rattle.sdc_common.specs.Lent.{partOf, unfitName, unfitGlue, isAbsent, isPresent, Names, glueOf, glueAt}
+use Rattle.sdc_common.specs.inner.Fit.{Fit}
 use Rattle.sdc_common.specs.Numbers.{isKnown, learn, numberAt, baseNumber, nameNumber, glueNumber}
-use Rattle.sdc_common.specs.Table.{heldAt, held, Table}
+use Rattle.sdc_common.specs.inner.Table.{heldAt, held, Table}
 use Rattle.sdc_common.specs.Calls.{selfAndInverse, givenName}
 use Rattle.sdc_common.proofs.Bases.{base-le}
 

@@ -5,3 +5,4 @@ pub mod Given
 pub mod Replies
 pub mod Spelled
 pub mod Looked
+pub mod Laws

@@ -90,8 +90,8 @@ not-and false b = refl
 pub unknown-spelled : (bases : List Name) → Each Bare bases → (name : Name) → (eqb (nameNumber bases name) 0 || ltb 1 (starsOf name)) ≡ isUnknown bases (some name)
 unfolding isUnknown
 unknown-spelled bases e name =
-    rw (number-none bases (baseOf name) (starsOf name), few-stars (starsOf name), known-spelled name bases e)
-    (sym (not-and (isKnown bases (baseOf name)) (fewStars name)))
+    rw (number-none bases (baseOf name) (starsOf name), few-stars (starsOf name))
+    (sym (ap not (known-spelled name bases e) ∙ not-and (isKnown bases (baseOf name)) (fewStars name)))
 
 both : (a b : Bool) → not (a && b) ≡ false → (a ≡ true) × (b ≡ true)
 both true true e = (refl, refl)

@@ -73,7 +73,7 @@ module _ (b : Name) (bare : Bare b) where
   unfolding baseOf
   base-of-bare = rw bare (take-length b)
 
-  stars-of-bare : starsOf b ≡ 0
+  pub stars-of-bare : starsOf b ≡ 0
   unfolding starsOf
   stars-of-bare = rw bare (omega arith)
 
@@ -105,7 +105,7 @@ base-size : (name : Name) → length (baseOf name) ≡ baseLength name
 unfolding baseOf
 base-size name = length-take-le (baseLength name) name (base-le name)
 
-base-bare : (name : Name) → Bare (baseOf name)
+pub base-bare : (name : Name) → Bare (baseOf name)
 base-bare name = sym (ap baseLength (name-parts name) ∙ base-stars (baseOf name) (starsOf name)) ∙ sym (base-size name)
 
 learn-step : (bases : List Name) (base : Name) (t : Bool) → Each Bare bases → Bare base → Each Bare (cond t bases (bases ++ (base ∷ [])))

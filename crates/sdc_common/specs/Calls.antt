@@ -4,10 +4,9 @@ use mathlib.Core.List.{List, [], _∷_}
 use Prim.Native.Nat.{ℕ, _*_}
 use lib.Dec.{eqb, ltb}
 use lib.ListN.{length}
-use Rattle.reply.specs.Number.{numberOf, answered}
+use Rattle.reply.specs.Number.{numberOf, answered, replyNumber}
 use Rattle.reply.specs.First.{Check, _if_, firstOf, answer}
 use Rattle.reply.specs.declared.Refusal.the-variants.{WrongSize, TooManyGlues}
-use Rattle.reply.specs.declared.Reply.{Reply}
 use Rattle.sdc_common.specs.Names.{baseLength, isFrom}
 use Rattle.sdc_common.specs.Lent.{Names, Glue, partOf, unfitName, unfitNames, gluesOf}
 use Rattle.sdc_common.specs.Numbers.{basesOf, numbersAmong}
@@ -106,11 +105,11 @@ glueChecks users text strands lent =
     ∷ TooManyGlues if tooManyBases (gluesOf text strands)
     ∷ []
 
--- the reply of `strand_glues`
-unfoldable pub strandGlues : ℕ → List ℕ → Names → ℕ → Reply
-strandGlues users text strands lent = firstOf (glueChecks users text strands lent)
+-- document 01's number of the reply of `strand_glues`
+unfoldable pub strandGlues : ℕ → List ℕ → Names → ℕ → ℕ
+strandGlues users text strands lent = replyNumber (firstOf (glueChecks users text strands lent))
 
 -- what `strand_glues` leaves in the lent slice: on a refusal, what it held
 unfoldable pub gluesAfter : ℕ → List ℕ → Names → List ℕ → List ℕ
 gluesAfter users text strands lent =
-    answer (strandGlues users text strands (length lent)) (λ number. lent) (numbersAmong (gluesOf text strands) (gluesOf text strands))
+    answer (firstOf (glueChecks users text strands (length lent))) (λ number. lent) (numbersAmong (gluesOf text strands) (gluesOf text strands))

@@ -1,9 +1,8 @@
 -- Names as they are lent: parts of one text, each with a mark beside it.
-use mathlib.Core.Bool.{Bool, false, cond, not, _&&_, _||_}
+use mathlib.Core.Bool.{Bool, cond, not, _&&_, _||_}
 use mathlib.Core.List.{List}
 use mathlib.Core.Option.{Option, none, some}
-use mathlib.Core.Path.{_≡_}
-use Prim.Native.Nat.{ℕ, _+_, _<_}
+use Prim.Native.Nat.{ℕ, _+_}
 use lib.Dec.{eqb, ltb}
 use lib.ListN.{length, getD, take, drop}
 use Rattle.lists.specs.Find.{any}
@@ -71,15 +70,3 @@ notAsMany n names = not (eqb (length (names .starts)) n) || not (eqb (length (na
 -- n names are not as they should be
 unfoldable pub unfitNames : ℕ → List ℕ → Names → Bool
 unfitNames n text names = notAsMany n names || any (unfitAt text names) (upTo n)
-
--- ---- what the checks leave
-
--- a glue that is as it should be
-abbrev pub Fit : List ℕ → ℕ → ℕ → ℕ → Type 0
-Fit text mark start size = unfitGlue text mark start size ≡ false
-
--- as many starts, lengths and marks, and each glue fit
-pub record FitNames (text : List ℕ) (names : Names) : Type 0 where
-  pub starts : length (names .starts) ≡ length (names .marks)
-  pub lengths : length (names .lengths) ≡ length (names .marks)
-  pub each : (k : ℕ) → k < length (names .marks) → unfitAt text names k ≡ false

@@ -2,5 +2,6 @@ pub mod Names
 pub mod Lent
 pub mod Numbers
 pub mod Spelled
-pub mod Table
 pub mod Calls
+pub mod Laws
+pub mod inner

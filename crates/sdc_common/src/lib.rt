@@ -4,6 +4,7 @@ mod table;
 
 ghost use mathlib.Core.Path.{_≡_};
 ghost use lib.ListN.{length};
+ghost use Rattle.reply.specs.Number.{replyNumber};
 ghost use Rattle.sdc_common.specs.Lent.{namesOf};
 ghost use Rattle.sdc_common.specs.Calls.{nameFigures, selfAndInverse, unfitStrands, numbersFigures, nameNumbers, numbersAfter, strandGlues, gluesAfter};
 use names::base_length;
@@ -105,7 +106,7 @@ pub fn strand_glues(
     marks: &[u8],
     glues: &mut [u8],
 ) -> Reply
-    ensures { λ r. ⌜ r ≡ strandGlues users (now (text .entry)) (namesOf (now (starts .entry)) (now (lengths .entry)) (now (marks .entry))) (length (now (glues .entry))) ⌝ }
+    ensures { λ r. ⌜ replyNumber r ≡ strandGlues users (now (text .entry)) (namesOf (now (starts .entry)) (now (lengths .entry)) (now (marks .entry))) (length (now (glues .entry))) ⌝ }
     ensures { λ r. ⌜ now (glues .exit) ≡ gluesAfter users (now (text .entry)) (namesOf (now (starts .entry)) (now (lengths .entry)) (now (marks .entry))) (now (glues .entry)) ⌝ }
 {
     if unfit_strands(text, users, starts, lengths, marks) {

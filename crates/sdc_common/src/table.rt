@@ -5,12 +5,16 @@ ghost use lib.ListN.{length};
 ghost use mathlib.Core.List.{map};
 ghost use Rattle.lists.specs.Find.{firstIndex};
 ghost use Rattle.sdc_common.specs.Names.{sameName};
-ghost use Rattle.sdc_common.specs.Lent.{namesOf, gluesOf, glueOf, Fit, FitNames};
+ghost use Rattle.sdc_common.specs.Lent.{namesOf, gluesOf, glueOf};
+ghost use Rattle.sdc_common.specs.inner.Fit.{Fit, FitNames};
 ghost use Rattle.sdc_common.specs.Numbers.{learn, basesOf, glueNumber};
-ghost use Rattle.sdc_common.specs.Table.{Table, held};
+ghost use Rattle.sdc_common.specs.inner.Table.{Table, held};
 use crate::names::ABSENT;
 use crate::names::base_length;
 use crate::names::same_bytes;
+
+// The number of a glue that is absent, or whose base no strand has.
+const NO_NUMBER: usize = 0;
 
 // The place of the first base that has the bytes of the name, or their count.
 fn find(text: &[u8], heads: &[usize], sizes: &[usize], count: usize, name: &[u8]) -> usize
@@ -100,14 +104,14 @@ fn number(
     ensures { λ r. ⌜ r ≤ 2 * count ⌝ }
 {
     if mark == ABSENT {
-        return 0;
+        return NO_NUMBER;
     }
     let end = start + length;
     let base = base_length(&text[start..end]);
     let base_end = start + base;
     let place = find(text, heads, sizes, count, &text[start..base_end]);
     if count <= place {
-        return 0;
+        return NO_NUMBER;
     }
     1 + 2 * place + (length - base) % 2
 }

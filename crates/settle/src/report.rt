@@ -5,6 +5,7 @@ use crate::reads::first_words;
 use answers::States;
 use answers::print::Style;
 use answers::settled;
+use deck::DeckForm;
 use deck::DeckWritten;
 use sdc1d::CountAnswer;
 use sheet::parts;
@@ -90,7 +91,7 @@ fn report_names(
         reads::bytes(&mut marks, users),
     );
     let mut deck = [0u32; 129];
-    let DeckWritten::Words(size) = deck::write(configuration, &mut deck) else {
+    let DeckWritten::Words(size) = deck::write(DeckForm::Singles, configuration, &mut deck) else {
         return false;
     };
     settled(

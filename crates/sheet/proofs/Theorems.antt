@@ -10,7 +10,7 @@ use lib.Seq.{take-all}
 use borrow.Author.Tests.{ltb-true, ltb-false, leb-false, eqb-true}
 use Rattle.lists.specs.Find.{any}
 use Rattle.lists.specs.Build.{tabulate, upTo, keep}
-use Rattle.lists.specs.Over.{over}
+use Rattle.lists.specs.Front.{over}
 use Rattle.lists.proofs.Tests.{neither}
 use Rattle.lists.proofs.Any.{none-below}
 use Rattle.lists.proofs.Build.{length-tabulate}

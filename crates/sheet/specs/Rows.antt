@@ -8,7 +8,7 @@ use lib.ListN.{length, getD, take}
 use Rattle.doubles.specs.Decimal.{zero}
 use Rattle.lists.specs.Find.{firstIndex}
 use Rattle.lists.specs.Build.{upTo, keep}
-use Rattle.lists.specs.Over.{over}
+use Rattle.lists.specs.Front.{over}
 use Rattle.statements.specs.Words.{wordAt}
 use Rattle.statements.specs.Grammar.{kelvin, ambient, energyGiven, penalty}
 use Rattle.statements.specs.declared.words.Word.{Word}

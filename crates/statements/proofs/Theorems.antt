@@ -8,7 +8,7 @@ use native.Mathlib.Omega.{arith}
 use lib.ListN.{length, set, length-append, length-map}
 use lib.Seq.{sets}
 use Rattle.lists.specs.Each.{Each}
-use Rattle.lists.proofs.Over.{sets-over, sets-append}
+use Rattle.lists.proofs.Front.{sets-over, sets-append}
 use Rattle.statements.specs.Words.{linesOf}
 use Rattle.statements.specs.Layout.{Room, Equal}
 use Rattle.statements.specs.Rows.{Row, rowsOf, readAnswer, laidRow, laid}

@@ -34,14 +34,6 @@ pub record Room : Type 0 where
 abbrev pub roomOf : List ℕ → List ℕ → List ℕ → List Float → Room
 roomOf kinds lines words numbers = record { kinds = kinds; lines = lines; words = words; numbers = numbers }
 
--- the kind of row i
-abbrev pub kindIn : Room → ℕ → ℕ
-kindIn room i = getD (room .kinds) i 0
-
--- the number of its line
-abbrev pub lineIn : Room → ℕ → ℕ
-lineIn room i = getD (room .lines) i 0
-
 -- word j of row i, by its start and size in the text; a size of 0 where it is absent (`-`), or the kind has none
 abbrev pub wordIn : Room → ℕ → ℕ → Word
 wordIn room i j = wordAt (getD (room .words) (8 * i + 2 * j) 0) (getD (room .words) (8 * i + 2 * j + 1) 0)

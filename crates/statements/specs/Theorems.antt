@@ -4,7 +4,7 @@ use mathlib.Core.Path.{_≡_}
 use Prim.Native.Nat.{ℕ}
 use lib.ListN.{length}
 use lib.Ieee.{Float}
-use Rattle.lists.specs.Over.{over}
+use Rattle.lists.specs.Front.{over}
 use Rattle.statements.specs.Layout.{Room}
 use Rattle.statements.specs.Rows.{Row, rowsOf, readAnswer, roomAfter}
 use Rattle.statements.specs.declared.ReadAnswer.the-variants.{Rows}

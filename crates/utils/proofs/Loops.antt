@@ -5,7 +5,7 @@ use Prim.Native.Nat.{ℕ, _<_}
 use native.Mathlib.Omega.{arith}
 use lib.IntN.{ℤ, pos}
 use lib.ListN.{getD, length}
-use Rattle.lists.proofs.Map.{getD-map-lt}
+use Rattle.lists.proofs.Places.{getD-map-lt}
 use Rattle.utils.specs.Paper.{loopFigure, noLoop}
 use Rattle.utils.specs.Figures.{loopRows, loopEntry}
 use Rattle.utils.specs.inner.Tables.{kindIndex, unpointed, tenths}

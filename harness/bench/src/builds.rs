@@ -140,7 +140,7 @@ impl Slices {
     }
 
     fn build(&mut self, lent: &Lent) -> u32 {
-        mj::params_reply(
+        mj::params(
             lent_to_port(lent),
             mj::Built {
                 strand_glues: &mut self.strand_glues,

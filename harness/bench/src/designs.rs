@@ -56,8 +56,9 @@ fn real(random: &mut Random, positions: usize, strands: usize) -> Stated {
         let state: Vec<u8> = (0..positions).map(occupant).collect();
         let energy = both.rust.borrow().p_g_system(&tiles(&state));
         // Times of different answers would say nothing.
-        assert_eq!(mj::state_energy_reply(both.port(), &state), 0);
-        assert_eq!(mj::state_energy(both.port(), &state), energy.to_bits());
+        let (mut place, mut told) = (0, 0.0);
+        let number = mj::state_energy(both.port(), &state, &mut place, &mut told);
+        assert_eq!((number, told.to_bits()), (0, energy.to_bits()));
         states.push(state);
     }
     Stated { both, states }
@@ -86,7 +87,10 @@ fn state_energies(stated: &Rc<Stated>, cleared: &'static str) -> Row {
         }),
         port: Box::new(move || {
             for state in &port_side.states {
-                black_box(mj::state_energy(port_side.both.port(), black_box(state)));
+                let (mut place, mut energy) = (0, 0.0);
+                let design = port_side.both.port();
+                let number = mj::state_energy(design, black_box(state), &mut place, &mut energy);
+                black_box((number, energy));
             }
         }),
     }
@@ -108,7 +112,9 @@ fn count(positions: usize) -> Row {
     lent.dg[65] = -8.0;
     let both = Rc::new(Both::new(lent));
     let listed = both.rust.borrow().system_states().len();
-    assert_eq!(mj::states_count(both.port()), listed as u64);
+    let (mut place, mut count) = (0, 0);
+    let number = mj::states(both.port(), &mut place, &mut count);
+    assert_eq!((number, count), (0, listed as u64));
     let (rust_side, port_side) = (both.clone(), both);
     Row {
         label: format!("count of {listed} states"),
@@ -118,7 +124,9 @@ fn count(positions: usize) -> Row {
             black_box(rust_side.rust.borrow().system_states().len());
         }),
         port: Box::new(move || {
-            black_box(mj::states_count(black_box(port_side.port())));
+            let (mut place, mut count) = (0, 0);
+            let design = black_box(port_side.port());
+            black_box((mj::states(design, &mut place, &mut count), count));
         }),
     }
 }

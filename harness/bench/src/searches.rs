@@ -111,11 +111,9 @@ fn check(both: &Both, friends: usize) {
     }
     let (settled, energy) = both.rust.borrow().mfe_configuration();
     let mut configuration = vec![0; both.lent.positions()];
-    assert_eq!(mj::search_reply(both.port(), &mut configuration), 0);
-    assert_eq!(
-        mj::search_energy(both.port(), &mut configuration),
-        energy.to_bits()
-    );
+    let (mut place, mut told) = (0, 0.0);
+    let number = mj::search(both.port(), &mut configuration, &mut place, &mut told);
+    assert_eq!((number, told.to_bits()), (0, energy.to_bits()));
     let configuration: Vec<u32> = configuration.into_iter().map(u32::from).collect();
     assert_eq!(configuration, settled);
 }
@@ -140,10 +138,10 @@ fn search_of_port(both: &Rc<Both>) -> Box<dyn FnMut()> {
     let both = both.clone();
     let mut configuration = vec![0; both.lent.positions()];
     Box::new(move || {
-        black_box(mj::search_energy(
-            black_box(both.port()),
-            &mut configuration,
-        ));
+        let (mut place, mut energy) = (0, 0.0);
+        let design = black_box(both.port());
+        let number = mj::search(design, &mut configuration, &mut place, &mut energy);
+        black_box((number, energy));
     })
 }
 
@@ -159,7 +157,9 @@ fn without_positions(both: &Both) -> mj::Design<'_> {
 fn count_of_no_position(both: &Rc<Both>) -> Box<dyn FnMut()> {
     let both = both.clone();
     Box::new(move || {
-        black_box(mj::states_count(black_box(without_positions(&both))));
+        let (mut place, mut count) = (0, 0);
+        let design = black_box(without_positions(&both));
+        black_box((mj::states(design, &mut place, &mut count), count));
     })
 }
 
@@ -167,10 +167,10 @@ fn count_of_no_position(both: &Rc<Both>) -> Box<dyn FnMut()> {
 fn search_of_no_position(both: &Rc<Both>) -> Box<dyn FnMut()> {
     let both = both.clone();
     Box::new(move || {
-        black_box(mj::search_energy(
-            black_box(without_positions(&both)),
-            &mut [],
-        ));
+        let (mut place, mut energy) = (0, 0.0);
+        let design = black_box(without_positions(&both));
+        let number = mj::search(design, &mut [], &mut place, &mut energy);
+        black_box((number, energy));
     })
 }
 

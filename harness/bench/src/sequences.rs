@@ -26,58 +26,46 @@ pub fn rows() -> Vec<Row> {
     for length in [16, 256] {
         let ones: Vec<String> = (0..INPUTS).map(|_| one(&mut random, length)).collect();
         ones.iter().for_each(check_one);
-        rows.extend(pair_of_rows(
+        rows.push(row(
             format!("one sequence of {length}"),
             ones,
             |s| black_box(utils::string_dna_dg_ds(s)),
-            |s| black_box(mj::sequence_dg(s.as_bytes())),
             |s| {
-                let s = s.as_bytes();
-                black_box((
-                    mj::sequence_reply(s),
-                    mj::sequence_dg(s),
-                    mj::sequence_ds(s),
-                ))
+                let (mut dg, mut ds) = (0.0, 0.0);
+                black_box((mj::sequence(s.as_bytes(), &mut dg, &mut ds), dg, ds))
             },
         ));
         let twos: Vec<Two> = (0..INPUTS).map(|_| two(&mut random, length)).collect();
         twos.iter().for_each(check_two);
-        rows.extend(pair_of_rows(
+        rows.push(row(
             format!("two sequences of {length}"),
             twos,
             |(a, b)| black_box(utils::sequence_pair_str_dg_ds(a, b)),
-            |(a, b)| black_box(mj::pair_dg(a.as_bytes(), b.as_bytes())),
             |(a, b)| {
-                let (a, b) = (a.as_bytes(), b.as_bytes());
-                black_box((mj::pair_reply(a, b), mj::pair_dg(a, b), mj::pair_ds(a, b)))
+                let (mut dg, mut ds) = (0.0, 0.0);
+                let number = mj::pair(a.as_bytes(), b.as_bytes(), &mut dg, &mut ds);
+                black_box((number, dg, ds))
             },
         ));
     }
     rows
 }
 
-/// A C function works out its whole call and answers one figure of it, so one function stands
-/// beside one call of the Rust, which answers both figures. A client that wants reply, dG and dS
-/// calls three.
-fn pair_of_rows<T: 'static, R, P, Q>(
+/// One call of the Rust, which answers dG and dS, and one of the port, which answers the reply too.
+fn row<T: 'static, R, P>(
     label: String,
     inputs: Vec<T>,
-    rust: impl Fn(&T) -> R + Copy + 'static,
-    one_function: impl Fn(&T) -> P + 'static,
-    three_functions: impl Fn(&T) -> Q + 'static,
-) -> [Row; 2] {
+    rust: impl Fn(&T) -> R + 'static,
+    port: impl Fn(&T) -> P + 'static,
+) -> Row {
     let inputs = Rc::new(inputs);
-    let row = |what: &str, port| Row {
-        label: format!("{label}, {what}"),
+    Row {
+        label,
         cleared: CLEARED,
         inputs: inputs.len(),
         rust: over_all(&inputs, rust),
-        port,
-    };
-    [
-        row("one function", over_all(&inputs, one_function)),
-        row("reply, dG and dS", over_all(&inputs, three_functions)),
-    ]
+        port: over_all(&inputs, port),
+    }
 }
 
 fn over_all<T: 'static, R>(

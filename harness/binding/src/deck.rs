@@ -1,94 +1,89 @@
-//! Stored configurations: reading and writing a deck's words.
+//! Stored configurations: reading, writing and moving a deck's words. A form is 0, as document 01
+//! has it, or 1, with runs.
 
 mod c {
     extern "C" {
-        pub fn mj_deck_read_reply(
+        pub fn mj_deck_read(
+            form: u32,
             words: *const u32,
             n: usize,
             entries: *mut u8,
             lent: usize,
+            place: *mut u64,
+            count: *mut u64,
         ) -> u32;
-        pub fn mj_deck_read_count(
-            words: *const u32,
-            n: usize,
-            entries: *mut u8,
-            lent: usize,
-        ) -> usize;
-        pub fn mj_deck_read_place(
-            words: *const u32,
-            n: usize,
-            entries: *mut u8,
-            lent: usize,
-        ) -> usize;
-        pub fn mj_deck_write_reply(
+        pub fn mj_deck_write(
+            form: u32,
             configuration: *const u8,
             n: usize,
             words: *mut u32,
             lent: usize,
+            count: *mut u64,
         ) -> u32;
-        pub fn mj_deck_write_count(
-            configuration: *const u8,
+        pub fn mj_deck_move(
+            form: u32,
+            words: *const u32,
             n: usize,
-            words: *mut u32,
+            moved: *mut u32,
             lent: usize,
-        ) -> usize;
+            place: *mut u64,
+            count: *mut u64,
+        ) -> u32;
     }
 }
 
-// SAFETY, for every call in this file: pointers and lengths are those of live slices; the first is
-// only read, the second is lent to the call alone, and the function keeps neither.
+// SAFETY, for every call in this file: pointers and lengths are those of live slices and numbers;
+// what is written is lent to the call alone, all else is only read, and none is kept.
 
-pub fn deck_read_reply(words: &[u32], entries: &mut [u8]) -> u32 {
+pub fn deck_read(
+    form: u32,
+    words: &[u32],
+    entries: &mut [u8],
+    place: &mut u64,
+    count: &mut u64,
+) -> u32 {
     unsafe {
-        c::mj_deck_read_reply(
+        c::mj_deck_read(
+            form,
             words.as_ptr(),
             words.len(),
             entries.as_mut_ptr(),
             entries.len(),
+            place,
+            count,
         )
     }
 }
 
-pub fn deck_read_count(words: &[u32], entries: &mut [u8]) -> usize {
+pub fn deck_write(form: u32, configuration: &[u8], words: &mut [u32], count: &mut u64) -> u32 {
     unsafe {
-        c::mj_deck_read_count(
-            words.as_ptr(),
-            words.len(),
-            entries.as_mut_ptr(),
-            entries.len(),
-        )
-    }
-}
-
-pub fn deck_read_place(words: &[u32], entries: &mut [u8]) -> usize {
-    unsafe {
-        c::mj_deck_read_place(
-            words.as_ptr(),
-            words.len(),
-            entries.as_mut_ptr(),
-            entries.len(),
-        )
-    }
-}
-
-pub fn deck_write_reply(configuration: &[u8], words: &mut [u32]) -> u32 {
-    unsafe {
-        c::mj_deck_write_reply(
+        c::mj_deck_write(
+            form,
             configuration.as_ptr(),
             configuration.len(),
             words.as_mut_ptr(),
             words.len(),
+            count,
         )
     }
 }
 
-pub fn deck_write_count(configuration: &[u8], words: &mut [u32]) -> usize {
+pub fn deck_move(
+    form: u32,
+    words: &[u32],
+    moved: &mut [u32],
+    place: &mut u64,
+    count: &mut u64,
+) -> u32 {
     unsafe {
-        c::mj_deck_write_count(
-            configuration.as_ptr(),
-            configuration.len(),
-            words.as_mut_ptr(),
+        c::mj_deck_move(
+            form,
+            words.as_ptr(),
             words.len(),
+            moved.as_mut_ptr(),
+            moved.len(),
+            place,
+            count,
         )
     }
 }

@@ -18,9 +18,9 @@ pub struct Design<'a> {
 }
 
 /// Declares functions that take a design and then what is named, and hands a `Design` over to
-/// each: five pointers with their lengths, and three doubles.
+/// each: five pointers with their lengths, and three doubles. Each answers the reply number.
 macro_rules! functions_of_a_design {
-    ($($name:ident($($own:ident: $kind:ty),*) -> $given:ty;)*) => {
+    ($($name:ident($($own:ident: $kind:ty),*);)*) => {
         mod c {
             extern "C" {
                 $(pub fn $name(
@@ -38,11 +38,11 @@ macro_rules! functions_of_a_design {
                     strand_excess: f64,
                     scaffold_excess: f64
                     $(, $own: $kind)*
-                ) -> $given;)*
+                ) -> u32;)*
             }
         }
 
-        $(unsafe fn $name(design: Design $(, $own: $kind)*) -> $given {
+        $(unsafe fn $name(design: Design $(, $own: $kind)*) -> u32 {
             c::$name(
                 design.scaffold.as_ptr(),
                 design.scaffold.len(),
@@ -64,89 +64,81 @@ macro_rules! functions_of_a_design {
 }
 
 functions_of_a_design! {
-    mj_strand_bond_reply(x: u8, y: u8) -> u32;
-    mj_strand_bond(x: u8, y: u8) -> u64;
-    mj_scaffold_bond_reply(position: usize, strand: u8) -> u32;
-    mj_scaffold_bond(position: usize, strand: u8) -> u64;
-    mj_friends_reply(position: usize, entries: *mut u8, lent: usize) -> u32;
-    mj_friends_count(position: usize, entries: *mut u8, lent: usize) -> usize;
-    mj_states_reply() -> u32;
-    mj_states_count() -> u64;
-    mj_state_reply(rank: u64, entries: *mut u8, lent: usize) -> u32;
-    mj_state_energy_reply(configuration: *const u8, n: usize) -> u32;
-    mj_state_energy(configuration: *const u8, n: usize) -> u64;
-    mj_chain_energy_reply(configuration: *const u8, n: usize) -> u32;
-    mj_chain_energy(configuration: *const u8, n: usize) -> u64;
-    mj_chain_sum(configuration: *const u8, n: usize) -> u64;
-    mj_search_reply(configuration: *mut u8, lent: usize) -> u32;
-    mj_search_energy(configuration: *mut u8, lent: usize) -> u64;
+    mj_strand_bond(x: u8, y: u8, place: *mut u64, bond: *mut f64);
+    mj_scaffold_bond(position: usize, strand: u8, place: *mut u64, bond: *mut f64);
+    mj_friends(position: usize, entries: *mut u8, lent: usize, place: *mut u64, count: *mut u64);
+    mj_states(place: *mut u64, count: *mut u64);
+    mj_state(rank: u64, entries: *mut u8, lent: usize, place: *mut u64);
+    mj_state_energy(configuration: *const u8, n: usize, place: *mut u64, energy: *mut f64);
+    mj_chain_energy(
+        configuration: *const u8,
+        n: usize,
+        place: *mut u64,
+        sum: *mut f64,
+        energy: *mut f64
+    );
+    mj_search(configuration: *mut u8, lent: usize, place: *mut u64, energy: *mut f64);
 }
 
-// SAFETY, for every call in this file: pointers and lengths are those of live slices; what is
-// lent to be written is lent to the call alone, all else is only read, and none is kept.
+// SAFETY, for every call in this file: pointers and lengths are those of live slices and numbers;
+// what is written is lent to the call alone, all else is only read, and none is kept.
 
-pub fn strand_bond_reply(design: Design, x: u8, y: u8) -> u32 {
-    unsafe { mj_strand_bond_reply(design, x, y) }
+pub fn strand_bond(design: Design, x: u8, y: u8, place: &mut u64, bond: &mut f64) -> u32 {
+    unsafe { mj_strand_bond(design, x, y, place, bond) }
 }
 
-pub fn strand_bond(design: Design, x: u8, y: u8) -> u64 {
-    unsafe { mj_strand_bond(design, x, y) }
+pub fn scaffold_bond(
+    design: Design,
+    position: usize,
+    strand: u8,
+    place: &mut u64,
+    bond: &mut f64,
+) -> u32 {
+    unsafe { mj_scaffold_bond(design, position, strand, place, bond) }
 }
 
-pub fn scaffold_bond_reply(design: Design, position: usize, strand: u8) -> u32 {
-    unsafe { mj_scaffold_bond_reply(design, position, strand) }
+pub fn friends(
+    design: Design,
+    position: usize,
+    entries: &mut [u8],
+    place: &mut u64,
+    count: &mut u64,
+) -> u32 {
+    let (start, lent) = (entries.as_mut_ptr(), entries.len());
+    unsafe { mj_friends(design, position, start, lent, place, count) }
 }
 
-pub fn scaffold_bond(design: Design, position: usize, strand: u8) -> u64 {
-    unsafe { mj_scaffold_bond(design, position, strand) }
+pub fn states(design: Design, place: &mut u64, count: &mut u64) -> u32 {
+    unsafe { mj_states(design, place, count) }
 }
 
-pub fn friends_reply(design: Design, position: usize, entries: &mut [u8]) -> u32 {
-    unsafe { mj_friends_reply(design, position, entries.as_mut_ptr(), entries.len()) }
+pub fn state(design: Design, rank: u64, entries: &mut [u8], place: &mut u64) -> u32 {
+    unsafe { mj_state(design, rank, entries.as_mut_ptr(), entries.len(), place) }
 }
 
-pub fn friends_count(design: Design, position: usize, entries: &mut [u8]) -> usize {
-    unsafe { mj_friends_count(design, position, entries.as_mut_ptr(), entries.len()) }
+pub fn state_energy(
+    design: Design,
+    configuration: &[u8],
+    place: &mut u64,
+    energy: &mut f64,
+) -> u32 {
+    let (start, n) = (configuration.as_ptr(), configuration.len());
+    unsafe { mj_state_energy(design, start, n, place, energy) }
 }
 
-pub fn states_reply(design: Design) -> u32 {
-    unsafe { mj_states_reply(design) }
+/// `sum` is the chain energy as it is, `energy` RT times it.
+pub fn chain_energy(
+    design: Design,
+    configuration: &[u8],
+    place: &mut u64,
+    sum: &mut f64,
+    energy: &mut f64,
+) -> u32 {
+    let (start, n) = (configuration.as_ptr(), configuration.len());
+    unsafe { mj_chain_energy(design, start, n, place, sum, energy) }
 }
 
-pub fn states_count(design: Design) -> u64 {
-    unsafe { mj_states_count(design) }
-}
-
-pub fn state_reply(design: Design, rank: u64, entries: &mut [u8]) -> u32 {
-    unsafe { mj_state_reply(design, rank, entries.as_mut_ptr(), entries.len()) }
-}
-
-pub fn state_energy_reply(design: Design, configuration: &[u8]) -> u32 {
-    unsafe { mj_state_energy_reply(design, configuration.as_ptr(), configuration.len()) }
-}
-
-pub fn state_energy(design: Design, configuration: &[u8]) -> u64 {
-    unsafe { mj_state_energy(design, configuration.as_ptr(), configuration.len()) }
-}
-
-pub fn chain_energy_reply(design: Design, configuration: &[u8]) -> u32 {
-    unsafe { mj_chain_energy_reply(design, configuration.as_ptr(), configuration.len()) }
-}
-
-/// Times RT.
-pub fn chain_energy(design: Design, configuration: &[u8]) -> u64 {
-    unsafe { mj_chain_energy(design, configuration.as_ptr(), configuration.len()) }
-}
-
-/// As it is.
-pub fn chain_sum(design: Design, configuration: &[u8]) -> u64 {
-    unsafe { mj_chain_sum(design, configuration.as_ptr(), configuration.len()) }
-}
-
-pub fn search_reply(design: Design, configuration: &mut [u8]) -> u32 {
-    unsafe { mj_search_reply(design, configuration.as_mut_ptr(), configuration.len()) }
-}
-
-pub fn search_energy(design: Design, configuration: &mut [u8]) -> u64 {
-    unsafe { mj_search_energy(design, configuration.as_mut_ptr(), configuration.len()) }
+pub fn search(design: Design, configuration: &mut [u8], place: &mut u64, energy: &mut f64) -> u32 {
+    let (start, lent) = (configuration.as_mut_ptr(), configuration.len());
+    unsafe { mj_search(design, start, lent, place, energy) }
 }

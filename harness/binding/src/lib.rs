@@ -2,8 +2,10 @@
 //!
 //! Nothing checks these declarations against the Rattle source; they are held by the comparison
 //! and by the clients' tests. No function asks anything of its input, so a wrapper only has to
-//! hand over a slice as a pointer and a length. The pointer of an empty slice is dangling but
-//! never null.
+//! hand over a slice as a pointer and a length, and a number to be written as a pointer. The
+//! pointer of an empty slice is dangling but never null.
+//!
+//! A function is named as in the header, answers the reply number, and writes place and figures.
 
 mod deck;
 mod design;
@@ -12,19 +14,17 @@ mod params;
 mod sequences;
 mod temperature;
 
-pub use deck::{
-    deck_read_count, deck_read_place, deck_read_reply, deck_write_count, deck_write_reply,
-};
+pub use deck::{deck_move, deck_read, deck_write};
 pub use design::{
-    chain_energy, chain_energy_reply, chain_sum, friends_count, friends_reply, scaffold_bond,
-    scaffold_bond_reply, search_energy, search_reply, state_energy, state_energy_reply,
-    state_reply, states_count, states_reply, strand_bond, strand_bond_reply, Design,
+    chain_energy, friends, scaffold_bond, search, state, state_energy, states, strand_bond, Design,
 };
-pub use names::{name_is_base, name_length, name_reply, name_start, strand_glues_reply, Names};
-pub use params::{params_reply, Built, Params};
+pub use names::{name, strand_glues, Names};
+pub use params::{params, Built, Params};
 pub use sequences::{
-    loop_dg, loop_reply, pair_dg, pair_ds, pair_reply, pair_strength, pair_strength_reply,
-    published_dg, published_ds, published_reply, sequence_dg, sequence_ds, sequence_reply,
-    sequence_strength, sequence_strength_reply,
+    loop_penalty, pair, pair_dg, pair_ds, pair_reply, pair_strength, published_dg, published_ds,
+    published_reply, sequence, sequence_dg, sequence_ds, sequence_reply, sequence_strength,
 };
-pub use temperature::{ambient_reply, ambient_rt, ambient_scaffold_excess, ambient_strand_excess};
+pub use temperature::ambient;
+
+/// The place that is written where there is none.
+pub const NOWHERE: u64 = u64::MAX;

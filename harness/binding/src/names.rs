@@ -2,11 +2,16 @@
 
 mod c {
     extern "C" {
-        pub fn mj_name_reply(text: *const u8, n: usize, start: usize, length: usize) -> u32;
-        pub fn mj_name_start(text: *const u8, n: usize, start: usize, length: usize) -> usize;
-        pub fn mj_name_length(text: *const u8, n: usize, start: usize, length: usize) -> usize;
-        pub fn mj_name_is_base(text: *const u8, n: usize, start: usize, length: usize) -> u32;
-        pub fn mj_strand_glues_reply(
+        pub fn mj_name(
+            text: *const u8,
+            n: usize,
+            start: usize,
+            length: usize,
+            base_start: *mut u64,
+            base_length: *mut u64,
+            is_base: *mut u64,
+        ) -> u32;
+        pub fn mj_strand_glues(
             text: *const u8,
             n: usize,
             users: usize,
@@ -30,31 +35,34 @@ pub struct Names<'a> {
     pub marks: &'a [u8],
 }
 
-// SAFETY, for every call in this file: pointers and lengths are those of live slices; what is
-// lent to be written is lent to the call alone, all else is only read, and none is kept.
+// SAFETY, for every call in this file: pointers and lengths are those of live slices and numbers;
+// what is written is lent to the call alone, all else is only read, and none is kept.
 
-pub fn name_reply(text: &[u8], start: usize, length: usize) -> u32 {
-    unsafe { c::mj_name_reply(text.as_ptr(), text.len(), start, length) }
-}
-
-/// Of the base.
-pub fn name_start(text: &[u8], start: usize, length: usize) -> usize {
-    unsafe { c::mj_name_start(text.as_ptr(), text.len(), start, length) }
-}
-
-/// Of the base.
-pub fn name_length(text: &[u8], start: usize, length: usize) -> usize {
-    unsafe { c::mj_name_length(text.as_ptr(), text.len(), start, length) }
-}
-
-/// 1 where the name stands for its base, 0 where it stands for base* or is refused.
-pub fn name_is_base(text: &[u8], start: usize, length: usize) -> u32 {
-    unsafe { c::mj_name_is_base(text.as_ptr(), text.len(), start, length) }
-}
-
-pub fn strand_glues_reply(text: &[u8], users: usize, names: Names, glues: &mut [u8]) -> u32 {
+/// `is_base` is 1 where the name stands for its base, 0 where it stands for base*.
+pub fn name(
+    text: &[u8],
+    start: usize,
+    length: usize,
+    base_start: &mut u64,
+    base_length: &mut u64,
+    is_base: &mut u64,
+) -> u32 {
     unsafe {
-        c::mj_strand_glues_reply(
+        c::mj_name(
+            text.as_ptr(),
+            text.len(),
+            start,
+            length,
+            base_start,
+            base_length,
+            is_base,
+        )
+    }
+}
+
+pub fn strand_glues(text: &[u8], users: usize, names: Names, glues: &mut [u8]) -> u32 {
+    unsafe {
+        c::mj_strand_glues(
             text.as_ptr(),
             text.len(),
             users,

@@ -4,7 +4,7 @@ use crate::names::Names;
 
 mod c {
     extern "C" {
-        pub fn mj_params_reply(
+        pub fn mj_params(
             text: *const u8,
             text_count: usize,
             users: usize,
@@ -92,11 +92,11 @@ pub struct Built<'a> {
     pub ds: &'a mut [f64],
 }
 
-pub fn params_reply(set: Params, into: Built) -> u32 {
+pub fn params(set: Params, into: Built) -> u32 {
     // SAFETY: pointers and lengths are those of live slices; what is lent to be written is lent to
     // the call alone, all else is only read, and none is kept.
     unsafe {
-        c::mj_params_reply(
+        c::mj_params(
             set.text.as_ptr(),
             set.text.len(),
             set.users,

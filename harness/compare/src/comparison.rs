@@ -102,6 +102,11 @@ impl Asking<'_> {
             tally.complain(&format!("{how}; nothing was asked after that"));
             return;
         }
+        match self.kind.watched() {
+            Some(Ok(said)) => println!("{said}"),
+            Some(Err(said)) => tally.complain(&said),
+            None => (),
+        }
         let name = self.kind.name();
         for number in self.kind.replies() {
             if !self.tally.replies.contains_key(number) {
@@ -170,7 +175,11 @@ impl Asking<'_> {
                 *self.tally.notes.entry(note).or_default() += 1;
             }
         }
-        let difference = question.difference(self.kind, oracle_reply.as_ref(), &read(&port));
+        let port_reply = read(&port);
+        if let (0, Reply::Ok(figures)) = (number, &port_reply) {
+            self.kind.watch(&question.port, figures);
+        }
+        let difference = question.difference(self.kind, oracle_reply.as_ref(), &port_reply);
         if let Some(why) = difference {
             let oracle = oracle.as_deref().unwrap_or("(not asked)");
             self.show(question, why, oracle, &port);

@@ -34,8 +34,38 @@ pub const INTERESTING: [u32; 25] = [
     0xffff_ffff,
 ];
 
+/// The same for a deck with runs, fewer of the kinds that the forms share.
+pub const INTERESTING_RUNS: [u32; 18] = [
+    0x1000_0000,
+    0x1000_0002,
+    0x1000_0003,
+    0x1000_0080,
+    0x2000_0001,
+    0x3000_0000,
+    0x3000_0001,
+    0x3000_0002,
+    0x4000_0000,
+    0x4000_0001,
+    0x4000_0002,
+    0x4000_003f,
+    0x4000_0040,
+    0x4000_0041,
+    0x4000_1fff,
+    0x4000_2001,
+    0x4fff_ffff,
+    0x5000_0001,
+];
+
 /// Entries at and around the limit of strand numbers.
 pub const ENTRIES: [u8; 6] = [0, 1, 2, 63, 64, 255];
+
+fn any_interesting(random: &mut Random) -> u32 {
+    let place = random.below(INTERESTING.len() + INTERESTING_RUNS.len());
+    match place.checked_sub(INTERESTING.len()) {
+        None => INTERESTING[place],
+        Some(place) => INTERESTING_RUNS[place],
+    }
+}
 
 /// Every sequence of up to `most` elements, the shortest first.
 fn each_sequence<T: Copy>(elements: &[T], most: usize, mut ask: impl FnMut(&[T])) {
@@ -58,12 +88,18 @@ pub fn each_short_deck(most: usize, ask: impl FnMut(&[u32])) {
     each_sequence(&INTERESTING, most, ask);
 }
 
+/// Every sequence of up to `most` interesting words of a deck with runs; up to 4 they are 111,151.
+pub fn each_short_deck_with_runs(most: usize, ask: impl FnMut(&[u32])) {
+    each_sequence(&INTERESTING_RUNS, most, ask);
+}
+
 /// Every configuration of up to `most` of `ENTRIES`, some of them not admitted.
 pub fn each_short_configuration(most: usize, ask: impl FnMut(&[u8])) {
     each_sequence(&ENTRIES, most, ask);
 }
 
-/// A configuration that can be written: 0 to 128 entries of 0 to 63, empties often in runs.
+/// A configuration that can be written: 0 to 128 entries of 0 to 63, empties often in runs and
+/// strands sometimes.
 pub fn configuration(random: &mut Random) -> Vec<u8> {
     let length = match random.below(8) {
         0 => random.below(3),
@@ -77,7 +113,9 @@ pub fn configuration(random: &mut Random) -> Vec<u8> {
             let run = 1 + random.below(9);
             config.resize((config.len() + run).min(length), 0);
         } else {
-            config.push(1 + random.below(63) as u8);
+            let run = 1 + random.below(9) * (random.below(3) / 2);
+            let strand = 1 + random.below(63) as u8;
+            config.resize((config.len() + run).min(length), strand);
         }
     }
     config
@@ -120,6 +158,37 @@ pub fn deck(random: &mut Random) -> Vec<u32> {
     words
 }
 
+/// A valid deck with runs.
+pub fn deck_with_runs(random: &mut Random) -> Vec<u32> {
+    let positions = match random.below(8) {
+        0 => random.below(4),
+        1 => 128,
+        _ => random.below(129),
+    };
+    let mut words = vec![0x1000_0000 | positions as u32];
+    let longest = [1, 3, 12, 128][random.below(4)];
+    let mut left = positions;
+    let mut last = 64;
+    while left > 0 {
+        let run = 1 + random.below(left.min(longest));
+        let occupant = match random.below(3) {
+            0 => 0,
+            1 => 1 + random.below(3),
+            _ => 1 + random.below(63),
+        };
+        if occupant == last {
+            continue;
+        }
+        words.push(match occupant {
+            0 => 0x3000_0000 | run as u32,
+            strand => 0x4000_0000 | (strand + 64 * (run - 1)) as u32,
+        });
+        last = occupant;
+        left -= run;
+    }
+    words
+}
+
 /// The words with one to three damages: a bit turned, a word replaced, lost, doubled or moved, words
 /// added at the end.
 pub fn damaged(words: &[u32], random: &mut Random) -> Vec<u32> {
@@ -131,7 +200,7 @@ pub fn damaged(words: &[u32], random: &mut Random) -> Vec<u32> {
         let place = random.below(damaged.len());
         match random.below(7) {
             0 => damaged[place] ^= 1 << random.below(32),
-            1 => damaged[place] = INTERESTING[random.below(INTERESTING.len())],
+            1 => damaged[place] = any_interesting(random),
             2 => drop(damaged.remove(place)),
             3 => damaged.insert(place, damaged[place]),
             4 => damaged.swap(0, place),
@@ -148,12 +217,13 @@ pub fn damaged(words: &[u32], random: &mut Random) -> Vec<u32> {
 pub fn long(random: &mut Random) -> Vec<u32> {
     let mut words = vec![0x1000_0080 - random.below(3) as u32];
     let length = random.below(MOST_WORDS + 1);
+    let kind = [0x2000_0000, 0x4000_0000][random.below(2)];
     while words.len() < length {
         words.push(match random.below(40) {
-            0 => INTERESTING[random.below(INTERESTING.len())],
+            0 => any_interesting(random),
             1 => 0x3000_0001,
             2 => (random.below(1 << 16) as u32) << 16 | random.below(1 << 16) as u32,
-            _ => 0x2000_0001 + random.below(63) as u32,
+            _ => kind + 1 + random.below(63) as u32,
         });
     }
     words

@@ -4,7 +4,7 @@
 //!   is compared.
 //! * `judge`: document 01's refusals, and answers that the Rust lacks, from the document alone.
 //! * `question`: what is asked and expected, and when an answer differs.
-//! * `comparison`, `program`, `tally`: the run.
+//! * `comparison`, `program`, `tally`: the run; `parting`: how far two energies part in it.
 //! * `random`, `bases`, `doubles`, `decks`, `designs`, `ambients`, `parameters`: what the
 //!   generators draw from.
 //! * `replay`: the fixed list of answers for the Rattle program of that name.
@@ -18,6 +18,7 @@ pub mod doubles;
 pub mod judge;
 pub mod kinds;
 pub mod parameters;
+pub mod parting;
 pub mod program;
 pub mod question;
 pub mod random;

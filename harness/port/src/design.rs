@@ -4,13 +4,10 @@
 //! A concentration is the potential itself, as in the oracle's mode `id`. The setters make the
 //! design; `d.build` checks nothing, so that every question meets what was set.
 
-use crate::reply;
-use crate::slices::list;
+use crate::slices::{list, Filled};
+use crate::{counted, placed, reply, DOUBLE, WHOLE};
 use mujplesten as mj;
 use protocol::{double, expect_words, joined, whole, Complaint, Reply, Words};
-
-/// What a slice that is lent to be written holds before a call: no strand.
-const ENTRY: u8 = 0xa5;
 
 /// Entries that friends are written into.
 const FRIENDS: usize = 64;
@@ -168,97 +165,84 @@ impl Lent {
     }
 
     fn strand_bond(&self, x: u8, y: u8) -> Reply {
-        let design = self.design();
-        let figures = [mj::strand_bond(design, x, y)];
-        reply(mj::strand_bond_reply(design, x, y), &figures)
+        let (mut place, mut bond) = (WHOLE, DOUBLE);
+        let number = mj::strand_bond(self.design(), x, y, &mut place, &mut bond);
+        placed(number, place, &[bond])
     }
 
     fn scaffold_bond(&self, position: usize, strand: u8) -> Reply {
-        let design = self.design();
-        let figures = [mj::scaffold_bond(design, position, strand)];
-        reply(mj::scaffold_bond_reply(design, position, strand), &figures)
+        let (mut place, mut bond) = (WHOLE, DOUBLE);
+        let number = mj::scaffold_bond(self.design(), position, strand, &mut place, &mut bond);
+        placed(number, place, &[bond])
     }
 
     /// The friends, as the oracle lists them; in `full`, their number and every lent entry.
     fn friends(&self, position: usize, lent: usize, full: bool) -> Reply {
-        let mut after = [vec![ENTRY; lent], vec![ENTRY; lent]];
-        let number = mj::friends_reply(self.design(), position, &mut after[0]);
-        let count = mj::friends_count(self.design(), position, &mut after[1]);
-        if after[0] != after[1] {
-            return Reply::Err("the functions of one call leave different slices".to_string());
-        }
-        let [entries, _] = after;
-        if number != 0 {
-            return refused_kept(number, count as u64, &entries);
-        }
-        if full {
-            return Reply::Ok(format!("{count} {}", joined(entries, ",")));
-        }
-        match entries.get(..count) {
-            Some(friends) => Reply::Ok(joined(friends, ",")),
-            None => Reply::Err(format!("{count} friends")),
-        }
+        let mut entries = Filled::bytes(lent);
+        let (mut place, mut count) = (WHOLE, WHOLE);
+        let slice = &mut entries.slice;
+        let number = mj::friends(self.design(), position, slice, &mut place, &mut count);
+        let told = match slice.get(..count as usize) {
+            _ if full => format!("{count} {}", joined(&*slice, ",")),
+            Some(friends) => joined(friends, ","),
+            None => return Reply::Err(format!("{count} friends")),
+        };
+        counted(number, place, told, count == 0 && entries.is_kept())
     }
 
     fn count(&self) -> Reply {
-        let count = mj::states_count(self.design());
-        match mj::states_reply(self.design()) {
-            0 => Reply::Ok(count.to_string()),
-            number => refused_kept(number, count, &[]),
-        }
+        let (mut place, mut count) = (WHOLE, WHOLE);
+        let number = mj::states(self.design(), &mut place, &mut count);
+        counted(number, place, count.to_string(), count == 0)
     }
 
     fn state(&self, rank: u64, lent: usize) -> Reply {
-        let mut entries = vec![ENTRY; lent];
-        match mj::state_reply(self.design(), rank, &mut entries) {
-            0 => Reply::Ok(joined(entries, ",")),
-            number => refused_kept(number, 0, &entries),
-        }
+        let mut entries = Filled::bytes(lent);
+        let mut place = WHOLE;
+        let number = mj::state(self.design(), rank, &mut entries.slice, &mut place);
+        let told = joined(&entries.slice, ",");
+        counted(number, place, told, entries.is_kept())
     }
 
     fn state_energy(&self, configuration: &[u8]) -> Reply {
-        let design = self.design();
-        let figures = [mj::state_energy(design, configuration)];
-        reply(mj::state_energy_reply(design, configuration), &figures)
+        let (mut place, mut energy) = (WHOLE, DOUBLE);
+        let number = mj::state_energy(self.design(), configuration, &mut place, &mut energy);
+        placed(number, place, &[energy])
     }
 
     /// The bare sum, as the oracle gives it; in `full`, also times RT.
     fn chain(&self, configuration: &[u8], full: bool) -> Reply {
+        let (mut place, mut sum, mut energy) = (WHOLE, DOUBLE, DOUBLE);
         let design = self.design();
-        let number = mj::chain_energy_reply(design, configuration);
-        let figures = [
-            mj::chain_sum(design, configuration),
-            mj::chain_energy(design, configuration),
-        ];
-        match reply(number, &figures) {
-            Reply::Ok(_) if !full => reply(0, &figures[..1]),
+        let number = mj::chain_energy(design, configuration, &mut place, &mut sum, &mut energy);
+        match placed(number, place, &[sum, energy]) {
+            Reply::Ok(_) if !full => reply(0, &[sum]),
             other => other,
         }
+    }
+
+    /// What the search answers, the entries that it was lent, and its energy.
+    fn searched(&self, lent: usize) -> (Reply, f64) {
+        let mut entries = Filled::bytes(lent);
+        let (mut place, mut energy) = (WHOLE, DOUBLE);
+        let slice = &mut entries.slice;
+        let number = mj::search(self.design(), slice, &mut place, &mut energy);
+        let bits = energy.to_bits();
+        let told = format!("{bits:016x} {}", joined(&*slice, ","));
+        let none = bits == 0 && entries.is_kept();
+        (counted(number, place, told, none), energy)
     }
 
     /// Energy and configuration, as the oracle gives them.
     fn search(&self, lent: usize) -> Reply {
-        let mut after = [vec![ENTRY; lent], vec![ENTRY; lent]];
-        let number = mj::search_reply(self.design(), &mut after[0]);
-        let energy = mj::search_energy(self.design(), &mut after[1]);
-        if after[0] != after[1] {
-            return Reply::Err("the functions of one call leave different slices".to_string());
-        }
-        let [entries, _] = after;
-        match number {
-            0 => Reply::Ok(format!("{energy:016x} {}", joined(entries, ","))),
-            number => refused_kept(number, energy, &entries),
-        }
+        self.searched(lent).0
     }
 
     /// The search's energy with 0.0 for either zero, since the walk's is compared as a double.
     fn level(&self) -> Reply {
-        match self.search(self.scaffold.len()) {
-            Reply::Ok(figures) => {
-                let energy = u64::from_str_radix(&figures[..16], 16).expect("16 digits");
-                reply(0, &[(f64::from_bits(energy) + 0.0).to_bits()])
-            }
-            other => other,
+        match self.searched(self.scaffold.len()) {
+            (Reply::Ok(_), energy) => reply(0, &[energy + 0.0]),
+            (other, _) => other,
         }
     }
 
@@ -268,13 +252,14 @@ impl Lent {
         separator: &str,
         one: impl Fn(&Lent, &[u8]) -> Reply,
     ) -> Result<Reply, Complaint> {
-        let Reply::Ok(_) = self.count() else {
+        let (mut place, mut count) = (WHOLE, WHOLE);
+        if mj::states(self.design(), &mut place, &mut count) != 0 {
             return Ok(self.count());
-        };
+        }
         let mut figures = vec![];
-        for rank in 0..mj::states_count(self.design()) {
-            let mut state = vec![ENTRY; self.scaffold.len()];
-            if mj::state_reply(self.design(), rank, &mut state) != 0 {
+        for rank in 0..count {
+            let mut state = Filled::bytes(self.scaffold.len()).slice;
+            if mj::state(self.design(), rank, &mut state, &mut place) != 0 {
                 return Err(format!("no state at the rank {rank}"));
             }
             match one(self, &state) {
@@ -283,17 +268,6 @@ impl Lent {
             }
         }
         Ok(Reply::Ok(joined(figures, separator)))
-    }
-}
-
-/// A refusal carries no count and leaves what was lent as it was.
-fn refused_kept(number: u32, count: u64, entries: &[u8]) -> Reply {
-    if count != 0 {
-        Reply::Err(format!("refused {number} with the count {count}"))
-    } else if entries.iter().any(|entry| *entry != ENTRY) {
-        Reply::Err(format!("refused {number} after writing"))
-    } else {
-        Reply::refused(number)
     }
 }
 

@@ -2,6 +2,7 @@
 //! USERS NAMES LENT` the numbers of all strand glues.
 
 use crate::slices::{numbers_and_bytes, Filled};
+use crate::WHOLE;
 use mujplesten as mj;
 use protocol::{bytes, expect_words, joined, sequence_word, whole, Complaint, Reply, Words};
 
@@ -22,12 +23,8 @@ pub fn answer(words: Words) -> Result<Reply, Complaint> {
 
 /// The base as it is spelled, or in `full` where it lies, and whether the name stands for it.
 fn base(text: &[u8], start: usize, length: usize, full: bool) -> Result<Reply, Complaint> {
-    let number = mj::name_reply(text, start, length);
-    let (from, size) = (
-        mj::name_start(text, start, length),
-        mj::name_length(text, start, length),
-    );
-    let is_base = mj::name_is_base(text, start, length);
+    let (mut from, mut size, mut is_base) = (WHOLE, WHOLE, WHOLE);
+    let number = mj::name(text, start, length, &mut from, &mut size, &mut is_base);
     if number != 0 {
         return match (from, size, is_base) {
             (0, 0, 0) => Ok(Reply::refused(number)),
@@ -37,7 +34,9 @@ fn base(text: &[u8], start: usize, length: usize, full: bool) -> Result<Reply, C
     if full {
         return Ok(Reply::Ok(format!("{from} {size} {is_base}")));
     }
-    let base = text.get(from..).and_then(|rest| rest.get(..size));
+    let base = text
+        .get(from as usize..)
+        .and_then(|rest| rest.get(..size as usize));
     let base = base.ok_or("the base leaves the text")?;
     Ok(Reply::Ok(format!("{} {is_base}", sequence_word(base))))
 }
@@ -50,7 +49,7 @@ fn glues(text: &[u8], users: usize, names: &str, lent: usize) -> Result<Reply, C
         marks: &marks,
     };
     let mut glues = Filled::bytes(lent);
-    match mj::strand_glues_reply(text, users, names, &mut glues.slice) {
+    match mj::strand_glues(text, users, names, &mut glues.slice) {
         0 => Ok(Reply::Ok(joined(&glues.slice, ","))),
         number if glues.is_kept() => Ok(Reply::refused(number)),
         number => Err(format!("refused {number} after writing")),

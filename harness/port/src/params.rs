@@ -63,7 +63,7 @@ fn build(set: mj::Params, lent: &[usize]) -> Result<Reply, Complaint> {
         dg: &mut dg.slice,
         ds: &mut ds.slice,
     };
-    let number = mj::params_reply(set, into);
+    let number = mj::params(set, into);
     if number == 0 {
         let strands = strand_glues.slice.chunks(3).map(|sides| joined(sides, "."));
         return Ok(Reply::Ok(format!(

@@ -1,6 +1,6 @@
 //! Lines about sequences and loops.
 
-use crate::reply;
+use crate::{reply, DOUBLE};
 use mujplesten as mj;
 use protocol::{bytes, double, expect_words, whole, Complaint, Reply, Words};
 
@@ -9,8 +9,14 @@ pub fn answer(words: Words) -> Result<Reply, Complaint> {
         "seq" => {
             expect_words(words, &[1])?;
             let s = sequence(words[1])?;
-            let figures = [mj::sequence_dg(&s), mj::sequence_ds(&s)];
-            Ok(reply(mj::sequence_reply(&s), &figures))
+            let (mut dg, mut ds) = (DOUBLE, DOUBLE);
+            let number = mj::sequence(&s, &mut dg, &mut ds);
+            let one_by_one = (
+                mj::sequence_reply(&s),
+                mj::sequence_dg(&s),
+                mj::sequence_ds(&s),
+            );
+            told(number, [dg, ds], one_by_one)
         }
         "published" => {
             expect_words(words, &[1])?;
@@ -21,33 +27,40 @@ pub fn answer(words: Words) -> Result<Reply, Complaint> {
         "pair" => {
             expect_words(words, &[2])?;
             let (a, b) = (sequence(words[1])?, sequence(words[2])?);
-            let figures = [mj::pair_dg(&a, &b), mj::pair_ds(&a, &b)];
-            Ok(reply(mj::pair_reply(&a, &b), &figures))
+            let (mut dg, mut ds) = (DOUBLE, DOUBLE);
+            let number = mj::pair(&a, &b, &mut dg, &mut ds);
+            let one_by_one = (
+                mj::pair_reply(&a, &b),
+                mj::pair_dg(&a, &b),
+                mj::pair_ds(&a, &b),
+            );
+            told(number, [dg, ds], one_by_one)
         }
         "loop" => {
             expect_words(words, &[2])?;
-            let (length, kind) = (whole(words[1])?, whole(words[2])?);
-            let figures = [mj::loop_dg(length, kind)];
-            Ok(reply(mj::loop_reply(length, kind), &figures))
+            let mut dg = DOUBLE;
+            let number = mj::loop_penalty(whole(words[1])?, whole(words[2])?, &mut dg);
+            Ok(reply(number, &[dg]))
         }
         "strengthx" => {
             expect_words(words, &[2, 3])?;
             let (excess, a) = (double(words[1])?, sequence(words[2])?);
-            Ok(match words.get(3) {
-                None => reply(
-                    mj::sequence_strength_reply(&a, excess),
-                    &[mj::sequence_strength(&a, excess)],
-                ),
-                Some(word) => {
-                    let b = sequence(word)?;
-                    reply(
-                        mj::pair_strength_reply(&a, &b, excess),
-                        &[mj::pair_strength(&a, &b, excess)],
-                    )
-                }
-            })
+            let mut strength = DOUBLE;
+            let number = match words.get(3) {
+                None => mj::sequence_strength(&a, excess, &mut strength),
+                Some(word) => mj::pair_strength(&a, &sequence(word)?, excess, &mut strength),
+            };
+            Ok(reply(number, &[strength]))
         }
         other => Err(format!("no such line {other}")),
+    }
+}
+
+/// One call tells all that the functions of one figure do.
+fn told(number: u32, [dg, ds]: [f64; 2], one_by_one: (u32, u64, u64)) -> Result<Reply, Complaint> {
+    match (number, dg.to_bits(), ds.to_bits()) == one_by_one {
+        true => Ok(reply(number, &[dg, ds])),
+        false => Err("the functions of one call answer differently".to_string()),
     }
 }
 

@@ -1,5 +1,6 @@
 //! Lists of a line as slices, and slices that are lent to be written.
 
+use crate::DOUBLE;
 use protocol::{whole, Complaint};
 
 /// The lists of a word: `,` within, `;` between, `-` for an empty one.
@@ -43,11 +44,20 @@ impl Filled<u8> {
     }
 }
 
+impl Filled<u32> {
+    pub fn words(length: usize) -> Self {
+        Filled {
+            slice: vec![0xa5a5_a5a5; length],
+            before: 0xa5a5_a5a5,
+        }
+    }
+}
+
 impl Filled<f64> {
     pub fn doubles(length: usize) -> Self {
         Filled {
-            slice: vec![-1.25e-77; length],
-            before: -1.25e-77,
+            slice: vec![DOUBLE; length],
+            before: DOUBLE,
         }
     }
 }

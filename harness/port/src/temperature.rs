@@ -1,6 +1,6 @@
 //! The line `ambient K T`, in the oracle's layout.
 
-use crate::reply;
+use crate::{reply, DOUBLE};
 use mujplesten as mj;
 use protocol::{double, expect_words, Complaint, Reply, Words};
 
@@ -12,12 +12,9 @@ pub fn answer(words: Words) -> Result<Reply, Complaint> {
         return Err("the port's ambient takes kelvins".to_string());
     }
     let kelvin = double(words[2])?;
-    let number = mj::ambient_reply(kelvin);
-    let rt = mj::ambient_rt(kelvin);
-    let excesses = [
-        mj::ambient_strand_excess(kelvin),
-        mj::ambient_scaffold_excess(kelvin),
-    ];
-    let asked = if number == 0 { kelvin.to_bits() } else { 0 };
-    Ok(reply(number, &[asked, rt, rt, excesses[0], excesses[1]]))
+    let (mut rt, mut strand_excess, mut scaffold_excess) = (DOUBLE, DOUBLE, DOUBLE);
+    let number = mj::ambient(kelvin, &mut rt, &mut strand_excess, &mut scaffold_excess);
+    let asked = if number == 0 { kelvin } else { 0.0 };
+    let figures = [asked, rt, rt, strand_excess, scaffold_excess];
+    Ok(reply(number, &figures))
 }

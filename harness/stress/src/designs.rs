@@ -1,6 +1,6 @@
 //! Calls that take a design.
 
-use crate::guarded::Guarded;
+use crate::guarded::{Figure, Guarded};
 use crate::{near, Tally};
 use compare::designs::{design, Ambient, Shape, SORTS};
 use compare::doubles::not_finite;
@@ -97,38 +97,42 @@ impl Asked<'_> {
         let design = self.design;
         let (x, y) = (self.strand(random), self.strand(random));
         let position = near(random, self.positions.saturating_sub(1));
-        let none = |number: u32, figure: u64| number == 0 || figure == 0;
+        let mut place = Figure::whole();
         match random.below(8) {
             0 => {
-                let number = mj::strand_bond_reply(design, x, y);
-                let fit = none(number, mj::strand_bond(design, x, y));
+                let mut bond = Figure::double();
+                let number = mj::strand_bond(design, x, y, place.lent(), bond.lent());
+                let fit = place.is_place(number) && bond.is_fit(number);
                 tally.call("strand_bond", number, fit);
             }
             1 => {
-                let number = mj::scaffold_bond_reply(design, position, x);
-                let fit = none(number, mj::scaffold_bond(design, position, x));
+                let mut bond = Figure::double();
+                let number = mj::scaffold_bond(design, position, x, place.lent(), bond.lent());
+                let fit = place.is_place(number) && bond.is_fit(number);
                 tally.call("scaffold_bond", number, fit);
             }
             2 => {
-                let number = mj::states_reply(design);
-                tally.call("states", number, none(number, mj::states_count(design)));
+                let mut count = Figure::whole();
+                let number = mj::states(design, place.lent(), count.lent());
+                let fit = place.is_place(number) && count.is_fit(number);
+                tally.call("states", number, fit);
             }
             3 => self.friends(random, position, tally),
             4 => {
                 let any = random.bits();
                 let rank = random.pick(&[0, 1, any, u64::MAX]);
                 let mut entries = Guarded::new(near(random, self.positions), 0xa5);
-                let number = mj::state_reply(design, rank, entries.lent());
-                tally.call("state", number, entries.is_fit(number));
+                let number = mj::state(design, rank, entries.lent(), place.lent());
+                let fit = place.is_place(number) && entries.is_fit(number);
+                tally.call("state", number, fit);
             }
             5 | 6 => self.energies(random, tally),
             _ => {
                 let mut entries = Guarded::new(near(random, self.positions), 0xa5);
-                let number = mj::search_reply(design, entries.lent());
-                let fit = entries.is_fit(number);
-                let energy = mj::search_energy(design, entries.lent());
-                let fit = fit && entries.is_fit(number) && none(number, energy);
-                tally.call("search", number, fit);
+                let mut energy = Figure::double();
+                let number = mj::search(design, entries.lent(), place.lent(), energy.lent());
+                let written = entries.is_fit(number) && energy.is_fit(number);
+                tally.call("search", number, place.is_place(number) && written);
             }
         }
     }
@@ -140,10 +144,11 @@ impl Asked<'_> {
 
     fn friends(&self, random: &mut Random, position: usize, tally: &mut Tally) {
         let mut entries = Guarded::new(near(random, 64), 0xa5);
-        let number = mj::friends_reply(self.design, position, entries.lent());
-        let fit = entries.is_fit(number);
-        let count = mj::friends_count(self.design, position, entries.lent());
-        let fit = fit && entries.is_fit(number) && (number == 0 || count == 0) && count <= 64;
+        let [mut place, mut count] = [Figure::whole(), Figure::whole()];
+        let slice = entries.lent();
+        let number = mj::friends(self.design, position, slice, place.lent(), count.lent());
+        let counted = count.is_fit(number) && count.told() <= 64;
+        let fit = place.is_place(number) && counted && entries.is_fit(number);
         tally.call("friends", number, fit);
     }
 
@@ -155,13 +160,20 @@ impl Asked<'_> {
             false => random.below(self.strands + 1) as u8,
         };
         let configuration: Vec<u8> = (0..length).map(|_| place(random)).collect();
-        let number = mj::state_energy_reply(self.design, &configuration);
-        let energy = mj::state_energy(self.design, &configuration);
-        tally.call("state_energy", number, number == 0 || energy == 0);
-        let number = mj::chain_energy_reply(self.design, &configuration);
-        let energy = mj::chain_energy(self.design, &configuration);
-        let sum = mj::chain_sum(self.design, &configuration);
-        let fit = number == 0 || (energy, sum) == (0, 0);
+        let (mut place, mut energy) = (Figure::whole(), Figure::double());
+        let number = mj::state_energy(self.design, &configuration, place.lent(), energy.lent());
+        let fit = place.is_place(number) && energy.is_fit(number);
+        tally.call("state_energy", number, fit);
+        let (mut place, mut sum, mut energy) =
+            (Figure::whole(), Figure::double(), Figure::double());
+        let number = mj::chain_energy(
+            self.design,
+            &configuration,
+            place.lent(),
+            sum.lent(),
+            energy.lent(),
+        );
+        let fit = place.is_place(number) && sum.is_fit(number) && energy.is_fit(number);
         tally.call("chain_energy", number, fit);
     }
 }

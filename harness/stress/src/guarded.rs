@@ -1,4 +1,6 @@
-//! Slices that are lent to be written, between guards.
+//! Slices and numbers that are lent to be written, between guards.
+
+use mujplesten as mj;
 
 const GUARD: usize = 64;
 
@@ -29,6 +31,45 @@ impl<T: Copy + PartialEq> Guarded<T> {
     }
 }
 
+/// A number that a call writes in every case. Before the call it holds what no call answers.
+pub struct Figure<T>(Guarded<T>);
+
+impl Figure<f64> {
+    pub fn double() -> Self {
+        Figure(Guarded::new(1, -1.25e-77))
+    }
+}
+
+impl Figure<u64> {
+    pub fn whole() -> Self {
+        Figure(Guarded::new(1, 0xa5a5_a5a5_a5a5_a5a5))
+    }
+
+    /// A place: none where the call is answered.
+    pub fn is_place(&self, number: u32) -> bool {
+        self.is_written() && (number != 0 || self.told() == mj::NOWHERE)
+    }
+}
+
+impl<T: Copy + PartialEq + Default> Figure<T> {
+    pub fn lent(&mut self) -> &mut T {
+        &mut self.0.lent()[0]
+    }
+
+    pub fn told(&self) -> T {
+        self.0.all[GUARD]
+    }
+
+    fn is_written(&self) -> bool {
+        self.0.is_fit(0) && self.told() != self.0.held
+    }
+
+    /// A figure: 0 on a refusal.
+    pub fn is_fit(&self, number: u32) -> bool {
+        self.is_written() && (number == 0 || self.told() == T::default())
+    }
+}
+
 #[cfg(test)]
 mod tests {
     use super::*;
@@ -41,5 +82,16 @@ mod tests {
         assert!(guarded.is_fit(0) && !guarded.is_fit(1));
         guarded.all[GUARD + 3] = 0;
         assert!(!guarded.is_fit(0));
+    }
+
+    #[test]
+    fn a_figure_that_was_not_written_is_seen() {
+        let mut figure = Figure::whole();
+        assert!(!figure.is_fit(0) && !figure.is_fit(1) && !figure.is_place(1));
+        *figure.lent() = 3;
+        assert!(figure.is_fit(0) && !figure.is_fit(1));
+        assert!(figure.is_place(14) && !figure.is_place(0));
+        figure.0.all[GUARD + 1] = 0;
+        assert!(!figure.is_fit(0));
     }
 }

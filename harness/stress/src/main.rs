@@ -1,6 +1,7 @@
 //! `stress [--seed S] [--calls N]`: random calls of every C function, with slices of no entry, of the
 //! wanted length, of one less and of one more. Nothing may crash, every reply is one of document 01's,
-//! and around every slice that is lent to be written stand guards that must keep what they hold.
+//! around every slice and number that is lent to be written stand guards that must keep what they
+//! hold, and every number is written.
 
 mod designs;
 mod guarded;

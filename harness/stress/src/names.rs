@@ -1,6 +1,6 @@
 //! Names, strand glues and `from_params`.
 
-use crate::guarded::Guarded;
+use crate::guarded::{Figure, Guarded};
 use crate::{near, Tally};
 use compare::judge::parameters::{Lent, Names, CELLS};
 use compare::parameters::{damage, parameters, Shape};
@@ -59,13 +59,17 @@ fn name(random: &mut Random, set: &Lent, tally: &mut Tally) {
         any_number(random, text.len()),
         any_number(random, text.len()),
     );
-    let number = mj::name_reply(text, start, length);
-    let figures = (
-        mj::name_start(text, start, length),
-        mj::name_length(text, start, length),
-        mj::name_is_base(text, start, length),
+    let [mut from, mut size, mut is_base] = [Figure::whole(), Figure::whole(), Figure::whole()];
+    let number = mj::name(
+        text,
+        start,
+        length,
+        from.lent(),
+        size.lent(),
+        is_base.lent(),
     );
-    tally.call("name", number, number == 0 || figures == (0, 0, 0));
+    let fit = from.is_fit(number) && size.is_fit(number) && is_base.is_fit(number);
+    tally.call("name", number, fit && is_base.told() <= 1);
 }
 
 /// The first so many entries; one more is a 0.
@@ -105,7 +109,7 @@ fn glues(random: &mut Random, set: &Lent, tally: &mut Tally) {
     let users = near_mostly(random, set.users);
     let mut glues = Guarded::new(near_mostly(random, 3 * set.users), 0xa5);
     let text = part(random, &set.text);
-    let number = mj::strand_glues_reply(&text, users, strands.names(), glues.lent());
+    let number = mj::strand_glues(&text, users, strands.names(), glues.lent());
     tally.call("strand_glues", number, glues.is_fit(number));
 }
 
@@ -145,7 +149,7 @@ fn params(random: &mut Random, set: &Lent, tally: &mut Tally) {
         dg: dg.lent(),
         ds: ds.lent(),
     };
-    let number = mj::params_reply(lent, into);
+    let number = mj::params(lent, into);
     let glues_fit = strand_glues.is_fit(number) && scaffold_glues.is_fit(number);
     let fit = glues_fit && dg.is_fit(number) && ds.is_fit(number);
     tally.call("params", number, fit);

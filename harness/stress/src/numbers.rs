@@ -1,6 +1,6 @@
 //! Sequences, loops, strengths, temperatures and decks.
 
-use crate::guarded::Guarded;
+use crate::guarded::{Figure, Guarded};
 use crate::{near, Tally};
 use compare::bases::{spoil, strand};
 use compare::decks::{self, any_configuration};
@@ -29,80 +29,100 @@ fn any_sequence(random: &mut Random) -> Vec<u8> {
     sequence
 }
 
-/// A refusal carries no figure.
-fn none(number: u32, figures: &[u64]) -> bool {
-    number == 0 || figures.iter().all(|figure| *figure == 0)
-}
-
 pub fn call(random: &mut Random, tally: &mut Tally) {
     let (a, b) = (any_sequence(random), any_sequence(random));
     let excess = any_double(random);
+    let [mut x, mut y, mut z] = [Figure::double(), Figure::double(), Figure::double()];
     match random.below(8) {
         0 => {
-            let number = mj::sequence_reply(&a);
-            let figures = [mj::sequence_dg(&a), mj::sequence_ds(&a)];
-            tally.call("sequence", number, none(number, &figures));
+            let number = mj::sequence(&a, x.lent(), y.lent());
+            let one_by_one = (
+                mj::sequence_reply(&a),
+                mj::sequence_dg(&a),
+                mj::sequence_ds(&a),
+            );
+            let alike = one_by_one == (number, x.told().to_bits(), y.told().to_bits());
+            tally.call(
+                "sequence",
+                number,
+                x.is_fit(number) && y.is_fit(number) && alike,
+            );
         }
         1 => {
             let b = if random.once_in(2) { &a } else { &b };
-            let number = mj::pair_reply(&a, b);
-            let figures = [mj::pair_dg(&a, b), mj::pair_ds(&a, b)];
-            tally.call("pair", number, none(number, &figures));
+            let number = mj::pair(&a, b, x.lent(), y.lent());
+            let one_by_one = (
+                mj::pair_reply(&a, b),
+                mj::pair_dg(&a, b),
+                mj::pair_ds(&a, b),
+            );
+            let alike = one_by_one == (number, x.told().to_bits(), y.told().to_bits());
+            tally.call(
+                "pair",
+                number,
+                x.is_fit(number) && y.is_fit(number) && alike,
+            );
         }
         2 => {
             let any = random.below(40);
             let length = random.pick(&[0, 3, 11, 30, 31, any, usize::MAX]);
             let kind = random.pick(&[0, 1, 2, 3, u32::MAX]);
-            let number = mj::loop_reply(length, kind);
-            tally.call("loop", number, none(number, &[mj::loop_dg(length, kind)]));
+            let number = mj::loop_penalty(length, kind, x.lent());
+            tally.call("loop_penalty", number, x.is_fit(number));
         }
         3 => {
-            let number = mj::sequence_strength_reply(&a, excess);
-            let figures = [mj::sequence_strength(&a, excess)];
-            tally.call("sequence_strength", number, none(number, &figures));
+            let number = mj::sequence_strength(&a, excess, x.lent());
+            tally.call("sequence_strength", number, x.is_fit(number));
         }
         4 => {
-            let number = mj::pair_strength_reply(&a, &b, excess);
-            let figures = [mj::pair_strength(&a, &b, excess)];
-            tally.call("pair_strength", number, none(number, &figures));
+            let number = mj::pair_strength(&a, &b, excess, x.lent());
+            tally.call("pair_strength", number, x.is_fit(number));
         }
         5 => {
-            let number = mj::ambient_reply(excess);
-            let figures = [
-                mj::ambient_rt(excess),
-                mj::ambient_strand_excess(excess),
-                mj::ambient_scaffold_excess(excess),
-            ];
-            tally.call("ambient", number, none(number, &figures));
+            let number = mj::ambient(excess, x.lent(), y.lent(), z.lent());
+            let fit = x.is_fit(number) && y.is_fit(number) && z.is_fit(number);
+            tally.call("ambient", number, fit);
         }
         6 => {
             let number = mj::published_reply(&a);
             let figures = [mj::published_dg(&a), mj::published_ds(&a)];
-            tally.call("published", number, none(number, &figures));
+            let none = figures.iter().all(|figure| *figure == 0);
+            tally.call("published", number, number == 0 || none);
         }
         _ => deck(random, tally),
     }
 }
 
 fn deck(random: &mut Random, tally: &mut Tally) {
-    let deck = decks::deck(random);
+    let form = random.below(5) as u32 / 2;
+    let deck = match form {
+        0 => decks::deck(random),
+        _ => decks::deck_with_runs(random),
+    };
     let words = match random.below(4) {
         0 => decks::damaged(&deck, random),
         1 => decks::long(random),
         _ => deck,
     };
+    let mut moved = Guarded::new(near(random, 129), 0xa5a5_a5a5);
+    let [mut place, mut count] = [Figure::whole(), Figure::whole()];
+    let number = mj::deck_move(form, &words, moved.lent(), place.lent(), count.lent());
+    let placed = place.is_place(number) && (number == 14) == (place.told() != mj::NOWHERE);
+    let fit = moved.is_fit(number) && placed && count.is_fit(number);
+    tally.call("deck_move", number, fit);
     let mut entries = Guarded::new(near(random, 128), 0xa5);
-    let number = mj::deck_read_reply(&words, entries.lent());
-    tally.call("deck_read", number, entries.is_fit(number));
-    let count = mj::deck_read_count(&words, entries.lent());
-    let place = mj::deck_read_place(&words, entries.lent());
-    let fit = none(number, &[count as u64]) && (number == 14 || place == 0);
-    tally.call("deck_read_count", number, fit && entries.is_fit(number));
+    let [mut place, mut count] = [Figure::whole(), Figure::whole()];
+    let number = mj::deck_read(form, &words, entries.lent(), place.lent(), count.lent());
+    let placed = place.is_place(number) && (number == 14) == (place.told() != mj::NOWHERE);
+    let fit = entries.is_fit(number) && placed && count.is_fit(number);
+    tally.call("deck_read", number, fit);
     let configuration = any_configuration(random);
     let mut words = Guarded::new(near(random, 129), 0xa5a5_a5a5);
-    let number = mj::deck_write_reply(&configuration, words.lent());
-    tally.call("deck_write", number, words.is_fit(number));
-    let count = mj::deck_write_count(&configuration, words.lent());
-    let fit = none(number, &[count as u64]);
-    tally.call("deck_write_count", number, fit && words.is_fit(number));
+    let mut count = Figure::whole();
+    let number = mj::deck_write(form, &configuration, words.lent(), count.lent());
+    tally.call(
+        "deck_write",
+        number,
+        words.is_fit(number) && count.is_fit(number),
+    );
 }

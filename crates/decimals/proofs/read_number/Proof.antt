@@ -11,28 +11,16 @@ use Rattle.decimals.proofs.Texts.{pattern-length, pattern-number, decim
 use Rattle.decimals.proofs.read_number.Statement.{statement}
 use Rattle.decimals.proofs.read_number.Tie as tie
 
-is-pattern-requires : tie.Need-is-pattern-requires
-is-pattern-requires c κs = search needs
-
 past-requires : tie.Need-past-requires
 past-requires c κs =
     let n : length (now (c .before .before .before .args .word)) ≡ 18 = pattern-length (now (c .before .before .before .args .word)) (sym (c .before .is-pattern .ensures) ∙ c .if1 .taken) in
     omega arith
-
-read-digits-requires : tie.Need-read-digits-requires
-read-digits-requires c κs = search needs
-
-double-requires : tie.Need-double-requires
-double-requires c κs = search needs
 
 returns : tie.Need-returns
 returns c =
     let word = now (c .before .before .before .before .before .before .args .word) in
     let bits = c .before .read-digits .ensures ∙ ap (λ (digits : List ℕ). min 18446744073709551615 (numeral 16 0 digits)) (c .before .before .past .ensures) in
     pattern-number word (sym (c .before .before .before .before .is-pattern .ensures) ∙ c .before .before .before .if1 .taken) (c .before .read-digits .result) (c .double .result) bits (c .double .ensures)
-
-decimal-requires : tie.Need-decimal-requires
-decimal-requires c κs = search needs
 
 returns-2 : tie.Need-returns-2
 returns-2 c = c .decimal .ensures ∙ decimal-number (now (c .before .before .before .before .args .word)) (sym (c .before .before .is-pattern .ensures) ∙ c .before .if1 .left)
@@ -41,10 +29,10 @@ pub read-number-spec : {M : Type 1} → statement M
 read-number-spec =
     tie.close
     (tie.spec
-    is-pattern-requires
+    (λ c κs. search needs)
     past-requires
-    read-digits-requires
-    double-requires
+    (λ c κs. search needs)
+    (λ c κs. search needs)
     returns
-    decimal-requires
+    (λ c κs. search needs)
     returns-2)

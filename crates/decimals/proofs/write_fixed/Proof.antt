@@ -10,23 +10,11 @@ use Rattle.decimals.proofs.Sizes.{too-large, not-too-large, sign-is, mi
 use Rattle.decimals.proofs.write_fixed.Statement.{statement}
 use Rattle.decimals.proofs.write_fixed.Tie as tie
 
-bits-requires : tie.Need-bits-requires
-bits-requires c κs = search needs
-
 returns : tie.Need-returns
 returns c =
     let a = c .before .before .before .args in
     let fit : T (fits binary64 (a .x)) = search needs in
     unprinted (a .x) (now (a .out)) (too-large (a .x) fit (c .before .bits .result) (c .before .bits .ensures) (c .if1 .taken))
-
-in-millionths-requires : tie.Need-in-millionths-requires
-in-millionths-requires c κs = search needs
-
-write-millionths-requires : tie.Need-write-millionths-requires
-write-millionths-requires c κs = search needs
-
-same-length : tie.Need-same-length
-same-length c = search needs
 
 returns-2 : tie.Need-returns-2
 returns-2 c =
@@ -45,9 +33,9 @@ pub write-fixed-spec : {M : Type 1} → statement M
 write-fixed-spec =
     tie.close
     (tie.spec
-    bits-requires
+    (λ c κs. search needs)
     returns
-    in-millionths-requires
-    write-millionths-requires
-    same-length
+    (λ c κs. search needs)
+    (λ c κs. search needs)
+    (λ c. search needs)
     returns-2)

@@ -5,8 +5,8 @@ use lib.ListN.{length}
 use borrow.Author.Tests.{lt-ltb, le-ltb, eq-eqb, ne-eqb}
 use denote.Ref.{now}
 use Rattle.lists.proofs.Find.{any-true, any-false}
-use Rattle.lists.proofs.Over.{sets-over}
-use Rattle.deck.specs.Form.{singles}
+use Rattle.lists.proofs.Front.{sets-over}
+use Rattle.deck.specs.Forms.{formOf}
 use Rattle.deck.specs.Deck.{deckOf, tooHigh}
 use Rattle.deck.specs.Writing.{writeFigures, writeWords}
 use Rattle.deck.proofs.Decks.{deck-length}
@@ -52,8 +52,8 @@ returns-4 c =
     let u = eq-eqb (length (now (a .words))) 129 (c .before .before .before .before .before .before .if2 .left) in
     let h = any-false tooHigh (now (a .configuration)) (omega arith) in
     let p = c .before .before .pack .ensures in
-    let few = deck-length singles (now (a .configuration)) in
-    (rw (t, u, h, p .0), rw (t, u, h) (p .1 ∙ sets-over (deckOf singles (now (a .configuration))) (now (a .words)) (omega arith)))
+    let few = deck-length (formOf (a .form)) (now (a .configuration)) in
+    (rw (t, u, h, p .0), rw (t, u, h) (p .1 ∙ sets-over (deckOf (formOf (a .form)) (now (a .configuration))) (now (a .words)) (omega arith)))
 
 pub write-spec : {M : Type 1} → statement M
 write-spec =

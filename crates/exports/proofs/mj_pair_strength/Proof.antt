@@ -1,4 +1,4 @@
--- `exports::mj_pair_strength` meets its contract: the figure of the answer is that of its definition. Assumes nothing.
+-- `exports::mj_pair_strength` meets its contract, from the contract of the call. Assumes nothing.
 use borrow.Author.Needs.{needs}
 use Rattle.exports.proofs.mj_pair_strength.Statement.{statement}
 use Rattle.exports.proofs.mj_pair_strength.Tie as tie
@@ -6,11 +6,11 @@ use Rattle.exports.proofs.mj_pair_strength.Tie as tie
 pair-strength-requires : tie.Need-pair-strength-requires
 pair-strength-requires c κs = search needs
 
-dg-dg-requires : tie.Need-dg-dg-requires
-dg-dg-requires c κs = search needs
+dg-tell-requires : tie.Need-dg-tell-requires
+dg-tell-requires c κs = search needs
 
 returns : tie.Need-returns
-returns c = rw (c .before .pair-strength .ensures) at (c .dg-dg .ensures)
+returns c = rw (c .before .before .pair-strength .ensures) at (c .dg-tell .ensures)
 
 pub mj-pair-strength-spec : {M : Type 1} → statement M
-mj-pair-strength-spec = tie.close (tie.spec pair-strength-requires dg-dg-requires returns)
+mj-pair-strength-spec = tie.close (tie.spec pair-strength-requires dg-tell-requires returns)

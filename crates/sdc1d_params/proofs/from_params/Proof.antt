@@ -21,42 +21,6 @@ returns-2 c =
     let lent : Outcome = lentOf (now (a .strand-glues)) (now (a .scaffold-glues)) (now (a .dg)) (now (a .ds)) in
     positions-refused p lent (c .if2 .taken)
 
-sub-build : tie.Need-sub-build
-sub-build c = search needs
-
-part-build-start : tie.Need-part-build-start
-part-build-start c = search needs
-
-part-build-end : tie.Need-part-build-end
-part-build-end c = search needs
-
-sub-build-2 : tie.Need-sub-build-2
-sub-build-2 c = search needs
-
-part-numbers-start : tie.Need-part-numbers-start
-part-numbers-start c = search needs
-
-part-numbers-end : tie.Need-part-numbers-end
-part-numbers-end c = search needs
-
-sub-build-3 : tie.Need-sub-build-3
-sub-build-3 c = search needs
-
-part-rows-start : tie.Need-part-rows-start
-part-rows-start c = search needs
-
-part-rows-end : tie.Need-part-rows-end
-part-rows-end c = search needs
-
-sub-build-4 : tie.Need-sub-build-4
-sub-build-4 c = search needs
-
-part-columns-start : tie.Need-part-columns-start
-part-columns-start c = search needs
-
-part-columns-end : tie.Need-part-columns-end
-part-columns-end c = search needs
-
 build-requires : tie.Need-build-requires
 build-requires c κs =
     let a = c .before .before .before .before .before .before .before .before .before .before .before .before .before .before .before .before .before .before .before .before .before .before .before .before .before .before .before .before .before .before .before .before .args in
@@ -64,42 +28,27 @@ build-requires c κs =
     let positions = length (now (a .scaffold-glues)) in
     ((repeated-part 1024 entries 1 (c .before .before .before .before .before .before .before .before .before .before .if1 .left), c .before .before .before .before .before .before .before .before .before .if2 .left), (part-length 128 positions 0 (c .before .before .before .before .before .before .before .before .before .if2 .left), part-length 1024 entries 0 (c .before .before .before .before .before .before .before .before .before .before .if1 .left), part-length 1024 entries 0 (c .before .before .before .before .before .before .before .before .before .before .if1 .left)))
 
-same-length : tie.Need-same-length
-same-length c = search needs
-
-same-length-2 : tie.Need-same-length-2
-same-length-2 c = search needs
-
-same-length-3 : tie.Need-same-length-3
-same-length-3 c = search needs
-
-same-length-4 : tie.Need-same-length-4
-same-length-4 c = search needs
-
-returns-3 : tie.Need-returns-3
-returns-3 c = search needs
-
 pub from-params-spec : {M : Type 1} → statement M
 from-params-spec =
     tie.close
     (tie.spec
     returns
     returns-2
-    sub-build
-    part-build-start
-    part-build-end
-    sub-build-2
-    part-numbers-start
-    part-numbers-end
-    sub-build-3
-    part-rows-start
-    part-rows-end
-    sub-build-4
-    part-columns-start
-    part-columns-end
+    (λ c. search needs)
+    (λ c. search needs)
+    (λ c. search needs)
+    (λ c. search needs)
+    (λ c. search needs)
+    (λ c. search needs)
+    (λ c. search needs)
+    (λ c. search needs)
+    (λ c. search needs)
+    (λ c. search needs)
+    (λ c. search needs)
+    (λ c. search needs)
     build-requires
-    same-length
-    same-length-2
-    same-length-3
-    same-length-4
-    returns-3)
+    (λ c. search needs)
+    (λ c. search needs)
+    (λ c. search needs)
+    (λ c. search needs)
+    (λ c. search needs))

@@ -12,9 +12,6 @@ use Rattle.sdc_common.proofs.Fit.{as-many, fit-names, few-strands, fit-
 use Rattle.sdc_common.proofs.name_numbers.Statement.{statement}
 use Rattle.sdc_common.proofs.name_numbers.Tie as tie
 
-unfit-strands-requires : tie.Need-unfit-strands-requires
-unfit-strands-requires c κs = search needs
-
 returns : tie.Need-returns
 unfolding nameNumbers numbersAfter
 returns c =
@@ -22,9 +19,6 @@ returns c =
     let strands = namesOf (now (a .strand-starts)) (now (a .strand-lengths)) (now (a .strand-marks)) in
     let bad : unfitStrands (a .users) (now (a .text)) strands ≡ true = sym (c .before .unfit-strands .ensures) ∙ c .if1 .taken in
     (simp bad, simp bad)
-
-unfit-names-requires : tie.Need-unfit-names-requires
-unfit-names-requires c κs = search needs
 
 returns-2 : tie.Need-returns-2
 unfolding nameNumbers numbersAfter
@@ -36,12 +30,6 @@ returns-2 c =
     let bad : unfitNames (length (now (a .numbers))) (now (a .text)) names ≡ true = sym (c .before .unfit-names .ensures) ∙ c .if2 .taken in
     (simp (fit, bad), simp (fit, bad))
 
-slice-aggregate-base-names : tie.Need-slice-aggregate-base-names
-slice-aggregate-base-names c = search needs
-
-slice-aggregate-base-names-2 : tie.Need-slice-aggregate-base-names-2
-slice-aggregate-base-names-2 c = search needs
-
 base-names-requires : tie.Need-base-names-requires
 base-names-requires c κs =
     let a = c .before .before .before .before .before .before .before .before .before .before .before .before .before .before .args in
@@ -50,21 +38,12 @@ base-names-requires c κs =
     let few = few-strands (a .users) (now (a .text)) strands fit in
     (fit-strands (a .users) (now (a .text)) strands fit, (omega (arith, strand-glues (a .users) (now (a .text)) strands fit), search needs))
 
-slice-aggregate-fill-numbers : tie.Need-slice-aggregate-fill-numbers
-slice-aggregate-fill-numbers c = search needs
-
-slice-aggregate-fill-numbers-2 : tie.Need-slice-aggregate-fill-numbers-2
-slice-aggregate-fill-numbers-2 c = search needs
-
 fill-numbers-requires : tie.Need-fill-numbers-requires
 fill-numbers-requires c κs =
     let a = c .before .before .before .before .before .before .before .before .before .before .before .before .before .before .before .before .before .before .before .before .args in
     let names = namesOf (now (a .starts)) (now (a .lengths)) (now (a .marks)) in
     let fit : unfitNames (length (now (a .numbers))) (now (a .text)) names ≡ false = sym (c .before .before .before .before .before .before .before .before .before .unfit-names .ensures) ∙ c .before .before .before .before .before .before .before .before .if2 .left in
     (c .before .before .before .before .before .base-names .ensures .0, (fit-names (length (now (a .numbers))) (now (a .text)) names fit, sym (as-many (length (now (a .numbers))) (now (a .text)) names fit)))
-
-same-length : tie.Need-same-length
-same-length c = search needs
 
 returns-3 : tie.Need-returns-3
 returns-3 c =
@@ -79,15 +58,15 @@ pub name-numbers-spec : {M : Type 1} → statement M
 name-numbers-spec =
     tie.close
     (tie.spec
-    unfit-strands-requires
+    (λ c κs. search needs)
     returns
-    unfit-names-requires
+    (λ c κs. search needs)
     returns-2
-    slice-aggregate-base-names
-    slice-aggregate-base-names-2
+    (λ c. search needs)
+    (λ c. search needs)
     base-names-requires
-    slice-aggregate-fill-numbers
-    slice-aggregate-fill-numbers-2
+    (λ c. search needs)
+    (λ c. search needs)
     fill-numbers-requires
-    same-length
+    (λ c. search needs)
     returns-3)

@@ -10,9 +10,6 @@ use Rattle.sdc_common.proofs.Held.{fits, named}
 use Rattle.sdc_common.proofs.self_and_inverse.Statement.{statement}
 use Rattle.sdc_common.proofs.self_and_inverse.Tie as tie
 
-unfit-name-requires : tie.Need-unfit-name-requires
-unfit-name-requires c κs = search needs
-
 returns : tie.Need-returns
 unfolding selfAndInverse
 returns c =
@@ -26,23 +23,11 @@ add-end c =
     let h = fits (now (a .text)) (a .start) (a .length) (sym (c .before .unfit-name .ensures) ∙ c .if1 .left) in
     omega (arith, h)
 
-sub-base-length : tie.Need-sub-base-length
-sub-base-length c = search needs
-
-part-base-length-start : tie.Need-part-base-length-start
-part-base-length-start c = search needs
-
 part-base-length-end : tie.Need-part-base-length-end
 part-base-length-end c =
     let a = c .before .before .before .args in
     let h = fits (now (a .text)) (a .start) (a .length) (sym (c .before .unfit-name .ensures) ∙ c .if1 .left) in
     omega (arith, h)
-
-base-length-requires : tie.Need-base-length-requires
-base-length-requires c κs = search needs
-
-sub-t9 : tie.Need-sub-t9
-sub-t9 c = search needs
 
 returns-2 : tie.Need-returns-2
 returns-2 c =
@@ -53,12 +38,12 @@ pub self-and-inverse-spec : {M : Type 1} → statement M
 self-and-inverse-spec =
     tie.close
     (tie.spec
-    unfit-name-requires
+    (λ c κs. search needs)
     returns
     add-end
-    sub-base-length
-    part-base-length-start
+    (λ c. search needs)
+    (λ c. search needs)
     part-base-length-end
-    base-length-requires
-    sub-t9
+    (λ c κs. search needs)
+    (λ c. search needs)
     returns-2)

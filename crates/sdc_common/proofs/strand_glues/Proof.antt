@@ -12,9 +12,6 @@ use Rattle.sdc_common.proofs.Fit.{few-strands, fit-strands, strand-glue
 use Rattle.sdc_common.proofs.strand_glues.Statement.{statement}
 use Rattle.sdc_common.proofs.strand_glues.Tie as tie
 
-unfit-strands-requires : tie.Need-unfit-strands-requires
-unfit-strands-requires c κs = search needs
-
 returns : tie.Need-returns
 unfolding strandGlues gluesAfter
 returns c =
@@ -39,12 +36,6 @@ returns-2 c =
     let other = ne-eqb _ _ (c .if2 .taken) in
     (simp (fit, other), simp (fit, other))
 
-slice-aggregate-base-names : tie.Need-slice-aggregate-base-names
-slice-aggregate-base-names c = search needs
-
-slice-aggregate-base-names-2 : tie.Need-slice-aggregate-base-names-2
-slice-aggregate-base-names-2 c = search needs
-
 base-names-requires : tie.Need-base-names-requires
 base-names-requires c κs =
     let a = c .before .before .before .before .before .before .before .before .before .before .args in
@@ -60,21 +51,12 @@ returns-3 c =
     let fit : unfitStrands (a .users) (now (a .text)) strands ≡ false = sym (c .before .before .before .before .before .before .before .before .unfit-strands .ensures) ∙ c .before .before .before .before .before .before .before .if1 .left in
     glues-many (a .users) (now (a .text)) strands _ _ (c .before .before .before .base-names .result) fit (c .before .before .before .base-names .ensures .1) (now (a .glues)) (c .before .before .before .before .before .before .if2 .left) (c .if3 .taken)
 
-slice-aggregate-fill-glues : tie.Need-slice-aggregate-fill-glues
-slice-aggregate-fill-glues c = search needs
-
-slice-aggregate-fill-glues-2 : tie.Need-slice-aggregate-fill-glues-2
-slice-aggregate-fill-glues-2 c = search needs
-
 fill-glues-requires : tie.Need-fill-glues-requires
 fill-glues-requires c κs =
     let a = c .before .before .before .before .before .before .before .before .before .before .before .before .before .before .before .before .before .args in
     let strands = namesOf (now (a .starts)) (now (a .lengths)) (now (a .marks)) in
     let fit : unfitStrands (a .users) (now (a .text)) strands ≡ false = sym (c .before .before .before .before .before .before .before .before .before .before .before .unfit-strands .ensures) ∙ c .before .before .before .before .before .before .before .before .before .before .if1 .left in
     (c .before .before .before .before .before .before .base-names .ensures .0, (fit-strands (a .users) (now (a .text)) strands fit, (c .before .before .before .before .before .before .before .before .before .if2 .left ∙ sym (strand-glues (a .users) (now (a .text)) strands fit), c .before .before .before .if3 .left)))
-
-same-length : tie.Need-same-length
-same-length c = search needs
 
 returns-4 : tie.Need-returns-4
 returns-4 c =
@@ -87,16 +69,16 @@ pub strand-glues-spec : {M : Type 1} → statement M
 strand-glues-spec =
     tie.close
     (tie.spec
-    unfit-strands-requires
+    (λ c κs. search needs)
     returns
     mul-if2
     returns-2
-    slice-aggregate-base-names
-    slice-aggregate-base-names-2
+    (λ c. search needs)
+    (λ c. search needs)
     base-names-requires
     returns-3
-    slice-aggregate-fill-glues
-    slice-aggregate-fill-glues-2
+    (λ c. search needs)
+    (λ c. search needs)
     fill-glues-requires
-    same-length
+    (λ c. search needs)
     returns-4)

@@ -12,9 +12,6 @@ use Rattle.statements.proofs.Reading.{rows-fit, equal-room, read-unequa
 use Rattle.statements.proofs.read.Statement.{statement}
 use Rattle.statements.proofs.read.Tie as tie
 
-unequal-requires : tie.Need-unequal-requires
-unequal-requires c κs = search needs
-
 returns : tie.Need-returns
 returns c =
     let a = c .before .before .before .before .before .before .before .args in
@@ -32,12 +29,6 @@ returns-2 c =
     let answer = read-long text room same (c .if2 .taken) in
     (sym answer, sym (room-kept text room _ (inr (inr (inl refl))) answer))
 
-check-requires : tie.Need-check-requires
-check-requires c κs = search needs
-
-enum-told : tie.Need-enum-told
-enum-told c = search needs
-
 lay-requires : tie.Need-lay-requires
 lay-requires c κs =
     let a = c .before .before .before .before .before .before .before .before .before .before .before .before .before .before .before .args in
@@ -45,18 +36,6 @@ lay-requires c κs =
     let room = roomOf (now (a .kinds)) (now (a .lines)) (now (a .words)) (now (a .numbers)) in
     let same = sym (c .before .before .before .before .before .before .before .before .before .unequal .ensures) ∙ c .before .before .before .before .before .before .before .before .if1 .left in
     (equal-room room same, rw zero-add at (rows-fit text (length (now (a .kinds))) (linesOf text) 1 0 _ (omega arith) (sym (c .before .before .before .before .before .before .check .ensures) ∙ c .before .before .before .before .enum-told .given .1)))
-
-same-length : tie.Need-same-length
-same-length c = search needs
-
-same-length-2 : tie.Need-same-length-2
-same-length-2 c = search needs
-
-same-length-3 : tie.Need-same-length-3
-same-length-3 c = search needs
-
-same-length-4 : tie.Need-same-length-4
-same-length-4 c = search needs
 
 returns-3 : tie.Need-returns-3
 returns-3 c =
@@ -80,15 +59,15 @@ pub read-spec : {M : Type 1} → statement M
 read-spec =
     tie.close
     (tie.spec
-    unequal-requires
+    (λ c κs. search needs)
     returns
     returns-2
-    check-requires
-    enum-told
+    (λ c κs. search needs)
+    (λ c. search needs)
     lay-requires
-    same-length
-    same-length-2
-    same-length-3
-    same-length-4
+    (λ c. search needs)
+    (λ c. search needs)
+    (λ c. search needs)
+    (λ c. search needs)
     returns-3
     returns-4)

@@ -13,10 +13,19 @@ impl Checks {
         self.count(what, given == expected, format!("{given}, not {expected}"));
     }
 
-    fn figure(&mut self, what: &str, given: u64, expected: f64) {
+    fn bits(&mut self, what: &str, given: u64, expected: f64) {
         let expected = expected.to_bits();
         let told = format!("{given:016x}, not {expected:016x}");
         self.count(what, given == expected, told);
+    }
+
+    /// The bits are compared: 0.0 is not −0.0.
+    fn figure(&mut self, what: &str, given: f64, expected: f64) {
+        self.bits(what, given.to_bits(), expected);
+    }
+
+    fn place(&mut self, what: &str, given: u64, expected: u64) {
+        self.count(what, given == expected, format!("{given}, not {expected}"));
     }
 
     fn count(&mut self, what: &str, holds: bool, told: String) {
@@ -40,9 +49,11 @@ fn main() -> ExitCode {
     strengths(&mut checks);
     ambients(&mut checks);
     decks(&mut checks);
+    decks_with_runs(&mut checks);
     designs(&mut checks);
     names(&mut checks);
     params(&mut checks);
+    stack(&mut checks);
     println!("client: {} passed, {} failed", checks.passed, checks.failed);
     if checks.failed == 0 {
         ExitCode::SUCCESS
@@ -51,23 +62,31 @@ fn main() -> ExitCode {
     }
 }
 
+/// What a number that a call is to write holds before it: no call answers it.
+const DOUBLE: f64 = -1.25e-77;
+const WHOLE: u64 = 0xa5a5_a5a5_a5a5_a5a5;
+
 fn one_sequence(checks: &mut Checks) {
+    let (mut dg, mut ds) = (DOUBLE, DOUBLE);
+    checks.reply("AC", mj::sequence(b"AC", &mut dg, &mut ds), 0);
+    checks.figure("AC dG", dg, -1.44 + 1.96);
+    checks.figure("AC dS", ds, -0.0224 + 0.0057);
     checks.reply("AC", mj::sequence_reply(b"AC"), 0);
-    checks.figure("AC dG", mj::sequence_dg(b"AC"), -1.44 + 1.96);
-    checks.figure("AC dS", mj::sequence_ds(b"AC"), -0.0224 + 0.0057);
-    checks.figure("cga dG", mj::sequence_dg(b"cga"), (-2.17 + -1.30) + 1.96);
+    checks.bits("AC dG", mj::sequence_dg(b"AC"), -1.44 + 1.96);
+    checks.bits("AC dS", mj::sequence_ds(b"AC"), -0.0224 + 0.0057);
+    checks.bits("cga dG", mj::sequence_dg(b"cga"), (-2.17 + -1.30) + 1.96);
     checks.reply("256 bases", mj::sequence_reply(&[b'g'; 256]), 0);
-    checks.figure(
+    checks.bits(
         "AC published dG",
         mj::published_dg(b"AC"),
         -1.44 + 1.96 + 0.05,
     );
-    checks.figure(
+    checks.bits(
         "AC published dS",
         mj::published_ds(b"AC"),
         -0.0224 - 0.0057 + 0.0069,
     );
-    checks.figure(
+    checks.bits(
         "gC published dG",
         mj::published_dg(b"gC"),
         -2.24 + 1.96 + 0.43,
@@ -80,24 +99,33 @@ fn one_sequence(checks: &mut Checks) {
         (b"", 3),
     ];
     for (s, number) in refused {
+        let (mut dg, mut ds) = (DOUBLE, DOUBLE);
+        checks.reply("one call", mj::sequence(s, &mut dg, &mut ds), number);
+        checks.figure("its dG", dg, 0.0);
+        checks.figure("its dS", ds, 0.0);
         checks.reply("a refused sequence", mj::sequence_reply(s), number);
-        checks.figure("its dG", mj::sequence_dg(s), 0.0);
-        checks.figure("its dS", mj::sequence_ds(s), 0.0);
+        checks.bits("its dG", mj::sequence_dg(s), 0.0);
+        checks.bits("its dS", mj::sequence_ds(s), 0.0);
         checks.reply("refused as published", mj::published_reply(s), number);
-        checks.figure("its published dG", mj::published_dg(s), 0.0);
-        checks.figure("its published dS", mj::published_ds(s), 0.0);
+        checks.bits("its published dG", mj::published_dg(s), 0.0);
+        checks.bits("its published dS", mj::published_ds(s), 0.0);
     }
 }
 
 fn two_sequences(checks: &mut Checks) {
+    let (mut dg, mut ds) = (DOUBLE, DOUBLE);
+    let number = mj::pair(b"AAC", b"TAG", &mut dg, &mut ds);
+    checks.reply("AAC TAG", number, 0);
+    checks.figure("AAC TAG dG", dg, 0.61 + 0.17);
+    checks.figure("AAC TAG dS", ds, 0.0);
     checks.reply("AAC TAG", mj::pair_reply(b"AAC", b"TAG"), 0);
-    checks.figure("AAC TAG dG", mj::pair_dg(b"AAC", b"TAG"), 0.61 + 0.17);
-    checks.figure("AAC TAG dS", mj::pair_ds(b"AAC", b"TAG"), 0.0);
+    checks.bits("AAC TAG dG", mj::pair_dg(b"AAC", b"TAG"), 0.61 + 0.17);
+    checks.bits("AAC TAG dS", mj::pair_ds(b"AAC", b"TAG"), 0.0);
     let (a, b) = (b"AAAAAA", b"TAAATT");
     checks.reply("a loop of 3", mj::pair_reply(a, b), 0);
     let dg = 0.61 + 0.69 - 1.0 + 3.2;
-    checks.figure("a loop of 3, dG", mj::pair_dg(a, b), dg);
-    checks.figure("a loop of 3, dS", mj::pair_ds(a, b), -0.0213);
+    checks.bits("a loop of 3, dG", mj::pair_dg(a, b), dg);
+    checks.bits("a loop of 3, dS", mj::pair_ds(a, b), -0.0213);
     checks.reply("no bases", mj::pair_reply(b"", b""), 0);
     let refused: [(&[u8], &[u8], u32); 4] = [
         (&[b'a'; 257], b"t", 1),
@@ -106,68 +134,72 @@ fn two_sequences(checks: &mut Checks) {
         (b"AAAAA", b"TAATT", 5),
     ];
     for (a, b, number) in refused {
+        let (mut dg, mut ds) = (DOUBLE, DOUBLE);
+        checks.reply("one call", mj::pair(a, b, &mut dg, &mut ds), number);
+        checks.figure("its dG", dg, 0.0);
+        checks.figure("its dS", ds, 0.0);
         checks.reply("a refused pair", mj::pair_reply(a, b), number);
-        checks.figure("its dG", mj::pair_dg(a, b), 0.0);
-        checks.figure("its dS", mj::pair_ds(a, b), 0.0);
+        checks.bits("its dG", mj::pair_dg(a, b), 0.0);
+        checks.bits("its dS", mj::pair_ds(a, b), 0.0);
     }
 }
 
 fn loops(checks: &mut Checks) {
     let admitted = [(30, 0, 6.6), (3, 1, 3.1), (12, 2, 5.0)];
-    for (length, kind, dg) in admitted {
-        checks.reply("a loop", mj::loop_reply(length, kind), 0);
-        checks.figure("its dG", mj::loop_dg(length, kind), dg);
+    for (length, kind, expected) in admitted {
+        let mut dg = DOUBLE;
+        let number = mj::loop_penalty(length, kind, &mut dg);
+        checks.reply("a loop", number, 0);
+        checks.figure("its dG", dg, expected);
     }
     for (length, kind) in [(31, 0), (2, 1), (3, 3), (usize::MAX, 0)] {
-        checks.reply("a refused loop", mj::loop_reply(length, kind), 5);
-        checks.figure("its dG", mj::loop_dg(length, kind), 0.0);
+        let mut dg = DOUBLE;
+        let number = mj::loop_penalty(length, kind, &mut dg);
+        checks.reply("a refused loop", number, 5);
+        checks.figure("its dG", dg, 0.0);
     }
 }
 
 fn strengths(checks: &mut Checks) {
     let excess = 12.5;
+    let mut strength = DOUBLE;
     let of_one = (-1.44 + 1.96) - excess * (-0.0224 + 0.0057);
-    checks.reply("AC", mj::sequence_strength_reply(b"AC", excess), 0);
-    checks.figure("its strength", mj::sequence_strength(b"AC", excess), of_one);
+    let number = mj::sequence_strength(b"AC", excess, &mut strength);
+    checks.reply("AC", number, 0);
+    checks.figure("its strength", strength, of_one);
     let of_two = ((0.61 + 0.17) + 1.96) - excess * (0.0 + 0.0057);
     let (a, b) = (b"AAC", b"TAG");
-    checks.reply("AAC TAG", mj::pair_strength_reply(a, b, excess), 0);
-    checks.figure("its strength", mj::pair_strength(a, b, excess), of_two);
+    let number = mj::pair_strength(a, b, excess, &mut strength);
+    checks.reply("AAC TAG", number, 0);
+    checks.figure("its strength", strength, of_two);
     for excess in [f64::NAN, f64::INFINITY, 1024.0f64.next_up()] {
-        checks.reply("an excess", mj::sequence_strength_reply(b"AC", excess), 9);
-        checks.figure("its strength", mj::sequence_strength(b"AC", excess), 0.0);
-        checks.reply("an excess", mj::pair_strength_reply(a, b, excess), 9);
-        checks.figure("its strength", mj::pair_strength(a, b, excess), 0.0);
-        checks.reply("a short one", mj::sequence_strength_reply(b"A", excess), 3);
+        let mut strength = DOUBLE;
+        let number = mj::sequence_strength(b"AC", excess, &mut strength);
+        checks.reply("an excess", number, 9);
+        checks.figure("its strength", strength, 0.0);
+        strength = DOUBLE;
+        let number = mj::pair_strength(a, b, excess, &mut strength);
+        checks.reply("an excess", number, 9);
+        checks.figure("its strength", strength, 0.0);
+        let number = mj::sequence_strength(b"A", excess, &mut strength);
+        checks.reply("a short one", number, 3);
     }
 }
 
 fn ambients(checks: &mut Checks) {
-    for kelvin in [200.0, 310.15, 323.15, 500.0] {
-        checks.reply("a kelvin", mj::ambient_reply(kelvin), 0);
-        let rt = (1.98720425864083 / 1000.0) * kelvin;
-        checks.figure("its RT", mj::ambient_rt(kelvin), rt);
-        let excess = kelvin - 310.15;
-        checks.figure(
-            "its strand excess",
-            mj::ambient_strand_excess(kelvin),
-            excess,
-        );
-        checks.figure(
-            "its scaffold excess",
-            mj::ambient_scaffold_excess(kelvin),
-            excess,
-        );
-    }
-    for kelvin in [200.0f64.next_down(), 500.0f64.next_up(), f64::NAN] {
-        checks.reply("a kelvin outside", mj::ambient_reply(kelvin), 9);
-        checks.figure("its RT", mj::ambient_rt(kelvin), 0.0);
-        checks.figure("its strand excess", mj::ambient_strand_excess(kelvin), 0.0);
-        checks.figure(
-            "its scaffold excess",
-            mj::ambient_scaffold_excess(kelvin),
-            0.0,
-        );
+    let inside = [200.0, 310.15, 323.15, 500.0].map(|kelvin| (kelvin, 0));
+    let outside = [200.0f64.next_down(), 500.0f64.next_up(), f64::NAN].map(|kelvin| (kelvin, 9));
+    for (kelvin, expected) in inside.into_iter().chain(outside) {
+        let (mut rt, mut strand, mut scaffold) = (DOUBLE, DOUBLE, DOUBLE);
+        let number = mj::ambient(kelvin, &mut rt, &mut strand, &mut scaffold);
+        checks.reply("a kelvin", number, expected);
+        let (product, excess) = match expected {
+            0 => ((1.98720425864083 / 1000.0) * kelvin, kelvin - 310.15),
+            _ => (0.0, 0.0),
+        };
+        checks.figure("its RT", rt, product);
+        checks.figure("its strand excess", strand, excess);
+        checks.figure("its scaffold excess", scaffold, excess);
     }
 }
 
@@ -175,27 +207,76 @@ fn decks(checks: &mut Checks) {
     let deck = [0x1000_0004, 0x2000_0001, 0x3000_0002, 0x2000_0002];
     let faulty = [0x1000_0002, 0x3000_0001, 0x3000_0001];
     let mut entries = [0xa5; 128];
-    let faulty_reply = mj::deck_read_reply(&faulty, &mut entries);
-    checks.reply("a faulty deck", faulty_reply, 14);
-    let place = mj::deck_read_place(&faulty, &mut entries);
-    checks.count("its place", place == 2, format!("{place}, not 2"));
-    let short = mj::deck_read_reply(&deck, &mut entries[..127]);
-    checks.reply("too few entries", short, 1);
+    let (mut place, mut count) = (WHOLE, WHOLE);
+    let number = mj::deck_read(0, &faulty, &mut entries, &mut place, &mut count);
+    checks.reply("a faulty deck", number, 14);
+    checks.place("its place", place, 2);
+    checks.count("its count", count == 0, format!("{count}, not 0"));
+    let number = mj::deck_read(0, &deck, &mut entries[..127], &mut place, &mut count);
+    checks.reply("too few entries", number, 1);
+    checks.place("its place", place, mj::NOWHERE);
     checks.count("entries", entries == [0xa5; 128], "not kept".to_string());
-    checks.reply("a deck", mj::deck_read_reply(&deck, &mut entries), 0);
-    let count = mj::deck_read_count(&deck, &mut entries);
+    (place, count) = (WHOLE, WHOLE);
+    let number = mj::deck_read(0, &deck, &mut entries, &mut place, &mut count);
+    checks.reply("a deck", number, 0);
+    checks.place("its place", place, mj::NOWHERE);
     checks.count("its count", count == 4, format!("{count}, not 4"));
     let read = entries[..5] == [1, 0, 0, 2, 0xa5];
     checks.count("its configuration", read, format!("{:?}", &entries[..5]));
     let mut words = [u32::MAX; 129];
-    checks.reply("a strand of 64", mj::deck_write_reply(&[64], &mut words), 9);
+    let number = mj::deck_write(0, &[64], &mut words, &mut count);
+    checks.reply("a strand of 64", number, 9);
+    checks.count("its count", count == 0, format!("{count}, not 0"));
     checks.count("words", words == [u32::MAX; 129], "not kept".to_string());
-    let number = mj::deck_write_reply(&[1, 0, 0, 2], &mut words);
+    let number = mj::deck_write(0, &[1, 0, 0, 2], &mut words, &mut count);
     checks.reply("a configuration", number, 0);
-    let count = mj::deck_write_count(&[1, 0, 0, 2], &mut words);
     checks.count("its count", count == 4, format!("{count}, not 4"));
     let written = words[..4] == deck && words[4] == u32::MAX;
     checks.count("its deck", written, format!("{:x?}", &words[..5]));
+}
+
+/// The form with runs: a deck of it, the same deck in document 01's form, and back.
+fn decks_with_runs(checks: &mut Checks) {
+    let singles = [
+        0x1000_0004,
+        0x3000_0001,
+        0x2000_0007,
+        0x2000_0007,
+        0x2000_0007,
+    ];
+    let runs = [0x1000_0004, 0x3000_0001, 0x4000_0087];
+    let mut entries = [0xa5; 128];
+    let (mut place, mut count) = (WHOLE, WHOLE);
+    let number = mj::deck_read(1, &runs, &mut entries, &mut place, &mut count);
+    checks.reply("a deck with runs", number, 0);
+    checks.count("its count", count == 4, format!("{count}, not 4"));
+    let read = entries[..5] == [0, 7, 7, 7, 0xa5];
+    checks.count("its configuration", read, format!("{:?}", &entries[..5]));
+    let number = mj::deck_read(0, &runs, &mut entries, &mut place, &mut count);
+    checks.reply("runs in document 01's form", number, 14);
+    checks.place("its place", place, 2);
+    let number = mj::deck_read(2, &runs, &mut entries, &mut place, &mut count);
+    checks.reply("an unknown form", number, 1);
+    checks.place("its place", place, mj::NOWHERE);
+    let mut words = [u32::MAX; 129];
+    let number = mj::deck_write(1, &[0, 7, 7, 7], &mut words, &mut count);
+    checks.reply("a configuration with a run", number, 0);
+    let written = words[..3] == runs && words[3] == u32::MAX;
+    checks.count("its deck", written, format!("{:x?}", &words[..4]));
+    let mut moved = [u32::MAX; 129];
+    let number = mj::deck_move(1, &runs, &mut moved, &mut place, &mut count);
+    checks.reply("moving a deck with runs", number, 0);
+    checks.place("its place", place, mj::NOWHERE);
+    checks.count("its count", count == 5, format!("{count}, not 5"));
+    let there = moved[..5] == singles && moved[5] == u32::MAX;
+    checks.count("its words", there, format!("{:x?}", &moved[..6]));
+    let mut back = [u32::MAX; 129];
+    let number = mj::deck_move(0, &moved[..5], &mut back, &mut place, &mut count);
+    checks.reply("moving it back", number, 0);
+    checks.count("its words", back[..3] == runs, format!("{:x?}", &back[..4]));
+    let number = mj::deck_move(0, &runs, &mut back, &mut place, &mut count);
+    checks.reply("moving it by the other rules", number, 14);
+    checks.place("its place", place, 2);
 }
 
 /// The bench table's two positions: strand 1 with dG −0.5, then strand 2 with dG −2, potentials −1,
@@ -220,65 +301,119 @@ fn designs(checks: &mut Checks) {
         potentials: &potentials,
         ..design
     };
-    checks.reply("a potential", mj::states_reply(unfit), 9);
-    let count = mj::states_count(unfit);
+    let (mut place, mut count) = (WHOLE, WHOLE);
+    let number = mj::states(unfit, &mut place, &mut count);
+    checks.reply("a potential", number, 9);
+    checks.place("its place", place, mj::NOWHERE);
     checks.count("its count", count == 0, format!("{count}, not 0"));
     let glues = [0, 0, 7, 0, 1, 0, 0, 2, 0];
     let glued = mj::Design {
         glues: &glues,
         ..design
     };
-    checks.reply("strand 0 with a glue", mj::states_reply(glued), 10);
+    let number = mj::states(glued, &mut place, &mut count);
+    checks.reply("strand 0 with a glue", number, 10);
 }
 
 fn bonds_and_friends(checks: &mut Checks, design: mj::Design) {
-    let number = mj::strand_bond_reply(design, 1, 2);
+    let (mut place, mut bond) = (WHOLE, DOUBLE);
+    let number = mj::strand_bond(design, 1, 2, &mut place, &mut bond);
     checks.reply("a strand bond", number, 0);
-    checks.figure("it", mj::strand_bond(design, 1, 2), 0.0);
-    let number = mj::strand_bond_reply(design, 1, 3);
+    checks.place("its place", place, mj::NOWHERE);
+    checks.figure("it", bond, 0.0);
+    bond = DOUBLE;
+    let number = mj::strand_bond(design, 1, 3, &mut place, &mut bond);
     checks.reply("no such strand", number, 1);
-    let number = mj::scaffold_bond_reply(design, 1, 2);
+    checks.figure("no bond", bond, 0.0);
+    let number = mj::scaffold_bond(design, 1, 2, &mut place, &mut bond);
     checks.reply("a scaffold bond", number, 0);
-    checks.figure("it", mj::scaffold_bond(design, 1, 2), -4.0);
-    let mut entries = [0xa5; 64];
-    let number = mj::friends_reply(design, 2, &mut entries);
+    checks.figure("it", bond, -4.0);
+    let (mut entries, mut count) = ([0xa5; 64], WHOLE);
+    let number = mj::friends(design, 2, &mut entries, &mut place, &mut count);
     checks.reply("no such position", number, 1);
+    checks.count("their count", count == 0, format!("{count}, not 0"));
     checks.count("entries", entries == [0xa5; 64], "not kept".to_string());
-    let number = mj::friends_reply(design, 1, &mut entries);
+    let number = mj::friends(design, 1, &mut entries, &mut place, &mut count);
     checks.reply("friends", number, 0);
-    let count = mj::friends_count(design, 1, &mut entries);
     checks.count("their count", count == 1, format!("{count}, not 1"));
     let written = entries[..2] == [2, 0xa5];
     checks.count("friends", written, format!("{:?}", &entries[..2]));
 }
 
 fn states_and_energies(checks: &mut Checks, design: mj::Design) {
-    checks.reply("states", mj::states_reply(design), 0);
-    let count = mj::states_count(design);
+    let (mut place, mut count) = (WHOLE, WHOLE);
+    let number = mj::states(design, &mut place, &mut count);
+    checks.reply("states", number, 0);
+    checks.place("their place", place, mj::NOWHERE);
     checks.count("their count", count == 4, format!("{count}, not 4"));
     let mut state = [9; 2];
-    checks.reply("rank 4", mj::state_reply(design, 4, &mut state), 13);
+    place = WHOLE;
+    let number = mj::state(design, 4, &mut state, &mut place);
+    checks.reply("rank 4", number, 13);
+    checks.place("its place", place, mj::NOWHERE);
     checks.count("entries", state == [9; 2], "not kept".to_string());
-    checks.reply("rank 2", mj::state_reply(design, 2, &mut state), 0);
+    let number = mj::state(design, 2, &mut state, &mut place);
+    checks.reply("rank 2", number, 0);
     checks.count("its state", state == [0, 2], format!("{state:?}"));
-    let number = mj::state_energy_reply(design, &[1, 2]);
+    let (mut sum, mut energy) = (DOUBLE, DOUBLE);
+    let number = mj::state_energy(design, &[1, 2], &mut place, &mut energy);
     checks.reply("a state energy", number, 0);
-    checks.figure("it", mj::state_energy(design, &[1, 2]), -1.5);
-    let number = mj::state_energy_reply(design, &[2, 2]);
+    checks.figure("it", energy, -1.5);
+    let number = mj::state_energy(design, &[2, 2], &mut place, &mut energy);
     checks.reply("a stranger", number, 11);
-    checks.figure("its energy", mj::state_energy(design, &[2, 2]), 0.0);
-    let number = mj::chain_energy_reply(design, &[1, 2]);
+    checks.figure("its energy", energy, 0.0);
+    let number = mj::chain_energy(design, &[1, 2], &mut place, &mut sum, &mut energy);
     checks.reply("a chain energy", number, 0);
-    checks.figure("it", mj::chain_energy(design, &[1, 2]), -1.5);
-    checks.figure("its sum", mj::chain_sum(design, &[1, 2]), -3.0);
+    checks.figure("it", energy, -1.5);
+    checks.figure("its sum", sum, -3.0);
+    let number = mj::chain_energy(design, &[2, 2], &mut place, &mut sum, &mut energy);
+    checks.reply("a stranger", number, 11);
+    checks.figure("its energy", energy, 0.0);
+    checks.figure("its sum", sum, 0.0);
     let mut settled = [9; 2];
-    let number = mj::search_reply(design, &mut settled[..1]);
+    (place, energy) = (WHOLE, DOUBLE);
+    let number = mj::search(design, &mut settled[..1], &mut place, &mut energy);
     checks.reply("too few entries", number, 1);
+    checks.place("its place", place, mj::NOWHERE);
+    checks.figure("its energy", energy, 0.0);
     checks.count("entries", settled == [9; 2], "not kept".to_string());
-    checks.reply("a search", mj::search_reply(design, &mut settled), 0);
+    let number = mj::search(design, &mut settled, &mut place, &mut energy);
+    checks.reply("a search", number, 0);
     checks.count("its state", settled == [0, 2], format!("{settled:?}"));
-    let energy = mj::search_energy(design, &mut settled);
     checks.figure("its energy", energy, -1.5);
+}
+/// The stack that the header asks for is enough for the largest search, of 128 positions with 63
+/// friends each.
+fn stack(checks: &mut Checks) {
+    let searched = std::thread::Builder::new()
+        .stack_size(256 * 1024)
+        .spawn(|| {
+            let mut dg = vec![0.0; 4096];
+            dg[65] = -1.0;
+            let glues: Vec<u8> = [[0, 0, 0]]
+                .into_iter()
+                .chain([[2, 1, 2]; 63])
+                .flatten()
+                .collect();
+            let design = mj::Design {
+                scaffold: &[1; 128],
+                glues: &glues,
+                dg: &dg,
+                ds: &vec![0.0; 4096],
+                potentials: &[0.0; 64],
+                rt: 0.5,
+                strand_excess: 0.0,
+                scaffold_excess: 0.0,
+            };
+            let (mut entries, mut place, mut energy) = ([0; 128], WHOLE, DOUBLE);
+            (
+                mj::search(design, &mut entries, &mut place, &mut energy),
+                energy,
+            )
+        });
+    let (number, energy) = searched.expect("a thread").join().expect("an answer");
+    checks.reply("a search on 256 KiB", number, 0);
+    checks.figure("its energy", energy, -128.0);
 }
 
 /// One strand with glues a, b* and c**, at the start of the text; after them two bases.
@@ -290,21 +425,25 @@ const STRANDS: mj::Names = mj::Names {
 };
 
 fn names(checks: &mut Checks) {
-    checks.reply("c**", mj::name_reply(TEXT, 3, 3), 0);
-    let base = (mj::name_start(TEXT, 3, 3), mj::name_length(TEXT, 3, 3));
-    checks.count("its base", base == (3, 1), format!("{base:?}"));
-    checks.reply("stands for it", mj::name_is_base(TEXT, 3, 3), 1);
-    checks.reply("b* does not", mj::name_is_base(TEXT, 1, 2), 0);
-    checks.reply("outside", mj::name_reply(TEXT, 7, usize::MAX), 1);
+    let (mut start, mut length, mut is_base) = (WHOLE, WHOLE, WHOLE);
+    let number = mj::name(TEXT, 3, 3, &mut start, &mut length, &mut is_base);
+    checks.reply("c**", number, 0);
+    let base = (start, length, is_base);
+    checks.count("its base", base == (3, 1, 1), format!("{base:?}"));
+    let number = mj::name(TEXT, 1, 2, &mut start, &mut length, &mut is_base);
+    checks.reply("b*", number, 0);
+    let base = (start, length, is_base);
+    checks.count("stands for b*", base == (1, 1, 0), format!("{base:?}"));
+    (start, length, is_base) = (WHOLE, WHOLE, WHOLE);
+    let number = mj::name(TEXT, 7, usize::MAX, &mut start, &mut length, &mut is_base);
+    checks.reply("outside", number, 1);
+    let base = (start, length, is_base);
+    checks.count("no base", base == (0, 0, 0), format!("{base:?}"));
     let mut glues = [9; 3];
-    let number = mj::strand_glues_reply(TEXT, 1, STRANDS, &mut glues[..2]);
+    let number = mj::strand_glues(TEXT, 1, STRANDS, &mut glues[..2]);
     checks.reply("too few glues", number, 1);
     checks.count("glues kept", glues == [9; 3], format!("{glues:?}"));
-    checks.reply(
-        "glues",
-        mj::strand_glues_reply(TEXT, 1, STRANDS, &mut glues),
-        0,
-    );
+    checks.reply("glues", mj::strand_glues(TEXT, 1, STRANDS, &mut glues), 0);
     checks.count("their numbers", glues == [1, 4, 5], format!("{glues:?}"));
 }
 
@@ -345,7 +484,7 @@ fn params(checks: &mut Checks) {
             dg: &mut dg,
             ds: &mut ds,
         };
-        checks.reply("a build", mj::params_reply(set, into), number);
+        checks.reply("a build", mj::params(set, into), number);
         if number != 0 {
             let kept = strand_glues == [9; 12] && dg.iter().chain(&ds).all(|x| *x == -7.0);
             checks.count("all kept", kept, "written".to_string());
@@ -356,8 +495,8 @@ fn params(checks: &mut Checks) {
         checks.count("strand glues", strand_glues == expected, told);
         checks.count("scaffold glue", scaffold_glues == [3], String::new());
         for cell in [3 * 64 + 4, 4 * 64 + 3] {
-            checks.figure("dG", dg[cell].to_bits(), (-1.44 + 1.96) + 0.5);
-            checks.figure("dS", ds[cell].to_bits(), (-0.0224 + 0.0057) + 0.0);
+            checks.figure("dG", dg[cell], (-1.44 + 1.96) + 0.5);
+            checks.figure("dS", ds[cell], (-0.0224 + 0.0057) + 0.0);
         }
         let filled = dg.iter().chain(&ds).filter(|x| x.to_bits() != 0).count();
         checks.count("nothing else", filled == 4, format!("{filled} cells"));

@@ -7,6 +7,7 @@ use crate::ambients::{self, Ambients, ROUND_RTS};
 use crate::designs::{ambient_line, design, lines_of_both, Ambient, Shape, Sort, SORTS};
 use crate::judge::design::{Lent, CELLS, MOST_STATES};
 use crate::judge::Verdict;
+use crate::parting::Parting;
 use crate::question::{Expected, Question};
 use crate::random::Random;
 use protocol::{bits, joined};
@@ -17,6 +18,7 @@ use std::rc::Rc;
 #[derive(Default)]
 pub struct Designs {
     ambients: RefCell<Ambients>,
+    parting: Parting,
 }
 
 /// Designs of each size in one round.
@@ -80,6 +82,14 @@ impl Kind for Designs {
             let sort = random.pick(&SORTS);
             self.about(random, sort, &shape, ask);
         }
+    }
+
+    fn watch(&self, line: &str, port: &str) {
+        self.parting.see(line, port);
+    }
+
+    fn watched(&self) -> Option<Result<String, String>> {
+        Some(self.parting.said())
     }
 }
 

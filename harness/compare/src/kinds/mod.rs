@@ -52,6 +52,14 @@ pub trait Kind {
         vec![]
     }
 
+    /// Sees each answer of the port to a line that is admitted.
+    fn watch(&self, _line: &str, _port: &str) {}
+
+    /// What was watched, as a line of the run; an error where it is not as it should be.
+    fn watched(&self) -> Option<Result<String, String>> {
+        None
+    }
+
     /// Something about the oracle's figures that is worth counting.
     fn note(&self, _oracle: &str) -> Option<&'static str> {
         None

@@ -64,7 +64,7 @@ fn drawn(random: &mut Random, ambients: &Ambients, sort: Sort, shape: &Shape) ->
 }
 
 /// The lines that set a design. What is 0 is left out.
-fn setting(lent: &Lent) -> Vec<Answered> {
+pub fn setting(lent: &Lent) -> Vec<Answered> {
     let ambient = [lent.rt, lent.strand_excess, lent.scaffold_excess].map(bits);
     let (positions, strands) = (lent.positions(), lent.strands());
     let begun = format!("design {positions} {strands} {}", ambient.join(" "));
@@ -86,7 +86,7 @@ fn setting(lent: &Lent) -> Vec<Answered> {
 }
 
 /// A byte for each place: 48 and the number of its strand.
-fn places(configuration: &[u8]) -> String {
+pub fn places(configuration: &[u8]) -> String {
     match configuration {
         [] => "-".to_string(),
         strands => strands.iter().map(|strand| (48 + strand) as char).collect(),

@@ -1,7 +1,8 @@
 //! The fixed list of answers that the Rattle program `replay` reads where no Rust is at hand.
-//! Figures are the oracle's, refusals the judge's. `HEADER` has the layout.
+//! `HEADER` has the layout, and says whose the answers are.
 
 mod designs;
+mod limits;
 mod lines;
 
 use crate::judge::{parameters, sequences, temperature, Verdict};
@@ -33,6 +34,8 @@ pub const HEADER: &str = "\
 # A sequence or a name stands as it is, an empty one as -. PLACES are a byte for each place, 48 and the number of its strand, so
 # that 0 is an empty place; with no places they are -. Below 256 K the Rust's strand excess can be another number than
 # document 01's T - 310.15; there the Rust's scaffold excess, which is that, stands for both.
+# Figures are the Rust's, refusals those of the harness's judge, who reads document 01. The judge's are also the counts and states of
+# designs with more than 4096 states, the second figure of chain, and every answer behind the line that says so.
 ";
 
 pub const FALSE_HEADER: &str = "\
@@ -219,6 +222,7 @@ fn answered(oracle: &mut Program) -> Result<Vec<Answered>, String> {
         list.push(Answered { question, answer });
     }
     list.append(&mut designs::designs(oracle)?);
+    list.append(&mut limits::limits());
     Ok(list)
 }
 

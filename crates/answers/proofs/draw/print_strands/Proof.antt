@@ -10,77 +10,26 @@ Inv-loop text glue-starts glue-sizes name-starts name-sizes configuration from e
 abbrev μ-loop : tie.MeasureT-loop
 μ-loop text glue-starts glue-sizes name-starts name-sizes configuration from end i₀ t13 i = end - i
 
-slice-aggregate-print : tie.Need-slice-aggregate-print Inv-loop μ-loop
-slice-aggregate-print c = search needs
-
-print-requires : tie.Need-print-requires Inv-loop μ-loop
-print-requires c κs = search needs
-
-loop-holds : tie.Need-loop-holds Inv-loop μ-loop
-loop-holds c = search needs
-
-byte-at-requires : tie.Need-byte-at-requires Inv-loop μ-loop
-byte-at-requires c κs = search needs
-
-cast-occupant-of : tie.Need-cast-occupant-of Inv-loop μ-loop
-cast-occupant-of c = search needs
-
-occupant-of-requires : tie.Need-occupant-of-requires Inv-loop μ-loop
-occupant-of-requires c κs = search needs
-
-print-occupant-requires : tie.Need-print-occupant-requires Inv-loop μ-loop
-print-occupant-requires c κs = search needs
-
-add-if1 : tie.Need-add-if1 Inv-loop μ-loop
-add-if1 c = search needs
-
-occupant-width-requires : tie.Need-occupant-width-requires Inv-loop μ-loop
-occupant-width-requires c κs = search needs
-
-column-requires : tie.Need-column-requires Inv-loop μ-loop
-column-requires c κs = search needs
-
-print-gap-requires : tie.Need-print-gap-requires Inv-loop μ-loop
-print-gap-requires c κs = search needs
-
-add-i : tie.Need-add-i Inv-loop μ-loop
-add-i c = search needs
-
-loop-less : tie.Need-loop-less Inv-loop μ-loop
-loop-less c = search needs
-
-loop-again : tie.Need-loop-again Inv-loop μ-loop
-loop-again c = search needs
-
-slice-aggregate-print-2 : tie.Need-slice-aggregate-print-2 Inv-loop μ-loop
-slice-aggregate-print-2 c = search needs
-
-print-requires-2 : tie.Need-print-requires-2 Inv-loop μ-loop
-print-requires-2 c κs = search needs
-
-returns : tie.Need-returns Inv-loop μ-loop
-returns c = search needs
-
 pub print-strands-spec : {M : Type 1} → statement M
 print-strands-spec =
     tie.close
     (tie.spec
     Inv-loop
     μ-loop
-    slice-aggregate-print
-    print-requires
-    loop-holds
-    byte-at-requires
-    cast-occupant-of
-    occupant-of-requires
-    print-occupant-requires
-    add-if1
-    occupant-width-requires
-    column-requires
-    print-gap-requires
-    add-i
-    loop-less
-    loop-again
-    slice-aggregate-print-2
-    print-requires-2
-    returns)
+    (λ c. search needs)
+    (λ c κs. search needs)
+    (λ c. search needs)
+    (λ c κs. search needs)
+    (λ c. search needs)
+    (λ c κs. search needs)
+    (λ c κs. search needs)
+    (λ c. search needs)
+    (λ c κs. search needs)
+    (λ c κs. search needs)
+    (λ c κs. search needs)
+    (λ c. search needs)
+    (λ c. search needs)
+    (λ c. search needs)
+    (λ c. search needs)
+    (λ c κs. search needs)
+    (λ c. search needs))

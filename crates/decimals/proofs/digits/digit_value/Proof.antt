@@ -5,24 +5,6 @@ use Rattle.decimals.proofs.Worth.{worth-digit, worth-small, worth-large
 use Rattle.decimals.proofs.digits.digit_value.Statement.{statement}
 use Rattle.decimals.proofs.digits.digit_value.Tie as tie
 
-wide-requires : tie.Need-wide-requires
-wide-requires c κs = search needs
-
-sub-result : tie.Need-sub-result
-sub-result c = search needs
-
-wide-requires-2 : tie.Need-wide-requires-2
-wide-requires-2 c κs = search needs
-
-sub-result-2 : tie.Need-sub-result-2
-sub-result-2 c = search needs
-
-wide-requires-3 : tie.Need-wide-requires-3
-wide-requires-3 c κs = search needs
-
-sub-result-3 : tie.Need-sub-result-3
-sub-result-3 c = search needs
-
 returns : tie.Need-returns
 returns c = rw (c .wide .ensures) (worth-digit _ (omega arith) (omega arith))
 
@@ -48,12 +30,12 @@ pub digit-value-spec : {M : Type 1} → statement M
 digit-value-spec =
     tie.close
     (tie.spec
-    wide-requires
-    sub-result
-    wide-requires-2
-    sub-result-2
-    wide-requires-3
-    sub-result-3
+    (λ c κs. search needs)
+    (λ c. search needs)
+    (λ c κs. search needs)
+    (λ c. search needs)
+    (λ c κs. search needs)
+    (λ c. search needs)
     returns
     returns-2
     returns-3

@@ -22,12 +22,6 @@ abbrev μ-loop : tie.MeasureT-loop
 loop-holds : tie.Need-loop-holds Inv-loop μ-loop
 loop-holds c = (omega arith, refl, refl)
 
-sub-i : tie.Need-sub-i Inv-loop μ-loop
-sub-i c = search needs
-
-rem-digit : tie.Need-rem-digit Inv-loop μ-loop
-rem-digit c = search needs
-
 digit-requires : tie.Need-digit-requires Inv-loop μ-loop
 digit-requires c κs =
     let a = c .before .before .before .args in
@@ -35,18 +29,6 @@ digit-requires c κs =
     let h : 0 < a .base = omega arith in
     let below = mod-lt (l .left) h in
     omega arith
-
-add-out : tie.Need-add-out Inv-loop μ-loop
-add-out c = search needs
-
-slice-write-out : tie.Need-slice-write-out Inv-loop μ-loop
-slice-write-out c = search needs
-
-div-left : tie.Need-div-left Inv-loop μ-loop
-div-left c = search needs
-
-loop-less : tie.Need-loop-less Inv-loop μ-loop
-loop-less c = search needs
 
 loop-again : tie.Need-loop-again Inv-loop μ-loop
 loop-again c =
@@ -56,9 +38,6 @@ loop-again c =
       length-set (l .out) (a .at + (l .i - 1)) (c .digit .result) ∙ l .inv .1,
       rw (c .digit .ensures) (sets-back (a .base) (l .i) (l .left) (a .at) (l .out) (c .before .loop-test .taken) ∙ l .inv .2),
     )
-
-same-length : tie.Need-same-length Inv-loop μ-loop
-same-length c = search needs
 
 returns : tie.Need-returns Inv-loop μ-loop
 returns c =
@@ -74,13 +53,13 @@ put-digits-spec =
     Inv-loop
     μ-loop
     loop-holds
-    sub-i
-    rem-digit
+    (λ c. search needs)
+    (λ c. search needs)
     digit-requires
-    add-out
-    slice-write-out
-    div-left
-    loop-less
+    (λ c. search needs)
+    (λ c. search needs)
+    (λ c. search needs)
+    (λ c. search needs)
     loop-again
-    same-length
+    (λ c. search needs)
     returns)

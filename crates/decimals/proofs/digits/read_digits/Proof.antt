@@ -21,18 +21,6 @@ abbrev μ-loop : tie.MeasureT-loop
 loop-holds : tie.Need-loop-holds Inv-loop μ-loop
 loop-holds c = (omega arith, omega arith, refl)
 
-shared-slice-read-digit-value : tie.Need-shared-slice-read-digit-value Inv-loop μ-loop
-shared-slice-read-digit-value c = search needs
-
-digit-value-requires : tie.Need-digit-value-requires Inv-loop μ-loop
-digit-value-requires c κs = search needs
-
-sub-if1 : tie.Need-sub-if1 Inv-loop μ-loop
-sub-if1 c = search needs
-
-div-if1 : tie.Need-div-if1 Inv-loop μ-loop
-div-if1 c = search needs
-
 returns : tie.Need-returns Inv-loop μ-loop
 returns c =
     let s = c .before .before .before .before .before .before in
@@ -61,12 +49,6 @@ add-n c =
     let fits = within-limit (a .limit) (l .n) (a .base) (c .before .digit-value .result) (s .pre .0) (c .before .digit-value .ensures .1) (s .pre .1) (c .if1 .left) in
     omega arith
 
-add-i : tie.Need-add-i Inv-loop μ-loop
-add-i c = search needs
-
-loop-less : tie.Need-loop-less Inv-loop μ-loop
-loop-less c = search needs
-
 loop-again : tie.Need-loop-again Inv-loop μ-loop
 loop-again c =
     let s = c .before .before .before .before .before .before in
@@ -91,14 +73,14 @@ read-digits-spec =
     Inv-loop
     μ-loop
     loop-holds
-    shared-slice-read-digit-value
-    digit-value-requires
-    sub-if1
-    div-if1
+    (λ c. search needs)
+    (λ c κs. search needs)
+    (λ c. search needs)
+    (λ c. search needs)
     returns
     mul-n
     add-n
-    add-i
-    loop-less
+    (λ c. search needs)
+    (λ c. search needs)
     loop-again
     returns-2)

@@ -5,20 +5,8 @@ use Rattle.decimals.proofs.Sizes.{low-millionths, normal-millionths}
 use Rattle.decimals.proofs.printing.in_millionths.Statement.{statement}
 use Rattle.decimals.proofs.printing.in_millionths.Tie as tie
 
-shifted-millionths-requires : tie.Need-shifted-millionths-requires
-shifted-millionths-requires c κs = search needs
-
 returns : tie.Need-returns
 returns c = c .shifted-millionths .ensures ∙ low-millionths (c .before .before .args .bits) (c .before .before .pre) (c .before .if1 .taken)
-
-add-shifted-millionths : tie.Need-add-shifted-millionths
-add-shifted-millionths c = search needs
-
-sub-shifted-millionths : tie.Need-sub-shifted-millionths
-sub-shifted-millionths c = search needs
-
-shifted-millionths-requires-2 : tie.Need-shifted-millionths-requires-2
-shifted-millionths-requires-2 c κs = search needs
 
 returns-2 : tie.Need-returns-2
 returns-2 c = c .shifted-millionths2 .ensures ∙ normal-millionths (c .before .before .args .bits) (c .before .before .pre) (c .before .if1 .left)
@@ -27,9 +15,9 @@ pub in-millionths-spec : {M : Type 1} → statement M
 in-millionths-spec =
     tie.close
     (tie.spec
-    shifted-millionths-requires
+    (λ c κs. search needs)
     returns
-    add-shifted-millionths
-    sub-shifted-millionths
-    shifted-millionths-requires-2
+    (λ c. search needs)
+    (λ c. search needs)
+    (λ c κs. search needs)
     returns-2)

@@ -10,18 +10,6 @@ use Rattle.decimals.proofs.Sizes.{million-room, below-unit, unit-room, 
 use Rattle.decimals.proofs.printing.shifted_millionths.Statement.{statement}
 use Rattle.decimals.proofs.printing.shifted_millionths.Tie as tie
 
-limbs-of-requires : tie.Need-limbs-of-requires
-limbs-of-requires c κs = search needs
-
-limbs-of-requires-2 : tie.Need-limbs-of-requires-2
-limbs-of-requires-2 c κs = search needs
-
-slice-aggregate-times : tie.Need-slice-aggregate-times
-slice-aggregate-times c = search needs
-
-cast-times : tie.Need-cast-times
-cast-times c = search needs
-
 times-requires : tie.Need-times-requires
 times-requires c κs =
     let s = c .before .before .before in
@@ -29,24 +17,12 @@ times-requires c κs =
     let e : length (num .result) ≡ 44 = search needs in
     rw (e, num .ensures) (million-room (s .args .significand) (s .pre .0))
 
-slice-aggregate-times-power : tie.Need-slice-aggregate-times-power
-slice-aggregate-times-power c = search needs
-
-add-times-power : tie.Need-add-times-power
-add-times-power c = search needs
-
 times-power-requires : tie.Need-times-power-requires
 times-power-requires c κs =
     let s = c .before .before .before .before .before .before in
     let den = c .before .before .before .before .limbs-of2 in
     let e : length (den .result) ≡ 44 = search needs in
     (omega arith, rw (e, den .ensures) (once-below (1 * 2 ^ (s .args .shift + 63)) 2 (2 ^ (32 * 44)) (omega arith) (unit-room (s .args .shift) (s .pre .2))))
-
-slice-aggregate-nearest-quotient : tie.Need-slice-aggregate-nearest-quotient
-slice-aggregate-nearest-quotient c = search needs
-
-slice-aggregate-nearest-quotient-2 : tie.Need-slice-aggregate-nearest-quotient-2
-slice-aggregate-nearest-quotient-2 c = search needs
 
 nearest-quotient-requires : tie.Need-nearest-quotient-requires
 nearest-quotient-requires c κs =
@@ -77,15 +53,15 @@ pub shifted-millionths-spec : {M : Type 1} → statement M
 shifted-millionths-spec =
     tie.close
     (tie.spec
-    limbs-of-requires
-    limbs-of-requires-2
-    slice-aggregate-times
-    cast-times
+    (λ c κs. search needs)
+    (λ c κs. search needs)
+    (λ c. search needs)
+    (λ c. search needs)
     times-requires
-    slice-aggregate-times-power
-    add-times-power
+    (λ c. search needs)
+    (λ c. search needs)
     times-power-requires
-    slice-aggregate-nearest-quotient
-    slice-aggregate-nearest-quotient-2
+    (λ c. search needs)
+    (λ c. search needs)
     nearest-quotient-requires
     returns)

@@ -12,36 +12,12 @@ use Rattle.decimals.proofs.Room.{no-room, room}
 use Rattle.decimals.proofs.printing.write_millionths.Statement.{statement}
 use Rattle.decimals.proofs.printing.write_millionths.Tie as tie
 
-minus-signs-requires : tie.Need-minus-signs-requires
-minus-signs-requires c κs = search needs
-
-count-places-requires : tie.Need-count-places-requires
-count-places-requires c κs = search needs
-
-add-point : tie.Need-add-point
-add-point c = search needs
-
-add-if1 : tie.Need-add-if1
-add-if1 c = search needs
-
 returns : tie.Need-returns
 returns c =
     let a = c .before .before .before .before .args in
     let signs = c .before .before .minus-signs in
     let whole = c .before .count-places in
     no-room (fixed (a .negative) (a .n)) (now (a .out)) (signs .result + whole .result + 7) (fixed-length (a .negative) (a .n) (signs .result) (whole .result) (signs .ensures .0) (whole .ensures .0)) (c .if1 .taken)
-
-put-signs-requires : tie.Need-put-signs-requires
-put-signs-requires c κs = search needs
-
-put-digits-requires : tie.Need-put-digits-requires
-put-digits-requires c κs = search needs
-
-slice-write-out : tie.Need-slice-write-out
-slice-write-out c = search needs
-
-add-put-digits : tie.Need-add-put-digits
-add-put-digits c = search needs
 
 put-digits-requires-2 : tie.Need-put-digits-requires-2
 put-digits-requires-2 c κs =
@@ -50,9 +26,6 @@ put-digits-requires-2 c κs =
     let out : length (whole .put-digits .last .1 .1 .1 .1 .0) ≡ length (now (signs .before .before .before .before .before .before .args .out)) =
     whole .put-digits .kept .1 .1 .1 .1 .0 ∙ signs .put-signs .kept .1 .0 in
     (omega arith, omega arith, simp length-set (omega arith))
-
-add-t9 : tie.Need-add-t9
-add-t9 c = search needs
 
 same-length : tie.Need-same-length
 same-length c =
@@ -83,16 +56,16 @@ pub write-millionths-spec : {M : Type 1} → statement M
 write-millionths-spec =
     tie.close
     (tie.spec
-    minus-signs-requires
-    count-places-requires
-    add-point
-    add-if1
+    (λ c κs. search needs)
+    (λ c κs. search needs)
+    (λ c. search needs)
+    (λ c. search needs)
     returns
-    put-signs-requires
-    put-digits-requires
-    slice-write-out
-    add-put-digits
+    (λ c κs. search needs)
+    (λ c κs. search needs)
+    (λ c. search needs)
+    (λ c. search needs)
     put-digits-requires-2
-    add-t9
+    (λ c. search needs)
     same-length
     returns-2)

@@ -6,57 +6,6 @@ use Rattle.decimals.proofs.Placed.{parts-are, decimal-malformed, decima
 use Rattle.decimals.proofs.reading.decimal.Statement.{statement}
 use Rattle.decimals.proofs.reading.decimal.Tie as tie
 
-sign-length-requires : tie.Need-sign-length-requires
-sign-length-requires c κs = search needs
-
-past-requires : tie.Need-past-requires
-past-requires c κs = search needs
-
-digit-run-requires : tie.Need-digit-run-requires
-digit-run-requires c κs = search needs
-
-past-requires-2 : tie.Need-past-requires-2
-past-requires-2 c κs = search needs
-
-point-length-requires : tie.Need-point-length-requires
-point-length-requires c κs = search needs
-
-past-requires-3 : tie.Need-past-requires-3
-past-requires-3 c κs = search needs
-
-digit-run-requires-2 : tie.Need-digit-run-requires-2
-digit-run-requires-2 c κs = search needs
-
-front-requires : tie.Need-front-requires
-front-requires c κs = search needs
-
-front-requires-2 : tie.Need-front-requires-2
-front-requires-2 c κs = search needs
-
-begins-with-requires : tie.Need-begins-with-requires
-begins-with-requires c κs = search needs
-
-past-requires-4 : tie.Need-past-requires-4
-past-requires-4 c κs = search needs
-
-exponent-of-requires : tie.Need-exponent-of-requires
-exponent-of-requires c κs = search needs
-
-enum-told : tie.Need-enum-told
-enum-told c = search needs
-
-enum-known-power : tie.Need-enum-known-power
-enum-known-power c = search needs
-
-value-requires : tie.Need-value-requires
-value-requires c κs = search needs
-
-enum-known-power-2 : tie.Need-enum-known-power-2
-enum-known-power-2 c = search needs
-
-value-requires-2 : tie.Need-value-requires-2
-value-requires-2 c κs = search needs
-
 returns : tie.Need-returns
 returns c =
     let ended = c .before .before in
@@ -100,23 +49,23 @@ pub decimal-spec : {M : Type 1} → statement M
 decimal-spec =
     tie.close
     (tie.spec
-    sign-length-requires
-    past-requires
-    digit-run-requires
-    past-requires-2
-    point-length-requires
-    past-requires-3
-    digit-run-requires-2
-    front-requires
-    front-requires-2
-    begins-with-requires
-    past-requires-4
-    exponent-of-requires
-    enum-told
-    enum-known-power
-    value-requires
-    enum-known-power-2
-    value-requires-2
+    (λ c κs. search needs)
+    (λ c κs. search needs)
+    (λ c κs. search needs)
+    (λ c κs. search needs)
+    (λ c κs. search needs)
+    (λ c κs. search needs)
+    (λ c κs. search needs)
+    (λ c κs. search needs)
+    (λ c κs. search needs)
+    (λ c κs. search needs)
+    (λ c κs. search needs)
+    (λ c κs. search needs)
+    (λ c. search needs)
+    (λ c. search needs)
+    (λ c κs. search needs)
+    (λ c. search needs)
+    (λ c κs. search needs)
     returns
     returns-2
     returns-3)

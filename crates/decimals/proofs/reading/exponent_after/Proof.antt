@@ -9,26 +9,11 @@ use Rattle.decimals.proofs.Exponents.{exponent-malformed, exponent-down
 use Rattle.decimals.proofs.reading.exponent_after.Statement.{statement}
 use Rattle.decimals.proofs.reading.exponent_after.Tie as tie
 
-sign-length-requires : tie.Need-sign-length-requires
-sign-length-requires c κs = search needs
-
-past-requires : tie.Need-past-requires
-past-requires c κs = search needs
-
-all-digits-requires : tie.Need-all-digits-requires
-all-digits-requires c κs = search needs
-
 returns : tie.Need-returns
 returns c =
     let text = now (c .before .before .before .before .before .args .text) in
     let digits = c .before .before .past .ensures ∙ ap (λ (a : ℕ). drop a text) (c .before .before .before .sign-length .ensures .0) in
     exponent-malformed text _ digits (sym (c .before .all-digits .ensures) ∙ not-true (c .before .all-digits .result) (c .if1 .taken))
-
-read-digits-requires : tie.Need-read-digits-requires
-read-digits-requires c κs = search needs
-
-begins-with-requires : tie.Need-begins-with-requires
-begins-with-requires c κs = search needs
 
 returns-2 : tie.Need-returns-2
 returns-2 c =
@@ -48,11 +33,11 @@ pub exponent-after-spec : {M : Type 1} → statement M
 exponent-after-spec =
     tie.close
     (tie.spec
-    sign-length-requires
-    past-requires
-    all-digits-requires
+    (λ c κs. search needs)
+    (λ c κs. search needs)
+    (λ c κs. search needs)
     returns
-    read-digits-requires
-    begins-with-requires
+    (λ c κs. search needs)
+    (λ c κs. search needs)
     returns-2
     returns-3)

@@ -9,28 +9,10 @@ use Rattle.decimals.proofs.reading.exponent_of.Tie as tie
 returns : tie.Need-returns
 returns c = exponent-none (now (c .before .before .args .rest)) (c .if1 .taken)
 
-begins-with-requires : tie.Need-begins-with-requires
-begins-with-requires c κs = search needs
-
-past-requires : tie.Need-past-requires
-past-requires c κs = search needs
-
-exponent-after-requires : tie.Need-exponent-after-requires
-exponent-after-requires c κs = search needs
-
 returns-2 : tie.Need-returns-2
 returns-2 c =
     c .exponent-after .ensures
     ∙ exponent-small (now (c .before .before .before .before .before .before .args .rest)) (c .before .before .before .before .if1 .left) _ (c .before .past .ensures) (sym (c .before .before .before .begins-with .ensures) ∙ c .before .before .if2 .taken)
-
-begins-with-requires-2 : tie.Need-begins-with-requires-2
-begins-with-requires-2 c κs = search needs
-
-past-requires-2 : tie.Need-past-requires-2
-past-requires-2 c κs = search needs
-
-exponent-after-requires-2 : tie.Need-exponent-after-requires-2
-exponent-after-requires-2 c κs = search needs
 
 returns-3 : tie.Need-returns-3
 returns-3 c =
@@ -50,12 +32,12 @@ exponent-of-spec =
     tie.close
     (tie.spec
     returns
-    begins-with-requires
-    past-requires
-    exponent-after-requires
+    (λ c κs. search needs)
+    (λ c κs. search needs)
+    (λ c κs. search needs)
     returns-2
-    begins-with-requires-2
-    past-requires-2
-    exponent-after-requires-2
+    (λ c κs. search needs)
+    (λ c κs. search needs)
+    (λ c κs. search needs)
     returns-3
     returns-4)

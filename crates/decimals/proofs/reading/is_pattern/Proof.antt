@@ -14,23 +14,11 @@ use Rattle.decimals.proofs.reading.is_pattern.Tie as tie
 returns : tie.Need-returns
 returns c = simp (ne-eqb _ _ (c .if1 .taken))
 
-shared-slice-read-if2 : tie.Need-shared-slice-read-if2
-shared-slice-read-if2 c = search needs
-
 returns-2 : tie.Need-returns-2
 returns-2 c = pattern-start (now (c .before .before .before .before .args .word)) (c .before .before .if1 .left) (c .if2 .taken)
 
-shared-slice-read-if3 : tie.Need-shared-slice-read-if3
-shared-slice-read-if3 c = search needs
-
 returns-3 : tie.Need-returns-3
 returns-3 c = pattern-second (now (c .before .before .before .before .before .before .args .word)) (c .before .before .before .before .if1 .left) (c .before .before .if2 .left) (c .if3 .taken)
-
-past-requires : tie.Need-past-requires
-past-requires c κs = search needs
-
-digit-run-requires : tie.Need-digit-run-requires
-digit-run-requires c κs = search needs
 
 returns-4 : tie.Need-returns-4
 returns-4 c =
@@ -43,10 +31,10 @@ is-pattern-spec =
     tie.close
     (tie.spec
     returns
-    shared-slice-read-if2
+    (λ c. search needs)
     returns-2
-    shared-slice-read-if3
+    (λ c. search needs)
     returns-3
-    past-requires
-    digit-run-requires
+    (λ c κs. search needs)
+    (λ c κs. search needs)
     returns-4)

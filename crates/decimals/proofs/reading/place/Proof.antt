@@ -7,22 +7,10 @@ use Rattle.decimals.proofs.Placed.{double-is, placed-near, placed-high,
 use Rattle.decimals.proofs.reading.place.Statement.{statement}
 use Rattle.decimals.proofs.reading.place.Tie as tie
 
-sub-if2 : tie.Need-sub-if2
-sub-if2 c = search needs
-
 returns : tie.Need-returns
 returns c =
     let a = c .before .before .args in
     placed-high (a .negative) (a .digits) (a .up) (a .down) (omega arith)
-
-sub-decimal-bits : tie.Need-sub-decimal-bits
-sub-decimal-bits c = search needs
-
-decimal-bits-requires : tie.Need-decimal-bits-requires
-decimal-bits-requires c κs = search needs
-
-double-requires : tie.Need-double-requires
-double-requires c κs = search needs
 
 returns-2 : tie.Need-returns-2
 returns-2 c =
@@ -35,12 +23,6 @@ returns-3 c =
     let a = c .before .before .args in
     placed-low (a .negative) (a .digits) (a .up) (a .down) (omega arith)
 
-decimal-bits-requires-2 : tie.Need-decimal-bits-requires-2
-decimal-bits-requires-2 c κs = search needs
-
-double-requires-2 : tie.Need-double-requires-2
-double-requires-2 c κs = search needs
-
 returns-4 : tie.Need-returns-4
 returns-4 c =
     let a = c .before .before .before .before .args in
@@ -51,13 +33,13 @@ pub place-spec : {M : Type 1} → statement M
 place-spec =
     tie.close
     (tie.spec
-    sub-if2
+    (λ c. search needs)
     returns
-    sub-decimal-bits
-    decimal-bits-requires
-    double-requires
+    (λ c. search needs)
+    (λ c κs. search needs)
+    (λ c κs. search needs)
     returns-2
     returns-3
-    decimal-bits-requires-2
-    double-requires-2
+    (λ c κs. search needs)
+    (λ c κs. search needs)
     returns-4)

@@ -9,20 +9,11 @@ use Rattle.decimals.proofs.Placed.{valued-none, valued-many, valued-hig
 use Rattle.decimals.proofs.reading.value.Statement.{statement}
 use Rattle.decimals.proofs.reading.value.Tie as tie
 
-no-digits-requires : tie.Need-no-digits-requires
-no-digits-requires c κs = search needs
-
 returns : tie.Need-returns
 returns c =
     let a = c .before .before .before .before .args in
     let places = length (now (a .fraction)) in
     valued-none (a .negative) (now (a .whole)) (now (a .fraction)) (a .power) (cond (a .downwards) 0 (a .power)) (cond (a .downwards) (places + a .power) places) (sym (c .before .no-digits .ensures) ∙ c .if1 .taken)
-
-read-digits-requires : tie.Need-read-digits-requires
-read-digits-requires c κs = search needs
-
-read-digits-requires-2 : tie.Need-read-digits-requires-2
-read-digits-requires-2 c κs = search needs
 
 returns-2 : tie.Need-returns-2
 returns-2 c =
@@ -55,12 +46,6 @@ returns-4 c =
     placed-long (a .negative) (a .downwards) (r .read-digits2 .result) (length fraction) (a .power) (c .before .if3 .left) (c .if4 .taken)
     ∙ valued-placed (a .negative) whole fraction (a .power) (cond (a .downwards) 0 (a .power)) (cond (a .downwards) (length fraction + a .power) (length fraction)) some (r .read-digits2 .result) read (c .before .before .if2 .left) (c .before .if3 .left)
 
-add-place : tie.Need-add-place
-add-place c = search needs
-
-place-requires : tie.Need-place-requires
-place-requires c κs = search needs
-
 returns-5 : tie.Need-returns-5
 returns-5 c =
     let r = c .before .before .before .before .before in
@@ -71,9 +56,6 @@ returns-5 c =
     let read = read-both whole fraction (r .before .read-digits .result) (r .read-digits2 .result) (r .before .read-digits .ensures) (r .read-digits2 .ensures) in
     c .place .ensures
     ∙ rw (c .before .if5 .taken) (valued-placed (a .negative) whole fraction (a .power) 0 (length fraction + a .power) some (r .read-digits2 .result) read (c .before .before .before .before .if2 .left) (c .before .before .before .if3 .left))
-
-place-requires-2 : tie.Need-place-requires-2
-place-requires-2 c κs = search needs
 
 returns-6 : tie.Need-returns-6
 returns-6 c =
@@ -90,15 +72,15 @@ pub value-spec : {M : Type 1} → statement M
 value-spec =
     tie.close
     (tie.spec
-    no-digits-requires
+    (λ c κs. search needs)
     returns
-    read-digits-requires
-    read-digits-requires-2
+    (λ c κs. search needs)
+    (λ c κs. search needs)
     returns-2
     returns-3
     returns-4
-    add-place
-    place-requires
+    (λ c. search needs)
+    (λ c κs. search needs)
     returns-5
-    place-requires-2
+    (λ c κs. search needs)
     returns-6)

@@ -5,7 +5,7 @@ use native.Mathlib.Omega.{arith}
 use lib.ListN.{length, replicate, length-set}
 use lib.Seq.{sets}
 use borrow.Author.Needs.{needs}
-use Rattle.lists.proofs.Over.{sets-run, sets-none}
+use Rattle.lists.proofs.Front.{sets-run, sets-none}
 use Rattle.deck.proofs.reading.lay.Statement.{statement}
 use Rattle.deck.proofs.reading.lay.Tie as tie
 
@@ -15,7 +15,7 @@ Inv-loop entries₀ at occupant end i₀ entries i =
     × (sets entries i (replicate (end - i) occupant) ≡ sets entries₀ at (replicate (end - at) occupant))
 
 abbrev μ-loop : tie.MeasureT-loop
-μ-loop entries₀ at occupant end i₀ entries i = end - i
+μ-loop entries₀ at occupant end i₀ entries i = length entries - i
 
 add-end : tie.Need-add-end Inv-loop μ-loop
 add-end c = search needs
@@ -30,7 +30,7 @@ add-i : tie.Need-add-i Inv-loop μ-loop
 add-i c = search needs
 
 loop-less : tie.Need-loop-less Inv-loop μ-loop
-loop-less c = search needs
+loop-less c = simp length-set (omega arith)
 
 loop-again : tie.Need-loop-again Inv-loop μ-loop
 loop-again c =

@@ -8,7 +8,7 @@ use lib.ListN.{length, drop}
 use lib.Seq.{sets}
 use borrow.Author.Needs.{needs}
 use denote.Ref.{now}
-use Rattle.deck.specs.Form.{singles}
+use Rattle.deck.specs.Forms.{formOf}
 use Rattle.deck.specs.Deck.{configurationOf, laidOut}
 use Rattle.deck.proofs.Decks.{configuration-few}
 use Rattle.deck.proofs.Laying.{laid-past, laid-length, laid-more}
@@ -16,13 +16,13 @@ use Rattle.deck.proofs.reading.unpack.Statement.{statement}
 use Rattle.deck.proofs.reading.unpack.Tie as tie
 
 abbrev Inv-loop : tie.InvT-loop
-Inv-loop words entries₀ at₀ i₀ entries at i =
-    let rest = laidOut (map (singles .told) (drop i words)) in
-    (length entries ≡ length entries₀) × (at + length rest ≡ length (configurationOf singles words))
-    × (sets entries at rest ≡ sets entries₀ 0 (configurationOf singles words))
+Inv-loop form words entries₀ at₀ i₀ entries at i =
+    let rest = laidOut (map (formOf form .stretchOf) (drop i words)) in
+    (length entries ≡ length entries₀) × (at + length rest ≡ length (configurationOf (formOf form) words))
+    × (sets entries at rest ≡ sets entries₀ 0 (configurationOf (formOf form) words))
 
 abbrev μ-loop : tie.MeasureT-loop
-μ-loop words entries₀ at₀ i₀ entries at i = length words - i
+μ-loop form words entries₀ at₀ i₀ entries at i = length words - i
 
 loop-holds : tie.Need-loop-holds Inv-loop μ-loop
 unfolding configurationOf
@@ -41,8 +41,8 @@ lay-requires : tie.Need-lay-requires Inv-loop μ-loop
 lay-requires c κs =
     let a = c .before .before .before .before .before .before .before .args in
     let l = c .before .before .before .before .loop in
-    let n = laid-length singles (now (a .words)) (l .i) (c .before .before .before .loop-test .taken) (c .of .result) (c .of .ensures) in
-    let few = configuration-few singles (now (a .words)) (c .before .before .before .before .before .before .before .pre .0) in
+    let n = laid-length (formOf (a .form)) (now (a .words)) (l .i) (c .before .before .before .loop-test .taken) (c .of .result) (c .of .ensures) in
+    let few = configuration-few (formOf (a .form)) (now (a .words)) (c .before .before .before .before .before .before .before .pre .0) in
     omega arith
 
 add-i : tie.Need-add-i Inv-loop μ-loop
@@ -58,8 +58,8 @@ loop-again c =
     let h = c .before .before .before .before .before .before .loop-test .taken in
     let s = c .before .before .before .of in
     let laid = c .before .before .lay .ensures in
-    let n = laid-length singles (now (a .words)) (l .i) h (s .result) (s .ensures) in
-    (omega (arith, c .before .before .lay .kept .0), omega arith, rw (laid .0, laid .1) (laid-more singles (now (a .words)) (l .i) h (s .result) (s .ensures) (l .entries) (l .at) ∙ l .inv .2))
+    let n = laid-length (formOf (a .form)) (now (a .words)) (l .i) h (s .result) (s .ensures) in
+    (omega (arith, c .before .before .lay .kept .0), omega arith, rw (laid .0, laid .1) (laid-more (formOf (a .form)) (now (a .words)) (l .i) h (s .result) (s .ensures) (l .entries) (l .at) ∙ l .inv .2))
 
 same-length : tie.Need-same-length Inv-loop μ-loop
 same-length c = search needs
@@ -68,7 +68,7 @@ returns : tie.Need-returns Inv-loop μ-loop
 returns c =
     let a = c .before .before .before .before .args in
     let l = c .before .loop in
-    let past = laid-past singles (now (a .words)) (l .i) (c .loop-test .left) in
+    let past = laid-past (formOf (a .form)) (now (a .words)) (l .i) (c .loop-test .left) in
     let inv = rw past at (l .inv) in
     (omega arith, inv .2)
 

@@ -1,4 +1,4 @@
--- `deck::writing::pack` meets its contract. The loop's invariant: the words still to come, stored from here on, give the whole. A word tells of
+-- `deck::writing::pack` meets its contract. The loop's invariant: the words still to come, stored from here on, give the whole. A word has
 -- a position at least, so there is room for it. Assumes nothing.
 use mathlib.Core.Path.{_≡_, refl, sym, ap, _∙_}
 use mathlib.Core.List.{List, [], _∷_, map}
@@ -9,26 +9,27 @@ use lib.ListN.{length, drop, length-set, drop-of-length-le}
 use lib.Seq.{sets}
 use borrow.Author.Needs.{needs}
 use denote.Ref.{now}
-use Rattle.deck.specs.Form.{singles}
+use Rattle.deck.specs.Forms.{formOf}
 use Rattle.deck.specs.Deck.{deckOf, stretchesOf}
+use Rattle.deck.specs.declared.DeckForm.{DeckForm}
 use Rattle.deck.proofs.writing.pack.Statement.{statement}
 use Rattle.deck.proofs.writing.pack.Tie as tie
 
 -- the words of what is left of a configuration
-abbrev wordsFrom : List ℕ → ℕ → List ℕ
-wordsFrom configuration at = map (singles .word) (stretchesOf singles (drop at configuration))
+abbrev wordsFrom : DeckForm → List ℕ → ℕ → List ℕ
+wordsFrom form configuration at = map (formOf form .wordFor) (stretchesOf (formOf form) (drop at configuration))
 
 abbrev Inv-loop : tie.InvT-loop
-Inv-loop configuration words₀ count₀ at₀ words count at =
+Inv-loop form configuration words₀ count₀ at₀ words count at =
     (at ≤ length configuration) × (count ≤ at + 1) × (length words ≡ 129)
-    × (count + length (wordsFrom configuration at) ≡ 1 + length (wordsFrom configuration 0))
-    × (sets words count (wordsFrom configuration at) ≡ sets words₀ 1 (wordsFrom configuration 0))
+    × (count + length (wordsFrom form configuration at) ≡ 1 + length (wordsFrom form configuration 0))
+    × (sets words count (wordsFrom form configuration at) ≡ sets words₀ 1 (wordsFrom form configuration 0))
 
 abbrev μ-loop : tie.MeasureT-loop
-μ-loop configuration words₀ count₀ at₀ words count at = length configuration - at
+μ-loop form configuration words₀ count₀ at₀ words count at = length configuration - at
 
-cast-t8 : tie.Need-cast-t8 Inv-loop μ-loop
-cast-t8 c = search needs
+cast-t9 : tie.Need-cast-t9 Inv-loop μ-loop
+cast-t9 c = search needs
 
 bits-requires : tie.Need-bits-requires Inv-loop μ-loop
 bits-requires c κs = search needs
@@ -37,13 +38,13 @@ slice-write-words : tie.Need-slice-write-words Inv-loop μ-loop
 slice-write-words c = search needs
 
 loop-holds : tie.Need-loop-holds Inv-loop μ-loop
-loop-holds c = (omega arith, omega arith, length-set (now (c .before .before .before .args .words)) 0 (c .bits .result) ∙ c .before .before .before .pre .1, refl, refl)
+loop-holds c = (omega arith, omega arith, simp length-set (c .before .before .before .pre .1), refl, refl)
 
 run-at-requires : tie.Need-run-at-requires Inv-loop μ-loop
 run-at-requires c κs = search needs
 
-shared-slice-read-t15 : tie.Need-shared-slice-read-t15 Inv-loop μ-loop
-shared-slice-read-t15 c = search needs
+shared-slice-read-t16 : tie.Need-shared-slice-read-t16 Inv-loop μ-loop
+shared-slice-read-t16 c = search needs
 
 bits-requires-2 : tie.Need-bits-requires-2 Inv-loop μ-loop
 bits-requires-2 c κs = search needs
@@ -65,11 +66,13 @@ loop-less c = search needs
 
 loop-again : tie.Need-loop-again Inv-loop μ-loop
 loop-again c =
-    let configuration = now (c .before .before .before .before .before .before .before .before .args .configuration) in
+    let a = c .before .before .before .before .before .before .before .before .args in
+    let form = a .form in
+    let configuration = now (a .configuration) in
     let l = c .before .before .before .before .loop in
     let run = c .before .before .run-at in
-    let next : wordsFrom configuration (l .at) ≡ c .bits2 .result ∷ wordsFrom configuration (l .at + run .result) =
-    ap (map (singles .word)) (run .ensures .2) ∙ ap (_∷ wordsFrom configuration (l .at + run .result)) (sym (c .bits2 .ensures)) in (
+    let next : wordsFrom form configuration (l .at) ≡ c .bits2 .result ∷ wordsFrom form configuration (l .at + run .result) =
+    ap (map (formOf form .wordFor)) (run .ensures .2) ∙ ap (_∷ wordsFrom form configuration (l .at + run .result)) (sym (c .bits2 .ensures)) in (
       omega arith,
       omega arith,
       length-set (l .words) (l .count) (c .bits2 .result) ∙ l .inv .2,
@@ -83,9 +86,11 @@ same-length c = search needs
 returns : tie.Need-returns Inv-loop μ-loop
 unfolding deckOf stretchesOf
 returns c =
-    let configuration = now (c .before .before .before .before .before .args .configuration) in
+    let a = c .before .before .before .before .before .args in
+    let form = a .form in
+    let configuration = now (a .configuration) in
     let l = c .before .loop in
-    let past : wordsFrom configuration (l .at) ≡ [] = rw (drop-of-length-le configuration (c .loop-test .left)) in
+    let past : wordsFrom form configuration (l .at) ≡ [] = rw (drop-of-length-le configuration (c .loop-test .left)) in
     (omega (arith, ap length past), ap (sets (l .words) (l .count)) (sym past) ∙ l .inv .4 ∙ rw (c .before .before .bits .ensures))
 
 pub pack-spec : {M : Type 1} → statement M
@@ -94,12 +99,12 @@ pack-spec =
     (tie.spec
     Inv-loop
     μ-loop
-    cast-t8
+    cast-t9
     bits-requires
     slice-write-words
     loop-holds
     run-at-requires
-    shared-slice-read-t15
+    shared-slice-read-t16
     bits-requires-2
     mul-words
     slice-write-words-2

@@ -1,35 +1,46 @@
--- `deck::writing::run_at` meets its contract. The loop's invariant: from `at` up to here all positions are empty. Assumes nothing.
+-- `deck::writing::run_at` meets its contract. The loop's invariant: from `at` up to here all positions have one occupant. Assumes nothing.
+use mathlib.Core.Path.{_≡_, sym, _∙_}
+use mathlib.Core.Bool.{true}
 use Prim.Native.Nat.{_≤_, _<_, _-_}
 use native.Mathlib.Omega.{arith}
-use lib.ListN.{length}
+use lib.ListN.{length, getD}
 use borrow.Author.Needs.{needs}
+use borrow.Author.Tests.{not-true, not-false}
 use denote.Ref.{now}
-use Rattle.deck.proofs.Runs.{strand-first, Empties, empties-one, empties-more, empties-first, at-length, at-strand}
+use Rattle.deck.specs.Forms.{formOf}
+use Rattle.deck.proofs.FirstRun.{Hold, hold-one, hold-more, at-length, at-other, alone-first, run-first}
 use Rattle.deck.proofs.writing.run_at.Statement.{statement}
 use Rattle.deck.proofs.writing.run_at.Tie as tie
 
 abbrev Inv-loop : tie.InvT-loop
-Inv-loop configuration at end₀ end =
-    (at < end) × (end ≤ length configuration) × Empties configuration at end
+Inv-loop configuration at occupant end₀ end =
+    (at < end) × (end ≤ length configuration) × Hold configuration occupant at end
 
 abbrev μ-loop : tie.MeasureT-loop
-μ-loop configuration at end₀ end = length configuration - end
+μ-loop configuration at occupant end₀ end = length configuration - end
 
-shared-slice-read-if1 : tie.Need-shared-slice-read-if1 Inv-loop μ-loop
-shared-slice-read-if1 c = search needs
+shared-slice-read-occupant : tie.Need-shared-slice-read-occupant Inv-loop μ-loop
+shared-slice-read-occupant c = search needs
+
+in-runs-requires : tie.Need-in-runs-requires Inv-loop μ-loop
+in-runs-requires c κs = search needs
 
 returns : tie.Need-returns Inv-loop μ-loop
 returns c =
-    let a = c .before .before .args in
-    (omega arith, omega arith, strand-first (now (a .configuration)) (a .at) (c .before .before .pre) (c .if1 .taken))
+    let a = c .before .before .before .before .args in
+    (omega arith, omega arith, alone-first (now (a .configuration)) (formOf (a .form)) (a .at) (c .before .before .before .before .pre) (sym (c .before .in-runs .ensures) ∙ not-true (c .before .in-runs .result) (c .if1 .taken)))
+
+-- the occupant is stored in runs
+runs-here : (c : tie.Else1 Inv-loop μ-loop) → formOf (c .before .before .before .before .args .form) .inRuns (getD (now (c .before .before .before .before .args .configuration)) (c .before .before .before .before .args .at) 0) ≡ true
+runs-here c = sym (c .before .in-runs .ensures) ∙ not-false (c .before .in-runs .result) (c .if1 .left)
 
 add-end : tie.Need-add-end Inv-loop μ-loop
 add-end c = search needs
 
 loop-holds : tie.Need-loop-holds Inv-loop μ-loop
 loop-holds c =
-    let a = c .before .before .args in
-    (omega arith, omega arith, empties-one (now (a .configuration)) (a .at) (c .before .before .pre) (c .if1 .left))
+    let a = c .before .before .before .before .args in
+    (omega arith, omega arith, hold-one (now (a .configuration)) (a .at) (c .before .before .before .before .pre))
 
 shared-slice-read-if2 : tie.Need-shared-slice-read-if2 Inv-loop μ-loop
 shared-slice-read-if2 c = search needs
@@ -39,9 +50,10 @@ sub-result c = search needs
 
 returns-2 : tie.Need-returns-2 Inv-loop μ-loop
 returns-2 c =
-    let a = c .before .before .before .before .before .before .args in
+    let a = c .before .before .before .before .before .before .before .before .args in
     let l = c .before .before .before .loop in
-    (omega arith, omega arith, empties-first (now (a .configuration)) (a .at) (l .end) (l .inv .0) (c .before .before .before .before .if1 .left) (l .inv .2) (at-strand (c .before .before .loop-test .taken) (c .if2 .taken)))
+    let runs = runs-here (c .before .before .before .before) in
+    (omega arith, omega arith, run-first (now (a .configuration)) (formOf (a .form)) (a .at) (l .end) (l .inv .0) runs (l .inv .2) (at-other (c .before .before .loop-test .taken) (λ e. omega arith)))
 
 add-end-2 : tie.Need-add-end-2 Inv-loop μ-loop
 add-end-2 c = search needs
@@ -51,18 +63,18 @@ loop-less c = search needs
 
 loop-again : tie.Need-loop-again Inv-loop μ-loop
 loop-again c =
-    let a = c .before .before .before .before .before .before .args in
+    let a = c .before .before .before .before .before .before .before .before .args in
     let l = c .before .before .before .loop in
-    (omega arith, omega arith, empties-more (now (a .configuration)) (a .at) (l .end) (omega arith) (c .before .before .loop-test .taken) (c .if2 .left) (l .inv .2))
+    (omega arith, omega arith, hold-more (now (a .configuration)) (getD (now (a .configuration)) (a .at) 0) (a .at) (l .end) (omega arith) (c .before .before .loop-test .taken) (omega arith) (l .inv .2))
 
 sub-result-2 : tie.Need-sub-result-2 Inv-loop μ-loop
 sub-result-2 c = search needs
 
 returns-3 : tie.Need-returns-3 Inv-loop μ-loop
 returns-3 c =
-    let a = c .before .before .before .before .args in
+    let a = c .before .before .before .before .before .before .args in
     let l = c .before .loop in
-    (omega arith, omega arith, empties-first (now (a .configuration)) (a .at) (l .end) (l .inv .0) (c .before .before .if1 .left) (l .inv .2) (at-length (c .loop-test .left)))
+    (omega arith, omega arith, run-first (now (a .configuration)) (formOf (a .form)) (a .at) (l .end) (l .inv .0) (runs-here (c .before .before)) (l .inv .2) (at-length (c .loop-test .left)))
 
 pub run-at-spec : {M : Type 1} → statement M
 run-at-spec =
@@ -70,7 +82,8 @@ run-at-spec =
     (tie.spec
     Inv-loop
     μ-loop
-    shared-slice-read-if1
+    shared-slice-read-occupant
+    in-runs-requires
     returns
     add-end
     loop-holds

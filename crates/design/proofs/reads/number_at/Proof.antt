@@ -4,7 +4,7 @@ use mathlib.Core.Path.{sym}
 use lib.ListN.{List·getD-eq-default}
 use lib.Ieee.{nan, ofBits}
 use Rattle.doubles.specs.Decimal.{zero}
-use Rattle.lists.proofs.Default.{getD-default}
+use Rattle.lists.proofs.Places.{getD-default}
 use Rattle.design.proofs.reads.number_at.Statement.{statement}
 use Rattle.design.proofs.reads.number_at.Tie as tie
 

@@ -1,7 +1,4 @@
 -- `exports::designs::mj_scaffold_bond` meets its contract, from the contract of the call. Assumes nothing.
-use mathlib.Core.Path.{sym, ap, _∙_}
-use lib.Ieee.{Float, toBits, binary64}
-use Rattle.design.specs.Answers.{Figures}
 use borrow.Author.Needs.{needs}
 use Rattle.exports.proofs.designs.mj_scaffold_bond.Statement.{statement}
 use Rattle.exports.proofs.designs.mj_scaffold_bond.Tie as tie
@@ -12,14 +9,14 @@ ambient-requires c κs = search needs
 bond-with-scaffold-requires : tie.Need-bond-with-scaffold-requires
 bond-with-scaffold-requires c κs = search needs
 
-bond-bits-requires : tie.Need-bond-bits-requires
-bond-bits-requires c κs = search needs
+tell-bond-requires : tie.Need-tell-bond-requires
+tell-bond-requires c κs = search needs
 
 returns : tie.Need-returns
 returns c =
-    rw (sym (c .before .before .ambient .ensures))
-    (c .bond-bits .ensures ∙ ap (λ (f : Figures Float). toBits binary64 (f .figure)) (c .before .bond-with-scaffold .ensures))
+    let answer = c .before .before .before in
+    rw (answer .bond-with-scaffold .ensures, answer .before .ambient .ensures) at (c .tell-bond .ensures)
 
 pub mj-scaffold-bond-spec : {M : Type 1} → statement M
 mj-scaffold-bond-spec =
-    tie.close (tie.spec ambient-requires bond-with-scaffold-requires bond-bits-requires returns)
+    tie.close (tie.spec ambient-requires bond-with-scaffold-requires tell-bond-requires returns)

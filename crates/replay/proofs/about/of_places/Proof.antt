@@ -25,17 +25,11 @@ state-requires c κs = search needs
 enum-told-2 : tie.Need-enum-told-2
 enum-told-2 c = search needs
 
-array-borrow-prefix-spare : tie.Need-array-borrow-prefix-spare
-array-borrow-prefix-spare c = search needs
-
 slice-aggregate-search : tie.Need-slice-aggregate-search
 slice-aggregate-search c = sym (length-take-le _ (replicate 128 0) (omega arith))
 
 array-borrow-prefix-places-2 : tie.Need-array-borrow-prefix-places-2
 array-borrow-prefix-places-2 c = search needs
-
-slice-aggregate-search-2 : tie.Need-slice-aggregate-search-2
-slice-aggregate-search-2 c = sym (length-take-le _ (replicate 128 0) (omega arith))
 
 search-requires : tie.Need-search-requires
 search-requires c κs = search needs
@@ -77,10 +71,8 @@ of-places-spec =
     slice-aggregate-state
     state-requires
     enum-told-2
-    array-borrow-prefix-spare
-    slice-aggregate-search
     array-borrow-prefix-places-2
-    slice-aggregate-search-2
+    slice-aggregate-search
     search-requires
     enum-told-3
     array-borrow-prefix-places-3

@@ -6,30 +6,6 @@ use Rattle.replay.proofs.Figures.{says-as}
 use Rattle.replay.proofs.kinds.sequence.Statement.{statement}
 use Rattle.replay.proofs.kinds.sequence.Tie as tie
 
-up-to-requires : tie.Need-up-to-requires
-up-to-requires c κs = search needs
-
-letters-requires : tie.Need-letters-requires
-letters-requires c κs = search needs
-
-mj-sequence-reply-requires : tie.Need-mj-sequence-reply-requires
-mj-sequence-reply-requires c κs = search needs
-
-mj-sequence-dg-requires : tie.Need-mj-sequence-dg-requires
-mj-sequence-dg-requires c κs = search needs
-
-mj-sequence-ds-requires : tie.Need-mj-sequence-ds-requires
-mj-sequence-ds-requires c κs = search needs
-
-past-requires : tie.Need-past-requires
-past-requires c κs = search needs
-
-slice-aggregate-says : tie.Need-slice-aggregate-says
-slice-aggregate-says c = search needs
-
-says-requires : tie.Need-says-requires
-says-requires c κs = search needs
-
 returns : tie.Need-returns
 returns c = λ e.
     let r = c .before .before .before .before .before in
@@ -43,12 +19,12 @@ pub sequence-spec : {M : Type 1} → statement M
 sequence-spec =
     tie.close
     (tie.spec
-    up-to-requires
-    letters-requires
-    mj-sequence-reply-requires
-    mj-sequence-dg-requires
-    mj-sequence-ds-requires
-    past-requires
-    slice-aggregate-says
-    says-requires
+    (λ c κs. search needs)
+    (λ c κs. search needs)
+    (λ c κs. search needs)
+    (λ c κs. search needs)
+    (λ c κs. search needs)
+    (λ c κs. search needs)
+    (λ c. search needs)
+    (λ c κs. search needs)
     returns)

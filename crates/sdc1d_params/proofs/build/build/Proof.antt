@@ -11,15 +11,6 @@ use Rattle.sdc1d_params.proofs.Written.{kept, fits-tables, fits-sizes, 
 use Rattle.sdc1d_params.proofs.build.build.Statement.{statement}
 use Rattle.sdc1d_params.proofs.build.build.Tie as tie
 
-check-requires : tie.Need-check-requires
-check-requires c κs = search needs
-
-enum-known-refusal : tie.Need-enum-known-refusal
-enum-known-refusal c = search needs
-
-enum-told : tie.Need-enum-told
-enum-told c = search needs
-
 write-strands-requires : tie.Need-write-strands-requires
 write-strands-requires c κs =
     let a = c .before .before .before .before .before .before .before .before .before .before .before .before .before .before .before .before .before .before .before .before .before .before .before .before .before .before .before .before .before .before .before .before .before .before .before .before .before .before .before .before .before .before .args in
@@ -38,12 +29,6 @@ write-scaffold-requires c κs =
     let fit : Sized p lent = fits-sizes p lent reply in
     (as-many-positions p lent _ _ _ (c .before .before .before .before .before .before .before .before .before .before .before .before .before .before .check .ensures .1 (c .before .before .before .before .before .before .enum-told .given .1)) fit, (c .before .before .before .before .before .before .before .before .before .before .before .before .before .before .check .ensures .1 (c .before .before .before .before .before .before .enum-told .given .1)) .small)
 
-clear-requires : tie.Need-clear-requires
-clear-requires c κs = search needs
-
-clear-requires-2 : tie.Need-clear-requires-2
-clear-requires-2 c κs = search needs
-
 fill-tables-requires : tie.Need-fill-tables-requires
 fill-tables-requires c κs =
     let a = c .before .before .before .before .before .before .before .before .before .before .before .before .before .before .before .before .before .before .before .before .before .before .before .before .before .before .before .before .before .before .before .before .before .before .before .before .before .before .before .before .before .before .before .before .before .before .before .before .before .before .before .before .before .before .before .before .before .before .before .before .before .before .args in
@@ -53,27 +38,6 @@ fill-tables-requires c κs =
     let fit : Sized p lent = fits-sizes p lent reply in
     (fit-entries (p .text) (p .energies) (fit .entries), ((c .before .before .before .before .before .before .before .before .before .before .before .before .before .before .before .before .before .before .before .before .before .before .before .before .before .before .before .before .before .check .ensures .1 (c .before .before .before .before .before .before .before .before .before .before .before .before .before .before .before .before .before .before .before .before .before .enum-told .given .1)) .inside, (cleared-length _ (fits-lengths p lent fit .1) (c .before .before .before .before .before .before .before .before .before .before .clear .ensures), cleared-length _ (fits-lengths p lent fit .2) (c .before .before .before .before .before .before .clear2 .ensures))))
 
-same-length : tie.Need-same-length
-same-length c = search needs
-
-same-length-2 : tie.Need-same-length-2
-same-length-2 c = search needs
-
-same-length-3 : tie.Need-same-length-3
-same-length-3 c = search needs
-
-same-length-4 : tie.Need-same-length-4
-same-length-4 c = search needs
-
-same-length-5 : tie.Need-same-length-5
-same-length-5 c = search needs
-
-same-length-6 : tie.Need-same-length-6
-same-length-6 c = search needs
-
-same-length-7 : tie.Need-same-length-7
-same-length-7 c = search needs
-
 returns : tie.Need-returns
 returns c =
     let a = c .before .before .before .before .before .before .before .before .before .before .before .before .before .before .before .before .before .before .before .before .before .before .before .before .before .before .before .before .before .before .before .before .before .before .before .before .before .before .before .before .before .before .args in
@@ -81,26 +45,11 @@ returns c =
     let lent : Outcome = lentOf (now (a .strand-glues)) (now (a .scaffold-glues)) (now (a .dg)) (now (a .ds)) in
     kept p lent _ (sym (c .before .before .before .before .before .before .before .before .before .check .ensures .0) ∙ c .before .refusal .given .1)
 
-same-length-8 : tie.Need-same-length-8
-same-length-8 c = search needs
-
-same-length-9 : tie.Need-same-length-9
-same-length-9 c = search needs
-
-same-length-10 : tie.Need-same-length-10
-same-length-10 c = search needs
-
-same-length-11 : tie.Need-same-length-11
-same-length-11 c = search needs
-
 same-length-12 : tie.Need-same-length-12
 same-length-12 c = c .before .before .before .before .before .before .before .before .before .before .before .before .before .before .before .before .before .before .before .before .before .before .before .before .before .before .before .before .before .before .before .before .before .numbers .given
 
 same-length-13 : tie.Need-same-length-13
 same-length-13 c = c .before .before .before .before .before .before .before .before .before .before .before .before .before .before .before .before .before .before .before .before .before .before .before .before .before .before .before .before .before .before .before .rows .given
-
-same-length-14 : tie.Need-same-length-14
-same-length-14 c = search needs
 
 returns-2 : tie.Need-returns-2
 returns-2 c =
@@ -114,27 +63,27 @@ pub build-spec : {M : Type 1} → statement M
 build-spec =
     tie.close
     (tie.spec
-    check-requires
-    enum-known-refusal
-    enum-told
+    (λ c κs. search needs)
+    (λ c. search needs)
+    (λ c. search needs)
     write-strands-requires
     write-scaffold-requires
-    clear-requires
-    clear-requires-2
+    (λ c κs. search needs)
+    (λ c κs. search needs)
     fill-tables-requires
-    same-length
-    same-length-2
-    same-length-3
-    same-length-4
-    same-length-5
-    same-length-6
-    same-length-7
+    (λ c. search needs)
+    (λ c. search needs)
+    (λ c. search needs)
+    (λ c. search needs)
+    (λ c. search needs)
+    (λ c. search needs)
+    (λ c. search needs)
     returns
-    same-length-8
-    same-length-9
-    same-length-10
-    same-length-11
+    (λ c. search needs)
+    (λ c. search needs)
+    (λ c. search needs)
+    (λ c. search needs)
     same-length-12
     same-length-13
-    same-length-14
+    (λ c. search needs)
     returns-2)

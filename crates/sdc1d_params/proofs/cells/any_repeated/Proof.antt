@@ -13,7 +13,7 @@ use Rattle.lists.specs.Build.{tabulate}
 use Rattle.lists.proofs.Counted.{fold-more}
 use Rattle.sdc1d_params.specs.Entries.{samePair}
 use Rattle.sdc1d_params.specs.Tables.{duplicated}
-use Rattle.sdc1d_params.specs.Cells.{cellAt, markBoth, isMarked}
+use Rattle.sdc1d_params.specs.inner.Cells.{cellAt, markBoth, isMarked}
 use Rattle.sdc1d_params.proofs.Pairs.{duplicated-more, duplicated-found}
 use Rattle.sdc1d_params.proofs.Marked.{seenAfter, seen-length, marked-is}
 use Rattle.sdc1d_params.proofs.cells.any_repeated.Statement.{statement}
@@ -34,15 +34,6 @@ slice-aggregate-is-marked c =
     let l = c .before .before .loop in
     let many : length (l .seen) ≡ 4096 = ap length (l .inv .1) ∙ seen-length (cellAt (now (c .before .before .before .before .before .args .rows)) (now (c .before .before .before .before .before .args .columns))) (l .i) in search needs
 
-mul-is-marked : tie.Need-mul-is-marked Inv-loop μ-loop
-mul-is-marked c = search needs
-
-shared-slice-read-is-marked : tie.Need-shared-slice-read-is-marked Inv-loop μ-loop
-shared-slice-read-is-marked c = search needs
-
-mul-is-marked-2 : tie.Need-mul-is-marked-2 Inv-loop μ-loop
-mul-is-marked-2 c = search needs
-
 shared-slice-read-is-marked-2 : tie.Need-shared-slice-read-is-marked-2 Inv-loop μ-loop
 shared-slice-read-is-marked-2 c = let m = c .before .before .before .before .before .before .before .pre .columns-many in omega arith
 
@@ -62,15 +53,6 @@ slice-aggregate-mark-both c =
     let l = c .before .before .before .before .before .before .before .loop in
     let many : length (l .seen) ≡ 4096 = ap length (l .inv .1) ∙ seen-length (cellAt (now (c .before .before .before .before .before .before .before .before .before .before .args .rows)) (now (c .before .before .before .before .before .before .before .before .before .before .args .columns))) (l .i) in search needs
 
-mul-mark-both : tie.Need-mul-mark-both Inv-loop μ-loop
-mul-mark-both c = search needs
-
-shared-slice-read-mark-both : tie.Need-shared-slice-read-mark-both Inv-loop μ-loop
-shared-slice-read-mark-both c = search needs
-
-mul-mark-both-2 : tie.Need-mul-mark-both-2 Inv-loop μ-loop
-mul-mark-both-2 c = search needs
-
 shared-slice-read-mark-both-2 : tie.Need-shared-slice-read-mark-both-2 Inv-loop μ-loop
 shared-slice-read-mark-both-2 c = let m = c .before .before .before .before .before .before .before .before .before .before .before .before .pre .columns-many in omega arith
 
@@ -78,12 +60,6 @@ mark-both-requires : tie.Need-mark-both-requires Inv-loop μ-loop
 mark-both-requires c κs =
     let l = c .before .before .before .before .before .before .before .before .before .loop in
     (ap length (l .inv .1) ∙ seen-length (cellAt (now (c .before .before .before .before .before .before .before .before .before .before .before .before .args .rows)) (now (c .before .before .before .before .before .before .before .before .before .before .before .before .args .columns))) (l .i), c .before .before .before .before .before .before .before .before .before .before .before .before .pre .row (l .i) (omega arith), c .before .before .before .before .before .before .before .before .before .before .before .before .pre .column (l .i) (omega arith))
-
-add-i : tie.Need-add-i Inv-loop μ-loop
-add-i c = search needs
-
-loop-less : tie.Need-loop-less Inv-loop μ-loop
-loop-less c = search needs
 
 loop-again : tie.Need-loop-again Inv-loop μ-loop
 loop-again c =
@@ -105,19 +81,19 @@ any-repeated-spec =
     μ-loop
     loop-holds
     slice-aggregate-is-marked
-    mul-is-marked
-    shared-slice-read-is-marked
-    mul-is-marked-2
+    (λ c. search needs)
+    (λ c. search needs)
+    (λ c. search needs)
     shared-slice-read-is-marked-2
     is-marked-requires
     returns
     slice-aggregate-mark-both
-    mul-mark-both
-    shared-slice-read-mark-both
-    mul-mark-both-2
+    (λ c. search needs)
+    (λ c. search needs)
+    (λ c. search needs)
     shared-slice-read-mark-both-2
     mark-both-requires
-    add-i
-    loop-less
+    (λ c. search needs)
+    (λ c. search needs)
     loop-again
     returns-2)

@@ -5,21 +5,12 @@ use Prim.Native.Nat.{_+_, _-_, _<_}
 use native.Mathlib.Omega.{arith}
 use borrow.Author.Tests.{eq-eqb, ne-eqb}
 use Rattle.sdc1d_params.specs.Entries.{cell}
-use Rattle.sdc1d_params.specs.Cells.{cellOfNames}
+use Rattle.sdc1d_params.specs.inner.Cells.{cellOfNames}
 use Rattle.sdc1d_params.proofs.cells.cell_of.Statement.{statement}
 use Rattle.sdc1d_params.proofs.cells.cell_of.Tie as tie
 
-enum-known-names : tie.Need-enum-known-names
-enum-known-names c = search needs
-
-enum-known-names-2 : tie.Need-enum-known-names-2
-enum-known-names-2 c = search needs
-
 returns : tie.Need-returns
 returns c = rw (c .before .before .names2 .given .1) (simp (eq-eqb _ _ (c .if1 .taken)))
-
-sub-t8 : tie.Need-sub-t8
-sub-t8 c = search needs
 
 returns-2 : tie.Need-returns-2
 returns-2 c =
@@ -43,10 +34,10 @@ pub cell-of-spec : {M : Type 1} → statement M
 cell-of-spec =
     tie.close
     (tie.spec
-    enum-known-names
-    enum-known-names-2
+    (λ c. search needs)
+    (λ c. search needs)
     returns
-    sub-t8
+    (λ c. search needs)
     returns-2
     add-t7
     returns-3

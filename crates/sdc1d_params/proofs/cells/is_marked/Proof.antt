@@ -4,7 +4,7 @@ use mathlib.Core.Path.{_≡_, sym, _∙_}
 use mathlib.Core.Bool.{true, false}
 use borrow.Author.Tests.{not-true, not-false}
 use Rattle.sdc1d_params.specs.Entries.{cell, isWritten}
-use Rattle.sdc1d_params.specs.Cells.{isMarked}
+use Rattle.sdc1d_params.specs.inner.Cells.{isMarked}
 use Rattle.sdc1d_params.proofs.cells.is_marked.Statement.{statement}
 use Rattle.sdc1d_params.proofs.cells.is_marked.Tie as tie
 

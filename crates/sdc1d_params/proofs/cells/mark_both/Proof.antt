@@ -5,33 +5,12 @@ use mathlib.Core.Bool.{true, false}
 use native.Mathlib.Omega.{arith}
 use lib.ListN.{length-set}
 use Rattle.sdc1d_params.specs.Entries.{cell, isWritten}
-use Rattle.sdc1d_params.specs.Cells.{markBoth}
+use Rattle.sdc1d_params.specs.inner.Cells.{markBoth}
 use Rattle.sdc1d_params.proofs.cells.mark_both.Statement.{statement}
 use Rattle.sdc1d_params.proofs.cells.mark_both.Tie as tie
 
-is-written-requires : tie.Need-is-written-requires
-is-written-requires c κs = search needs
-
-mul-at : tie.Need-mul-at
-mul-at c = search needs
-
-add-at : tie.Need-add-at
-add-at c = search needs
-
-mul-mirror : tie.Need-mul-mirror
-mul-mirror c = search needs
-
-add-mirror : tie.Need-add-mirror
-add-mirror c = search needs
-
-slice-write-seen : tie.Need-slice-write-seen
-slice-write-seen c = search needs
-
 slice-write-seen-2 : tie.Need-slice-write-seen-2
 slice-write-seen-2 c = simp length-set (omega arith)
-
-same-length : tie.Need-same-length
-same-length c = search needs
 
 returns : tie.Need-returns
 unfolding markBoth
@@ -49,13 +28,13 @@ pub mark-both-spec : {M : Type 1} → statement M
 mark-both-spec =
     tie.close
     (tie.spec
-    is-written-requires
-    mul-at
-    add-at
-    mul-mirror
-    add-mirror
-    slice-write-seen
+    (λ c κs. search needs)
+    (λ c. search needs)
+    (λ c. search needs)
+    (λ c. search needs)
+    (λ c. search needs)
+    (λ c. search needs)
     slice-write-seen-2
-    same-length
+    (λ c. search needs)
     returns
     returns-2)

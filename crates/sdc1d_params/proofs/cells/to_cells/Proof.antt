@@ -8,7 +8,7 @@ use denote.Ref.{now}
 use Rattle.lists.specs.Build.{tabulate}
 use Rattle.lists.proofs.Counted.{stored, stored-none, stored-length, stored-more, stored-next, stored-whole}
 use Rattle.sdc1d_params.specs.Entries.{Cell}
-use Rattle.sdc1d_params.specs.Cells.{refOrPair, cellOfNames, placeCell, cellFrom, rowFrom, columnFrom}
+use Rattle.sdc1d_params.specs.inner.Cells.{refOrPair, cellOfNames, cellFound, cellFrom, rowFrom, columnFrom}
 use Rattle.sdc1d_params.proofs.Small.{column-small}
 use Rattle.sdc1d_params.proofs.cells.to_cells.Statement.{statement}
 use Rattle.sdc1d_params.proofs.cells.to_cells.Tie as tie
@@ -24,27 +24,15 @@ loop-holds c =
     let a = c .before .before .before .args in
     (omega arith, stored-none (rowFrom (now (a .kinds)) (now (a .first)) (now (a .second))) (now (a .first)), stored-none (columnFrom (now (a .kinds)) (now (a .first)) (now (a .second))) (now (a .second)))
 
-shared-slice-read-ref-or-pair : tie.Need-shared-slice-read-ref-or-pair Inv-loop μ-loop
-shared-slice-read-ref-or-pair c = search needs
-
-mul-ref-or-pair : tie.Need-mul-ref-or-pair Inv-loop μ-loop
-mul-ref-or-pair c = search needs
-
 slice-read-ref-or-pair : tie.Need-slice-read-ref-or-pair Inv-loop μ-loop
 slice-read-ref-or-pair c =
     let a = c .before .before .before .before .before .before .before .args in
     let m = c .before .before .before .before .before .before .before .pre .rows-many in omega (arith, ap length (c .before .before .before .loop .inv .1), stored-length (rowFrom (now (a .kinds)) (now (a .first)) (now (a .second))) (c .before .before .before .loop .i) (now (a .first)) (omega arith))
 
-mul-ref-or-pair-2 : tie.Need-mul-ref-or-pair-2 Inv-loop μ-loop
-mul-ref-or-pair-2 c = search needs
-
 slice-read-ref-or-pair-2 : tie.Need-slice-read-ref-or-pair-2 Inv-loop μ-loop
 slice-read-ref-or-pair-2 c =
     let a = c .before .before .before .before .before .before .before .before .args in
     let m = c .before .before .before .before .before .before .before .before .pre .columns-many in omega (arith, ap length (c .before .before .before .before .loop .inv .2), stored-length (columnFrom (now (a .kinds)) (now (a .first)) (now (a .second))) (c .before .before .before .before .loop .i) (now (a .second)) (omega arith))
-
-ref-or-pair-requires : tie.Need-ref-or-pair-requires Inv-loop μ-loop
-ref-or-pair-requires c κs = search needs
 
 cell-of-requires : tie.Need-cell-of-requires Inv-loop μ-loop
 cell-of-requires c κs =
@@ -58,27 +46,15 @@ cell-of-requires c κs =
     let two : getD (l .second) i 0 ≡ getD (now (a .second)) i 0 = rw (l .inv .2) (stored-next (columnFrom (now (a .kinds)) (now (a .first)) (now (a .second))) i (now (a .second)) 0 (omega arith)) in
     rw (c .ref-or-pair .ensures, one, two) (column-small kind _ _ (c .before .before .before .before .before .before .before .before .before .pre .row i (omega arith)) (c .before .before .before .before .before .before .before .before .before .pre .column i (omega arith)))
 
-mul-first : tie.Need-mul-first Inv-loop μ-loop
-mul-first c = search needs
-
 slice-write-first : tie.Need-slice-write-first Inv-loop μ-loop
 slice-write-first c =
     let a = c .before .before .before .before .before .before .before .before .before .before .args in
     let m = c .before .before .before .before .before .before .before .before .before .before .pre .rows-many in omega (arith, ap length (c .before .before .before .before .before .before .loop .inv .1), stored-length (rowFrom (now (a .kinds)) (now (a .first)) (now (a .second))) (c .before .before .before .before .before .before .loop .i) (now (a .first)) (omega arith))
 
-mul-second : tie.Need-mul-second Inv-loop μ-loop
-mul-second c = search needs
-
 slice-write-second : tie.Need-slice-write-second Inv-loop μ-loop
 slice-write-second c =
     let a = c .before .before .before .before .before .before .before .before .before .before .args in
     let m = c .before .before .before .before .before .before .before .before .before .before .pre .columns-many in omega (arith, ap length (c .before .before .before .before .before .before .loop .inv .2), stored-length (columnFrom (now (a .kinds)) (now (a .first)) (now (a .second))) (c .before .before .before .before .before .before .loop .i) (now (a .second)) (omega arith))
-
-add-i : tie.Need-add-i Inv-loop μ-loop
-add-i c = search needs
-
-loop-less : tie.Need-loop-less Inv-loop μ-loop
-loop-less c = search needs
 
 loop-again : tie.Need-loop-again Inv-loop μ-loop
 unfolding cellFrom
@@ -91,7 +67,7 @@ loop-again c =
     let kind = getD (now (a .kinds)) i 0 in
     let one : getD (l .first) i 0 ≡ getD (now (a .first)) i 0 = rw (l .inv .1) (stored-next (rowFrom (now (a .kinds)) (now (a .first)) (now (a .second))) i (now (a .first)) 0 (omega arith)) in
     let two : getD (l .second) i 0 ≡ getD (now (a .second)) i 0 = rw (l .inv .2) (stored-next (columnFrom (now (a .kinds)) (now (a .first)) (now (a .second))) i (now (a .second)) 0 (omega arith)) in
-    let made : placeCell (c .cell-of .result) ≡ cellOfNames (refOrPair kind (getD (now (a .first)) i 0) (getD (now (a .second)) i 0)) = c .cell-of .ensures ∙ ap cellOfNames (c .before .ref-or-pair .ensures ∙ ap₂ (refOrPair kind) one two) in
+    let made : cellFound (c .cell-of .result) ≡ cellOfNames (refOrPair kind (getD (now (a .first)) i 0) (getD (now (a .second)) i 0)) = c .cell-of .ensures ∙ ap cellOfNames (c .before .ref-or-pair .ensures ∙ ap₂ (refOrPair kind) one two) in
     (omega arith, rw (l .inv .1) (stored-more (rowFrom (now (a .kinds)) (now (a .first)) (now (a .second))) i (now (a .first)) (c .cell-of .result .0) (omega arith) (ap (λ (x : Cell). x .row) made)), rw (l .inv .2) (stored-more (columnFrom (now (a .kinds)) (now (a .first)) (now (a .second))) i (now (a .second)) (c .cell-of .result .1) (omega arith) (ap (λ (x : Cell). x .column) made)))
 
 same-length : tie.Need-same-length Inv-loop μ-loop
@@ -118,19 +94,19 @@ to-cells-spec =
     Inv-loop
     μ-loop
     loop-holds
-    shared-slice-read-ref-or-pair
-    mul-ref-or-pair
+    (λ c. search needs)
+    (λ c. search needs)
     slice-read-ref-or-pair
-    mul-ref-or-pair-2
+    (λ c. search needs)
     slice-read-ref-or-pair-2
-    ref-or-pair-requires
+    (λ c κs. search needs)
     cell-of-requires
-    mul-first
+    (λ c. search needs)
     slice-write-first
-    mul-second
+    (λ c. search needs)
     slice-write-second
-    add-i
-    loop-less
+    (λ c. search needs)
+    (λ c. search needs)
     loop-again
     same-length
     same-length-2

@@ -18,9 +18,6 @@ use Rattle.sdc1d_params.proofs.Passed.{never, reply-size, reply-base, r
 use Rattle.sdc1d_params.proofs.checks.check.Statement.{statement}
 use Rattle.sdc1d_params.proofs.checks.check.Tie as tie
 
-wrong-size-requires : tie.Need-wrong-size-requires
-wrong-size-requires c κs = search needs
-
 returns : tie.Need-returns
 returns c =
     let a = c .before .before .before .before .before .before .before .before .before .before .before .before .before .before .before .before .before .before .before .before .before .before .before .before .before .before .before .args in
@@ -79,9 +76,6 @@ any-unknown-requires c κs =
     let fit : Sized p lent = sized p lent size in
     (fit-names _ (p .text) (p .scaffold) (fit .scaffold), numbers-length (strandNames p) (p .text) (p .scaffold) _ (c .before .before .before .number-names .ensures .1))
 
-same-length : tie.Need-same-length
-same-length c = search needs
-
 returns-4 : tie.Need-returns-4
 returns-4 c =
     let a = c .before .before .before .before .before .before .before .before .before .before .before .before .before .before .before .before .before .before .before .before .before .before .before .before .before .before .before .before .before .before .before .before .before .before .before .before .before .before .args in
@@ -109,15 +103,6 @@ number-names-requires-3 c κs =
     let size : wrongSize p lent ≡ false = size-unpriced p lent ∙ sym (c .before .before .before .before .before .before .before .before .before .before .before .before .before .before .before .before .before .wrong-size .ensures) ∙ c .before .before .before .before .before .before .before .before .before .before .before .before .before .before .before .before .if1 .left in
     let fit : Sized p lent = sized p lent size in
     (fit .strands, as-many-fit (p .text) (p .seconds) (c .before .before .before .before .before .before .before .before .before .before .before .before .before .before .before .before .before .before .before .before .before .before .before .before .before .before .before .before .before .before .before .before .before .before .before .before .before .before .before .before .before .before .before .pre .1 .2) (fit .second))
-
-same-length-2 : tie.Need-same-length-2
-same-length-2 c = search needs
-
-same-length-3 : tie.Need-same-length-3
-same-length-3 c = search needs
-
-same-length-4 : tie.Need-same-length-4
-same-length-4 c = search needs
 
 returns-5 : tie.Need-returns-5
 returns-5 c =
@@ -150,15 +135,6 @@ any-repeated-requires c κs =
     let few : tooManyBases (strandNames p) ≡ false = few-bases p (c .before .before .before .before .before .before .before .before .before .before .before .before .number-names3 .result) (c .before .before .before .before .before .before .before .before .before .before .before .before .number-names3 .ensures .0) (c .before .before .before .before .before .before .before .before .before .if5 .left) in
     cells-within p lent fit (now (a .first-marks)) _ _ (c .before .before .before .before .before .before .before .before .before .before .before .before .before .before .before .before .before .before .before .before .before .before .before .before .before .before .before .before .before .before .before .before .before .before .before .before .before .before .before .before .before .before .before .before .before .before .before .before .before .before .before .before .before .before .before .before .pre .0 .0) (c .before .before .before .before .before .before .before .before .before .before .before .before .before .before .before .before .number-names2 .ensures .1) (c .before .before .before .before .before .before .before .before .before .before .before .before .number-names3 .ensures .1) _ _ (c .before .before .before .before .before .before .to-cells .ensures .0) (c .before .before .before .before .before .before .to-cells .ensures .1) few
 
-same-length-5 : tie.Need-same-length-5
-same-length-5 c = search needs
-
-same-length-6 : tie.Need-same-length-6
-same-length-6 c = search needs
-
-same-length-7 : tie.Need-same-length-7
-same-length-7 c = search needs
-
 returns-6 : tie.Need-returns-6
 returns-6 c =
     let a = c .before .before .before .before .before .before .before .before .before .before .before .before .before .before .before .before .before .before .before .before .before .before .before .before .before .before .before .before .before .before .before .before .before .before .before .before .before .before .before .before .before .before .before .before .before .before .before .before .before .before .before .before .before .before .before .before .before .before .args in
@@ -184,12 +160,6 @@ any-out-requires c κs =
 same-length-8 : tie.Need-same-length-8
 same-length-8 c = c .before .before .before .before .before .before .before .before .before .before .before .before .before .before .before .before .before .before .before .before .before .before .before .before .before .before .before .before .numbers .given
 
-same-length-9 : tie.Need-same-length-9
-same-length-9 c = search needs
-
-same-length-10 : tie.Need-same-length-10
-same-length-10 c = search needs
-
 returns-7 : tie.Need-returns-7
 returns-7 c =
     let a = c .before .before .before .before .before .before .before .before .before .before .before .before .before .before .before .before .before .before .before .before .before .before .before .before .before .before .before .before .before .before .before .before .before .before .before .before .before .before .before .before .before .before .before .before .before .before .before .before .before .before .before .before .before .before .before .before .before .before .before .before .before .before .args in
@@ -206,12 +176,6 @@ returns-7 c =
 
 same-length-11 : tie.Need-same-length-11
 same-length-11 c = c .before .before .before .before .before .before .before .before .before .before .before .before .before .before .before .before .before .before .before .before .before .before .before .before .before .before .before .before .numbers .given
-
-same-length-12 : tie.Need-same-length-12
-same-length-12 c = search needs
-
-same-length-13 : tie.Need-same-length-13
-same-length-13 c = search needs
 
 returns-8 : tie.Need-returns-8
 returns-8 c =
@@ -231,7 +195,7 @@ pub check-spec : {M : Type 1} → statement M
 check-spec =
     tie.close
     (tie.spec
-    wrong-size-requires
+    (λ c κs. search needs)
     returns
     any-bad-base-requires
     returns-2
@@ -239,26 +203,26 @@ check-spec =
     returns-3
     number-names-requires
     any-unknown-requires
-    same-length
+    (λ c. search needs)
     returns-4
     number-names-requires-2
     number-names-requires-3
-    same-length-2
-    same-length-3
-    same-length-4
+    (λ c. search needs)
+    (λ c. search needs)
+    (λ c. search needs)
     returns-5
     to-cells-requires
     any-repeated-requires
-    same-length-5
-    same-length-6
-    same-length-7
+    (λ c. search needs)
+    (λ c. search needs)
+    (λ c. search needs)
     returns-6
     any-out-requires
     same-length-8
-    same-length-9
-    same-length-10
+    (λ c. search needs)
+    (λ c. search needs)
     returns-7
     same-length-11
-    same-length-12
-    same-length-13
+    (λ c. search needs)
+    (λ c. search needs)
     returns-8)

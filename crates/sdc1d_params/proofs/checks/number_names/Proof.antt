@@ -8,27 +8,12 @@ use Rattle.sdc1d_params.proofs.Named.{numbers-given, numbers-after, not
 use Rattle.sdc1d_params.proofs.checks.number_names.Statement.{statement}
 use Rattle.sdc1d_params.proofs.checks.number_names.Tie as tie
 
-name-numbers-requires : tie.Need-name-numbers-requires
-name-numbers-requires c κs = search needs
-
-enum-known-count : tie.Need-enum-known-count
-enum-known-count c = search needs
-
-enum-told : tie.Need-enum-told
-enum-told c = search needs
-
-same-length : tie.Need-same-length
-same-length c = search needs
-
 returns : tie.Need-returns
 returns c =
     let a = c .before .before .before .before .before .before .before .before .before .before .before .before .before .before .before .args in
     let strands : Names = namesOf (now (a .strand-starts)) (now (a .strand-lengths)) (now (a .strand-marks)) in
     let names : Names = namesOf (now (a .starts)) (now (a .lengths)) (now (a .marks)) in
     (ap (λ (f : NumbersFigures). f .bases) (sym (ap numbersFigures (c .before .count .given .1)) ∙ c .before .before .before .before .before .name-numbers .ensures .0 ∙ numbers-given (a .users) (now (a .text)) strands names (c .before .before .before .before .before .before .before .before .before .before .before .before .before .before .before .pre .0) _ (c .before .before .before .before .before .before .before .before .before .before .before .before .before .before .before .pre .1)), c .before .before .before .before .before .name-numbers .ensures .1 ∙ numbers-after (a .users) (now (a .text)) strands names (c .before .before .before .before .before .before .before .before .before .before .before .before .before .before .before .pre .0) (now (a .numbers)) (c .before .before .before .before .before .before .before .before .before .before .before .before .before .before .before .pre .1))
-
-same-length-2 : tie.Need-same-length-2
-same-length-2 c = search needs
 
 returns-2 : tie.Need-returns-2
 returns-2 c =
@@ -41,10 +26,10 @@ pub number-names-spec : {M : Type 1} → statement M
 number-names-spec =
     tie.close
     (tie.spec
-    name-numbers-requires
-    enum-known-count
-    enum-told
-    same-length
+    (λ c κs. search needs)
+    (λ c. search needs)
+    (λ c. search needs)
+    (λ c. search needs)
     returns
-    same-length-2
+    (λ c. search needs)
     returns-2)

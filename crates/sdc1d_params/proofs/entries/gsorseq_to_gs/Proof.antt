@@ -14,12 +14,6 @@ use Rattle.sdc1d_params.proofs.Sequences.{sequence-fits}
 use Rattle.sdc1d_params.proofs.entries.gsorseq_to_gs.Statement.{statement}
 use Rattle.sdc1d_params.proofs.entries.gsorseq_to_gs.Tie as tie
 
-enum-known-entry : tie.Need-enum-known-entry
-enum-known-entry c = search needs
-
-enum-known-entry-2 : tie.Need-enum-known-entry-2
-enum-known-entry-2 c = search needs
-
 add-end : tie.Need-add-end
 add-end c =
     let v = c .before .entry2 .given .0 in
@@ -27,30 +21,12 @@ add-end c =
     let fit : unfitEntry text (Sequence (v .0) (v .1 .0)) ≡ false = sym (ap (unfitEntry text) (c .before .entry2 .given .1)) ∙ c .before .before .before .before .pre in
     omega (arith, sequence-fits text (v .0) (v .1 .0) fit)
 
-sub-string-dna-dg-ds : tie.Need-sub-string-dna-dg-ds
-sub-string-dna-dg-ds c = search needs
-
-part-string-dna-dg-ds-start : tie.Need-part-string-dna-dg-ds-start
-part-string-dna-dg-ds-start c = search needs
-
 part-string-dna-dg-ds-end : tie.Need-part-string-dna-dg-ds-end
 part-string-dna-dg-ds-end c =
     let v = c .before .entry2 .given .0 in
     let text = now (c .before .before .before .before .args .text) in
     let fit : unfitEntry text (Sequence (v .0) (v .1 .0)) ≡ false = sym (ap (unfitEntry text) (c .before .entry2 .given .1)) ∙ c .before .before .before .before .pre in
     omega (arith, sequence-fits text (v .0) (v .1 .0) fit)
-
-string-dna-dg-ds-requires : tie.Need-string-dna-dg-ds-requires
-string-dna-dg-ds-requires c κs = search needs
-
-enum-known-dg : tie.Need-enum-known-dg
-enum-known-dg c = search needs
-
-enum-told : tie.Need-enum-told
-enum-told c = search needs
-
-returns : tie.Need-returns
-returns c = search needs
 
 returns-2 : tie.Need-returns-2
 returns-2 c =
@@ -73,15 +49,15 @@ pub gsorseq-to-gs-spec : {M : Type 1} → statement M
 gsorseq-to-gs-spec =
     tie.close
     (tie.spec
-    enum-known-entry
-    enum-known-entry-2
+    (λ c. search needs)
+    (λ c. search needs)
     add-end
-    sub-string-dna-dg-ds
-    part-string-dna-dg-ds-start
+    (λ c. search needs)
+    (λ c. search needs)
     part-string-dna-dg-ds-end
-    string-dna-dg-ds-requires
-    enum-known-dg
-    enum-told
-    returns
+    (λ c κs. search needs)
+    (λ c. search needs)
+    (λ c. search needs)
+    (λ c. search needs)
     returns-2
     returns-3)

@@ -23,12 +23,6 @@ loop-holds : tie.Need-loop-holds Inv-loop μ-loop
 unfolding any tabulate
 loop-holds c = (omega arith, refl)
 
-shared-slice-read-bad-form : tie.Need-shared-slice-read-bad-form Inv-loop μ-loop
-shared-slice-read-bad-form c = search needs
-
-bad-form-requires : tie.Need-bad-form-requires Inv-loop μ-loop
-bad-form-requires c κs = search needs
-
 returns : tie.Need-returns Inv-loop μ-loop
 unfolding unfitAt
 returns c =
@@ -40,9 +34,6 @@ returns c =
 gs-or-seq-requires : tie.Need-gs-or-seq-requires Inv-loop μ-loop
 gs-or-seq-requires c κs = (c .before .before .before .before .before .before .before .before .before .before .before .pre, omega arith)
 
-unfit-entry-requires : tie.Need-unfit-entry-requires Inv-loop μ-loop
-unfit-entry-requires c κs = search needs
-
 returns-2 : tie.Need-returns-2 Inv-loop μ-loop
 unfolding unfitAt
 returns-2 c =
@@ -52,12 +43,6 @@ returns-2 c =
     let unfit : unfitEntry (now (a .text)) (entryAt e (l .i)) ≡ true = sym (ap (unfitEntry (now (a .text))) (c .before .before .gs-or-seq .ensures)) ∙ sym (c .before .unfit-entry .ensures) ∙ c .if2 .taken in
     let bad : unfitAt (now (a .text)) e (l .i) ≡ true = rw (sym (c .before .before .before .before .bad-form .ensures) ∙ c .before .before .before .if1 .left, unfit) in
     sym (any-found (unfitAt (now (a .text)) e) (length (now (a .forms))) (λ k. k) (l .i) (omega arith) bad)
-
-add-i : tie.Need-add-i Inv-loop μ-loop
-add-i c = search needs
-
-loop-less : tie.Need-loop-less Inv-loop μ-loop
-loop-less c = search needs
 
 loop-again : tie.Need-loop-again Inv-loop μ-loop
 unfolding unfitAt
@@ -83,13 +68,13 @@ unfit-entries-spec =
     Inv-loop
     μ-loop
     loop-holds
-    shared-slice-read-bad-form
-    bad-form-requires
+    (λ c. search needs)
+    (λ c κs. search needs)
     returns
     gs-or-seq-requires
-    unfit-entry-requires
+    (λ c κs. search needs)
     returns-2
-    add-i
-    loop-less
+    (λ c. search needs)
+    (λ c. search needs)
     loop-again
     returns-3)

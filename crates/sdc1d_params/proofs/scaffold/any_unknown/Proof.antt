@@ -10,7 +10,7 @@ use Rattle.lists.specs.Find.{any}
 use Rattle.lists.specs.Build.{tabulate, upTo}
 use Rattle.lists.proofs.Counted.{any-more, any-found}
 use Rattle.sdc_common.specs.Lent.{namesOf}
-use Rattle.sdc1d_params.specs.Scaffold.{unknownAt}
+use Rattle.sdc1d_params.specs.inner.Scaffold.{unknownAt}
 use Rattle.sdc1d_params.proofs.scaffold.any_unknown.Statement.{statement}
 use Rattle.sdc1d_params.proofs.scaffold.any_unknown.Tie as tie
 
@@ -24,23 +24,11 @@ loop-holds : tie.Need-loop-holds Inv-loop μ-loop
 unfolding any tabulate
 loop-holds c = (omega arith, refl)
 
-shared-slice-read-is-unknown : tie.Need-shared-slice-read-is-unknown Inv-loop μ-loop
-shared-slice-read-is-unknown c = search needs
-
-mul-is-unknown : tie.Need-mul-is-unknown Inv-loop μ-loop
-mul-is-unknown c = search needs
-
 shared-slice-read-is-unknown-2 : tie.Need-shared-slice-read-is-unknown-2 Inv-loop μ-loop
 shared-slice-read-is-unknown-2 c = let e = c .before .before .before .before .before .before .before .before .before .pre .0 .starts in omega arith
 
-mul-is-unknown-2 : tie.Need-mul-is-unknown-2 Inv-loop μ-loop
-mul-is-unknown-2 c = search needs
-
 shared-slice-read-is-unknown-3 : tie.Need-shared-slice-read-is-unknown-3 Inv-loop μ-loop
 shared-slice-read-is-unknown-3 c = let e = c .before .before .before .before .before .before .before .before .before .before .pre .0 .lengths in omega arith
-
-mul-is-unknown-3 : tie.Need-mul-is-unknown-3 Inv-loop μ-loop
-mul-is-unknown-3 c = search needs
 
 shared-slice-read-is-unknown-4 : tie.Need-shared-slice-read-is-unknown-4 Inv-loop μ-loop
 shared-slice-read-is-unknown-4 c = let e = c .before .before .before .before .before .before .before .before .before .before .before .pre .1 in omega arith
@@ -52,12 +40,6 @@ returns : tie.Need-returns Inv-loop μ-loop
 returns c =
     let a = c .before .before .before .before .before .before .before .before .before .before .before .before .before .args in
     sym (any-found (unknownAt (now (a .text)) (namesOf (now (a .starts)) (now (a .lengths)) (now (a .marks))) (now (a .numbers))) (length (now (a .marks))) (λ j. j) (c .before .before .before .before .before .before .before .loop .i) (omega arith) (sym (c .before .is-unknown .ensures) ∙ c .if1 .taken))
-
-add-i : tie.Need-add-i Inv-loop μ-loop
-add-i c = search needs
-
-loop-less : tie.Need-loop-less Inv-loop μ-loop
-loop-less c = search needs
 
 loop-again : tie.Need-loop-again Inv-loop μ-loop
 loop-again c =
@@ -77,16 +59,16 @@ any-unknown-spec =
     Inv-loop
     μ-loop
     loop-holds
-    shared-slice-read-is-unknown
-    mul-is-unknown
+    (λ c. search needs)
+    (λ c. search needs)
     shared-slice-read-is-unknown-2
-    mul-is-unknown-2
+    (λ c. search needs)
     shared-slice-read-is-unknown-3
-    mul-is-unknown-3
+    (λ c. search needs)
     shared-slice-read-is-unknown-4
     is-unknown-requires
     returns
-    add-i
-    loop-less
+    (λ c. search needs)
+    (λ c. search needs)
     loop-again
     returns-2)

@@ -21,21 +21,12 @@ returns-2 c =
     let a = c .before .before .before .args in
     unnumbered (now (a .text)) (a .mark) (a .start) (a .length) (a .number) (c .before .if1 .left) (c .if2 .taken)
 
-self-and-inverse-requires : tie.Need-self-and-inverse-requires
-self-and-inverse-requires c κs = search needs
-
-enum-known-base : tie.Need-enum-known-base
-enum-known-base c = search needs
-
 sub-result : tie.Need-sub-result
 sub-result c =
     let a = c .before .before .before .before .before .before .before .args in
     let fit : unfitName (now (a .text)) (a .start) (a .length) ≡ false = present-fit (now (a .text)) (a .mark) (a .start) (a .length) (c .before .before .before .before .before .if1 .left) (c .before .before .before .before .before .before .before .pre) in
     let v = c .before .base .given .0 in
     omega (arith, base-inside (now (a .text)) (a .start) (a .length) fit (v .1 .0) (base-given (now (a .text)) (a .start) (a .length) fit (v .0) (v .1 .0) (v .1 .1 .0) (sym (ap nameFigures (c .before .base .given .1)) ∙ c .before .before .before .self-and-inverse .ensures)))
-
-enum-told : tie.Need-enum-told
-enum-told c = search needs
 
 returns-3 : tie.Need-returns-3
 returns-3 c =
@@ -56,9 +47,9 @@ is-unknown-spec =
     (tie.spec
     returns
     returns-2
-    self-and-inverse-requires
-    enum-known-base
+    (λ c κs. search needs)
+    (λ c. search needs)
     sub-result
-    enum-told
+    (λ c. search needs)
     returns-3
     returns-4)

@@ -19,23 +19,11 @@ abbrev μ-loop : tie.MeasureT-loop
 loop-holds : tie.Need-loop-holds Inv-loop μ-loop
 loop-holds c = (omega arith, c .pre .0, stored-none (λ k. getD (now (c .args .numbers)) k 0) (now (c .args .glues)))
 
-mul-glues : tie.Need-mul-glues Inv-loop μ-loop
-mul-glues c = search needs
-
-shared-slice-read-glues : tie.Need-shared-slice-read-glues Inv-loop μ-loop
-shared-slice-read-glues c = search needs
-
 cast-glues : tie.Need-cast-glues Inv-loop μ-loop
 cast-glues c = let small = c .before .before .before .pre .1 (c .before .before .loop .i) (omega arith) in omega arith
 
 slice-write-glues : tie.Need-slice-write-glues Inv-loop μ-loop
 slice-write-glues c = omega (arith, ap length (c .before .before .loop .inv .2), stored-length (λ k. getD (now (c .before .before .before .args .numbers)) k 0) (c .before .before .loop .i) (now (c .before .before .before .args .glues)) (omega arith))
-
-add-i : tie.Need-add-i Inv-loop μ-loop
-add-i c = search needs
-
-loop-less : tie.Need-loop-less Inv-loop μ-loop
-loop-less c = search needs
 
 loop-again : tie.Need-loop-again Inv-loop μ-loop
 loop-again c =
@@ -59,12 +47,12 @@ write-scaffold-spec =
     Inv-loop
     μ-loop
     loop-holds
-    mul-glues
-    shared-slice-read-glues
+    (λ c. search needs)
+    (λ c. search needs)
     cast-glues
     slice-write-glues
-    add-i
-    loop-less
+    (λ c. search needs)
+    (λ c. search needs)
     loop-again
     same-length
     returns)

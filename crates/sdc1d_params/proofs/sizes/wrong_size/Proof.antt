@@ -9,18 +9,12 @@ use Rattle.sdc1d_params.proofs.Lengths.{first-list, second-list, third-
 use Rattle.sdc1d_params.proofs.sizes.wrong_size.Statement.{statement}
 use Rattle.sdc1d_params.proofs.sizes.wrong_size.Tie as tie
 
-unfit-lists-requires : tie.Need-unfit-lists-requires
-unfit-lists-requires c κs = search needs
-
 returns : tie.Need-returns
 returns c =
     let a = c .before .before .before .before .before .before .before .before .before .before .before .before .before .before .before .before .before .before .before .before .before .before .before .before .args in
     let p : Params = paramsOf (now (a .text)) (a .users) (now (a .strand-starts)) (now (a .strand-lengths)) (now (a .strand-marks)) (now (a .scaffold-starts)) (now (a .scaffold-lengths)) (now (a .scaffold-marks)) (now (a .first-starts)) (now (a .first-lengths)) (now (a .second-starts)) (now (a .second-lengths)) (now (a .second-marks)) (now (a .forms)) (now (a .dgs)) (now (a .dss)) (now (a .starts)) (now (a .lengths)) zero zero (a .quencher) (a .reporter) in
     let lent : Outcome = lentOf (now (a .strand-glues)) (now (a .scaffold-glues)) (now (a .dg)) (now (a .ds)) in
     wrong-lists p lent (now (a .first-marks)) (c .before .before .before .before .before .before .before .before .before .before .before .before .before .before .before .before .before .before .before .before .before .before .before .before .pre .0) (c .before .before .before .before .before .before .before .before .before .before .before .before .before .before .before .before .before .before .before .before .before .before .before .before .pre .1) (sym (c .before .unfit-lists .ensures) ∙ c .if1 .taken)
-
-unfit-energies-requires : tie.Need-unfit-energies-requires
-unfit-energies-requires c κs = search needs
 
 returns-2 : tie.Need-returns-2
 returns-2 c =
@@ -29,18 +23,12 @@ returns-2 c =
     let lent : Outcome = lentOf (now (a .strand-glues)) (now (a .scaffold-glues)) (now (a .dg)) (now (a .ds)) in
     wrong-rest p lent (now (a .first-marks)) (c .before .before .before .before .before .before .before .before .before .before .before .before .before .before .before .before .before .before .before .before .before .before .before .before .before .before .pre .0) (c .before .before .before .before .before .before .before .before .before .before .before .before .before .before .before .before .before .before .before .before .before .before .before .before .before .before .pre .1) (sym (c .before .before .before .unfit-lists .ensures) ∙ c .before .before .if1 .left) (first-list _ _ _ _ (sym (c .before .unfit-energies .ensures) ∙ c .if2 .taken))
 
-unfit-copied-requires : tie.Need-unfit-copied-requires
-unfit-copied-requires c κs = search needs
-
 returns-3 : tie.Need-returns-3
 returns-3 c =
     let a = c .before .before .before .before .before .before .before .before .before .before .before .before .before .before .before .before .before .before .before .before .before .before .before .before .before .before .before .before .args in
     let p : Params = paramsOf (now (a .text)) (a .users) (now (a .strand-starts)) (now (a .strand-lengths)) (now (a .strand-marks)) (now (a .scaffold-starts)) (now (a .scaffold-lengths)) (now (a .scaffold-marks)) (now (a .first-starts)) (now (a .first-lengths)) (now (a .second-starts)) (now (a .second-lengths)) (now (a .second-marks)) (now (a .forms)) (now (a .dgs)) (now (a .dss)) (now (a .starts)) (now (a .lengths)) zero zero (a .quencher) (a .reporter) in
     let lent : Outcome = lentOf (now (a .strand-glues)) (now (a .scaffold-glues)) (now (a .dg)) (now (a .ds)) in
     wrong-rest p lent (now (a .first-marks)) (c .before .before .before .before .before .before .before .before .before .before .before .before .before .before .before .before .before .before .before .before .before .before .before .before .before .before .before .before .pre .0) (c .before .before .before .before .before .before .before .before .before .before .before .before .before .before .before .before .before .before .before .before .before .before .before .before .before .before .before .before .pre .1) (sym (c .before .before .before .before .before .unfit-lists .ensures) ∙ c .before .before .before .before .if1 .left) (second-list _ _ _ _ (sym (c .before .before .before .unfit-energies .ensures) ∙ c .before .before .if2 .left) (sym (c .before .unfit-copied .ensures) ∙ c .if3 .taken))
-
-unfit-copied-requires-2 : tie.Need-unfit-copied-requires-2
-unfit-copied-requires-2 c κs = search needs
 
 returns-4 : tie.Need-returns-4
 returns-4 c =
@@ -67,13 +55,13 @@ pub wrong-size-spec : {M : Type 1} → statement M
 wrong-size-spec =
     tie.close
     (tie.spec
-    unfit-lists-requires
+    (λ c κs. search needs)
     returns
-    unfit-energies-requires
+    (λ c κs. search needs)
     returns-2
-    unfit-copied-requires
+    (λ c κs. search needs)
     returns-3
-    unfit-copied-requires-2
+    (λ c κs. search needs)
     returns-4
     unfit-lengths-requires
     returns-5)

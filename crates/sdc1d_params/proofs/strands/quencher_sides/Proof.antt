@@ -11,12 +11,6 @@ use Rattle.sdc1d_params.proofs.Laid.{side-at}
 use Rattle.sdc1d_params.proofs.strands.quencher_sides.Statement.{statement}
 use Rattle.sdc1d_params.proofs.strands.quencher_sides.Tie as tie
 
-enum-told : tie.Need-enum-told
-enum-told c = search needs
-
-enum-known-quencher : tie.Need-enum-known-quencher
-enum-known-quencher c = search needs
-
 mul-t6 : tie.Need-mul-t6
 mul-t6 c = let h = copied-fits (c .before .before .before .args .users) (c .before .quencher .given .0 .0) (sym (ap (unfitCopied (c .before .before .before .args .users)) (c .before .quencher .given .1)) ∙ c .before .before .before .pre .2) in omega arith
 
@@ -47,8 +41,8 @@ pub quencher-sides-spec : {M : Type 1} → statement M
 quencher-sides-spec =
     tie.close
     (tie.spec
-    enum-told
-    enum-known-quencher
+    (λ c. search needs)
+    (λ c. search needs)
     mul-t6
     shared-slice-read-t8
     mul-t9

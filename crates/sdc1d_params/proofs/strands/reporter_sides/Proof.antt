@@ -10,12 +10,6 @@ use Rattle.sdc1d_params.proofs.Laid.{side-at}
 use Rattle.sdc1d_params.proofs.strands.reporter_sides.Statement.{statement}
 use Rattle.sdc1d_params.proofs.strands.reporter_sides.Tie as tie
 
-enum-told : tie.Need-enum-told
-enum-told c = search needs
-
-enum-known-reporter : tie.Need-enum-known-reporter
-enum-known-reporter c = search needs
-
 mul-t6 : tie.Need-mul-t6
 mul-t6 c = let h = copied-fits (c .before .before .before .args .users) (c .before .reporter .given .0 .0) (sym (ap (unfitCopied (c .before .before .before .args .users)) (c .before .reporter .given .1)) ∙ c .before .before .before .pre .2) in omega arith
 
@@ -49,8 +43,8 @@ pub reporter-sides-spec : {M : Type 1} → statement M
 reporter-sides-spec =
     tie.close
     (tie.spec
-    enum-told
-    enum-known-reporter
+    (λ c. search needs)
+    (λ c. search needs)
     mul-t6
     add-t7
     shared-slice-read-t9

@@ -10,36 +10,6 @@ use Rattle.sdc1d_params.proofs.Laid.{strands-laid, part-many, glues-giv
 use Rattle.sdc1d_params.proofs.strands.write_strands.Statement.{statement}
 use Rattle.sdc1d_params.proofs.strands.write_strands.Tie as tie
 
-mul-end : tie.Need-mul-end
-mul-end c = search needs
-
-add-end : tie.Need-add-end
-add-end c = search needs
-
-sub-write-sides : tie.Need-sub-write-sides
-sub-write-sides c = search needs
-
-part-write-sides-start : tie.Need-part-write-sides-start
-part-write-sides-start c = search needs
-
-part-write-sides-end : tie.Need-part-write-sides-end
-part-write-sides-end c = search needs
-
-write-sides-requires : tie.Need-write-sides-requires
-write-sides-requires c κs = search needs
-
-sub-strand-glues : tie.Need-sub-strand-glues
-sub-strand-glues c = search needs
-
-part-strand-glues-start : tie.Need-part-strand-glues-start
-part-strand-glues-start c = search needs
-
-part-strand-glues-end : tie.Need-part-strand-glues-end
-part-strand-glues-end c = search needs
-
-strand-glues-requires : tie.Need-strand-glues-requires
-strand-glues-requires c κs = search needs
-
 quencher-sides-requires : tie.Need-quencher-sides-requires
 quencher-sides-requires c κs =
     let a = c .before .before .before .before .before .before .before .before .before .before .before .before .before .before .args in
@@ -61,18 +31,6 @@ add-write-sides c =
     let few = few-strands (a .users) (now (a .text)) strands (c .before .before .before .before .before .before .before .before .before .before .before .before .before .before .before .before .before .pre .0 .0) in
     omega arith
 
-sub-write-sides-2 : tie.Need-sub-write-sides-2
-sub-write-sides-2 c = search needs
-
-part-write-sides-start-2 : tie.Need-part-write-sides-start-2
-part-write-sides-start-2 c = search needs
-
-part-write-sides-end-2 : tie.Need-part-write-sides-end-2
-part-write-sides-end-2 c = search needs
-
-write-sides-requires-2 : tie.Need-write-sides-requires-2
-write-sides-requires-2 c κs = search needs
-
 add-write-sides-2 : tie.Need-add-write-sides-2
 add-write-sides-2 c =
     let a = c .before .before .before .before .before .before .before .before .before .before .before .before .before .before .before .before .before .before .before .before .before .args in
@@ -87,20 +45,8 @@ add-write-sides-3 c =
     let few = few-strands (a .users) (now (a .text)) strands (c .before .before .before .before .before .before .before .before .before .before .before .before .before .before .before .before .before .before .before .before .before .pre .0 .0) in
     omega arith
 
-sub-write-sides-3 : tie.Need-sub-write-sides-3
-sub-write-sides-3 c = search needs
-
-part-write-sides-start-3 : tie.Need-part-write-sides-start-3
-part-write-sides-start-3 c = search needs
-
 part-write-sides-end-3 : tie.Need-part-write-sides-end-3
 part-write-sides-end-3 c = omega (arith, c .before .before .before .before .before .before .before .before .before .before .before .before .before .before .before .before .before .before .before .before .before .pre .1 .1)
-
-write-sides-requires-3 : tie.Need-write-sides-requires-3
-write-sides-requires-3 c κs = search needs
-
-same-length : tie.Need-same-length
-same-length c = search needs
 
 returns : tie.Need-returns
 returns c =
@@ -117,28 +63,28 @@ pub write-strands-spec : {M : Type 1} → statement M
 write-strands-spec =
     tie.close
     (tie.spec
-    mul-end
-    add-end
-    sub-write-sides
-    part-write-sides-start
-    part-write-sides-end
-    write-sides-requires
-    sub-strand-glues
-    part-strand-glues-start
-    part-strand-glues-end
-    strand-glues-requires
+    (λ c. search needs)
+    (λ c. search needs)
+    (λ c. search needs)
+    (λ c. search needs)
+    (λ c. search needs)
+    (λ c κs. search needs)
+    (λ c. search needs)
+    (λ c. search needs)
+    (λ c. search needs)
+    (λ c κs. search needs)
     quencher-sides-requires
     reporter-sides-requires
     add-write-sides
-    sub-write-sides-2
-    part-write-sides-start-2
-    part-write-sides-end-2
-    write-sides-requires-2
+    (λ c. search needs)
+    (λ c. search needs)
+    (λ c. search needs)
+    (λ c κs. search needs)
     add-write-sides-2
     add-write-sides-3
-    sub-write-sides-3
-    part-write-sides-start-3
+    (λ c. search needs)
+    (λ c. search needs)
     part-write-sides-end-3
-    write-sides-requires-3
-    same-length
+    (λ c κs. search needs)
+    (λ c. search needs)
     returns)

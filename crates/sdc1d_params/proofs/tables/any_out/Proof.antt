@@ -11,7 +11,7 @@ use Rattle.lists.specs.Build.{tabulate}
 use Rattle.lists.proofs.Counted.{any-more, any-found}
 use Rattle.sdc1d_params.specs.Entries.{cell, energiesOf, unfitEntry}
 use Rattle.sdc1d_params.specs.Tables.{outOfRange}
-use Rattle.sdc1d_params.specs.Cells.{writeAt}
+use Rattle.sdc1d_params.specs.inner.Cells.{writeAt}
 use Rattle.sdc1d_params.proofs.Writes.{same-write}
 use Rattle.sdc1d_params.proofs.tables.any_out.Statement.{statement}
 use Rattle.sdc1d_params.proofs.tables.any_out.Tie as tie
@@ -29,23 +29,14 @@ loop-holds c = (omega arith, refl)
 gs-or-seq-requires : tie.Need-gs-or-seq-requires Inv-loop μ-loop
 gs-or-seq-requires c κs = (c .before .before .before .before .before .before .before .before .before .before .pre .0 .many, omega arith)
 
-mul-is-out : tie.Need-mul-is-out Inv-loop μ-loop
-mul-is-out c = search needs
-
 shared-slice-read-is-out : tie.Need-shared-slice-read-is-out Inv-loop μ-loop
 shared-slice-read-is-out c = let m = c .before .before .before .before .before .before .before .before .before .before .before .before .pre .1 .0 in omega arith
-
-mul-is-out-2 : tie.Need-mul-is-out-2 Inv-loop μ-loop
-mul-is-out-2 c = search needs
 
 shared-slice-read-is-out-2 : tie.Need-shared-slice-read-is-out-2 Inv-loop μ-loop
 shared-slice-read-is-out-2 c = let m = c .before .before .before .before .before .before .before .before .before .before .before .before .before .pre .1 .1 in omega arith
 
 with-penalty-requires : tie.Need-with-penalty-requires Inv-loop μ-loop
 with-penalty-requires c κs = ap (unfitEntry (now (c .before .before .before .before .before .before .before .before .before .before .before .before .before .args .text))) (c .before .before .gs-or-seq .ensures) ∙ c .before .before .before .before .before .before .before .before .before .before .before .before .before .pre .0 .each (c .before .before .before .before .loop .i) (omega arith)
-
-is-out-requires : tie.Need-is-out-requires Inv-loop μ-loop
-is-out-requires c κs = search needs
 
 returns : tie.Need-returns Inv-loop μ-loop
 returns c =
@@ -54,12 +45,6 @@ returns c =
     let f = writeAt (now (a .text)) (energiesOf (now (a .forms)) (now (a .dgs)) (now (a .dss)) (now (a .starts)) (now (a .lengths))) (a .pdg .0) (a .pds .0) (now (a .rows)) (now (a .columns)) in
     let made = same-write (now (a .text)) (a .pdg .0) (a .pds .0) (cell (getD (now (a .rows)) (l .i) 0) (getD (now (a .columns)) (l .i) 0)) (c .before .before .before .before .before .gs-or-seq .ensures) (c .before .before .with-penalty .ensures .0) (c .before .before .with-penalty .ensures .1) in
     sym (any-found outOfRange (length (now (a .forms))) f (l .i) (omega arith) (sym (ap outOfRange made) ∙ sym (c .before .is-out .ensures) ∙ c .if1 .taken))
-
-add-i : tie.Need-add-i Inv-loop μ-loop
-add-i c = search needs
-
-loop-less : tie.Need-loop-less Inv-loop μ-loop
-loop-less c = search needs
 
 loop-again : tie.Need-loop-again Inv-loop μ-loop
 loop-again c =
@@ -83,14 +68,14 @@ any-out-spec =
     μ-loop
     loop-holds
     gs-or-seq-requires
-    mul-is-out
+    (λ c. search needs)
     shared-slice-read-is-out
-    mul-is-out-2
+    (λ c. search needs)
     shared-slice-read-is-out-2
     with-penalty-requires
-    is-out-requires
+    (λ c κs. search needs)
     returns
-    add-i
-    loop-less
+    (λ c. search needs)
+    (λ c. search needs)
     loop-again
     returns-2)

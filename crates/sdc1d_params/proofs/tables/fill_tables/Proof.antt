@@ -12,7 +12,7 @@ use Rattle.lists.specs.Build.{tabulate}
 use Rattle.lists.proofs.Counted.{fold-more}
 use Rattle.sdc1d_params.specs.Entries.{cell, energiesOf, unfitEntry}
 use Rattle.sdc1d_params.specs.Tables.{Write, writeDg, writeDs}
-use Rattle.sdc1d_params.specs.Cells.{writeAt}
+use Rattle.sdc1d_params.specs.inner.Cells.{writeAt}
 use Rattle.sdc1d_params.proofs.Writes.{same-write, set-length}
 use Rattle.sdc1d_params.proofs.tables.fill_tables.Statement.{statement}
 use Rattle.sdc1d_params.proofs.tables.fill_tables.Tie as tie
@@ -27,23 +27,14 @@ loop-holds : tie.Need-loop-holds Inv-loop μ-loop
 unfolding foldl tabulate
 loop-holds c = (omega arith, refl, refl, c .before .before .before .before .before .before .before .before .before .before .pre .1 .1 .0, c .before .before .before .before .before .before .before .before .before .before .pre .1 .1 .1)
 
-mul-row : tie.Need-mul-row Inv-loop μ-loop
-mul-row c = search needs
-
 shared-slice-read-row : tie.Need-shared-slice-read-row Inv-loop μ-loop
 shared-slice-read-row c = let m = c .before .before .before .before .before .before .before .before .before .before .before .before .before .pre .1 .0 .rows-many in omega arith
-
-mul-column : tie.Need-mul-column Inv-loop μ-loop
-mul-column c = search needs
 
 shared-slice-read-column : tie.Need-shared-slice-read-column Inv-loop μ-loop
 shared-slice-read-column c = let m = c .before .before .before .before .before .before .before .before .before .before .before .before .before .before .pre .1 .0 .columns-many in omega arith
 
 gs-or-seq-requires : tie.Need-gs-or-seq-requires Inv-loop μ-loop
 gs-or-seq-requires c κs = (c .before .before .before .before .before .before .before .before .before .before .before .before .before .before .pre .0 .many, omega arith)
-
-add-i : tie.Need-add-i Inv-loop μ-loop
-add-i c = search needs
 
 with-penalty-requires : tie.Need-with-penalty-requires Inv-loop μ-loop
 with-penalty-requires c κs = ap (unfitEntry (now (c .before .before .before .before .before .before .before .before .before .before .before .before .before .before .before .args .text))) (c .gs-or-seq .ensures) ∙ c .before .before .before .before .before .before .before .before .before .before .before .before .before .before .before .pre .0 .each (c .before .before .before .before .loop .i) (omega arith)
@@ -93,12 +84,12 @@ fill-tables-spec =
     Inv-loop
     μ-loop
     loop-holds
-    mul-row
+    (λ c. search needs)
     shared-slice-read-row
-    mul-column
+    (λ c. search needs)
     shared-slice-read-column
     gs-or-seq-requires
-    add-i
+    (λ c. search needs)
     with-penalty-requires
     set-both-requires
     set-both-requires-2

@@ -21,17 +21,11 @@ ds-range : (x : Float) → dsInRange x ≡ within (ofBits binary64 1384406525453
 unfolding dsInRange inRange nearest ofBits
 ds-range x = refl
 
-is-written-requires : tie.Need-is-written-requires
-is-written-requires c κs = search needs
-
 returns : tie.Need-returns
 unfolding outOfRange
 returns c =
     let unwritten : isWritten (cell (c .before .before .args .row) (c .before .before .args .column)) ≡ false = sym (c .before .is-written .ensures) ∙ not-true _ (c .if1 .taken) in
     rw unwritten
-
-in-range-requires : tie.Need-in-range-requires
-in-range-requires c κs = search needs
 
 returns-2 : tie.Need-returns-2
 unfolding outOfRange
@@ -40,9 +34,6 @@ returns-2 c =
     let written : isWritten (cell (a .row) (a .column)) ≡ true = sym (c .before .before .before .before .before .is-written .ensures) ∙ not-false _ (c .before .before .before .before .if1 .left) in
     let out : dgInRange (a .gs .0 .0) ≡ false = dg-range _ ∙ sym (c .before .in-range .ensures) ∙ not-true _ (c .if2 .taken) in
     rw (written, out)
-
-in-range-requires-2 : tie.Need-in-range-requires-2
-in-range-requires-2 c κs = search needs
 
 returns-3 : tie.Need-returns-3
 unfolding outOfRange
@@ -57,9 +48,9 @@ pub is-out-spec : {M : Type 1} → statement M
 is-out-spec =
     tie.close
     (tie.spec
-    is-written-requires
+    (λ c κs. search needs)
     returns
-    in-range-requires
+    (λ c κs. search needs)
     returns-2
-    in-range-requires-2
+    (λ c κs. search needs)
     returns-3)

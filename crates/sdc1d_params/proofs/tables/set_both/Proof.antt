@@ -10,35 +10,8 @@ use Rattle.sdc1d_params.specs.Tables.{setBoth}
 use Rattle.sdc1d_params.proofs.tables.set_both.Statement.{statement}
 use Rattle.sdc1d_params.proofs.tables.set_both.Tie as tie
 
-is-written-requires : tie.Need-is-written-requires
-is-written-requires c κs = search needs
-
-mul-at : tie.Need-mul-at
-mul-at c = search needs
-
-add-at : tie.Need-add-at
-add-at c = search needs
-
-mul-mirror : tie.Need-mul-mirror
-mul-mirror c = search needs
-
-add-mirror : tie.Need-add-mirror
-add-mirror c = search needs
-
-mul-table : tie.Need-mul-table
-mul-table c = search needs
-
-slice-write-table : tie.Need-slice-write-table
-slice-write-table c = search needs
-
-mul-table-2 : tie.Need-mul-table-2
-mul-table-2 c = search needs
-
 slice-write-table-2 : tie.Need-slice-write-table-2
 slice-write-table-2 c = simp length-set (omega arith)
-
-same-length : tie.Need-same-length
-same-length c = search needs
 
 returns : tie.Need-returns
 unfolding setBoth
@@ -56,15 +29,15 @@ pub set-both-spec : {M : Type 1} → statement M
 set-both-spec =
     tie.close
     (tie.spec
-    is-written-requires
-    mul-at
-    add-at
-    mul-mirror
-    add-mirror
-    mul-table
-    slice-write-table
-    mul-table-2
+    (λ c κs. search needs)
+    (λ c. search needs)
+    (λ c. search needs)
+    (λ c. search needs)
+    (λ c. search needs)
+    (λ c. search needs)
+    (λ c. search needs)
+    (λ c. search needs)
     slice-write-table-2
-    same-length
+    (λ c. search needs)
     returns
     returns-2)

@@ -35,24 +35,6 @@ loop-holds : tie.Need-loop-holds Inv-loop μ-loop
 unfolding any tabulate
 loop-holds c = (omega arith, refl)
 
-shared-slice-read-unfit-glue : tie.Need-shared-slice-read-unfit-glue Inv-loop μ-loop
-shared-slice-read-unfit-glue c = search needs
-
-mul-unfit-glue : tie.Need-mul-unfit-glue Inv-loop μ-loop
-mul-unfit-glue c = search needs
-
-shared-slice-read-unfit-glue-2 : tie.Need-shared-slice-read-unfit-glue-2 Inv-loop μ-loop
-shared-slice-read-unfit-glue-2 c = search needs
-
-mul-unfit-glue-2 : tie.Need-mul-unfit-glue-2 Inv-loop μ-loop
-mul-unfit-glue-2 c = search needs
-
-shared-slice-read-unfit-glue-3 : tie.Need-shared-slice-read-unfit-glue-3 Inv-loop μ-loop
-shared-slice-read-unfit-glue-3 c = search needs
-
-unfit-glue-requires : tie.Need-unfit-glue-requires Inv-loop μ-loop
-unfit-glue-requires c κs = search needs
-
 returns-4 : tie.Need-returns-4 Inv-loop μ-loop
 unfolding unfitNames
 returns-4 c =
@@ -60,12 +42,6 @@ returns-4 c =
     let names = namesOf (now (a .starts)) (now (a .lengths)) (now (a .marks)) in
     let bad : unfitAt (now (a .text)) names (c .before .before .before .before .before .before .loop .i) ≡ true = sym (c .before .unfit-glue .ensures) ∙ c .if4 .taken in
     simp (eq-eqb _ _ (c .before .before .before .before .before .before .before .before .before .if1 .left), eq-eqb _ _ (c .before .before .before .before .before .before .before .before .if2 .left), eq-eqb _ _ (c .before .before .before .before .before .before .before .if3 .left), any-found (unfitAt (now (a .text)) names) (a .n) (λ k. k) (c .before .before .before .before .before .before .loop .i) (omega arith) bad)
-
-add-i : tie.Need-add-i Inv-loop μ-loop
-add-i c = search needs
-
-loop-less : tie.Need-loop-less Inv-loop μ-loop
-loop-less c = search needs
 
 loop-again : tie.Need-loop-again Inv-loop μ-loop
 loop-again c =
@@ -94,14 +70,14 @@ unfit-names-spec =
     returns-2
     returns-3
     loop-holds
-    shared-slice-read-unfit-glue
-    mul-unfit-glue
-    shared-slice-read-unfit-glue-2
-    mul-unfit-glue-2
-    shared-slice-read-unfit-glue-3
-    unfit-glue-requires
+    (λ c. search needs)
+    (λ c. search needs)
+    (λ c. search needs)
+    (λ c. search needs)
+    (λ c. search needs)
+    (λ c κs. search needs)
     returns-4
-    add-i
-    loop-less
+    (λ c. search needs)
+    (λ c. search needs)
     loop-again
     returns-5)

@@ -12,7 +12,7 @@ use Rattle.lists.specs.Build.{tabulate}
 use Rattle.lists.proofs.Counted.{fold-more}
 use Rattle.sdc_common.specs.Lent.{namesOf, glueAt, gluesOf}
 use Rattle.sdc_common.specs.Numbers.{learn, basesOf}
-use Rattle.sdc_common.specs.Table.{Table, held}
+use Rattle.sdc_common.specs.inner.Table.{Table, held}
 use Rattle.sdc_common.proofs.table.base_names.Statement.{statement}
 use Rattle.sdc_common.proofs.table.base_names.Tie as tie
 
@@ -29,29 +29,14 @@ loop-holds c =
     let p = c .before .before .before .before .before .before .pre .1 .1 in
     (omega arith, omega arith, record { starts-room = p .0; lengths-room = p .1; upto = omega arith; inside = below-none (λ k. getD (now (a .heads)) k 0 + getD (now (a .sizes)) k 0 ≤ length (now (a .text))) }, refl)
 
-shared-slice-read-learn-glue : tie.Need-shared-slice-read-learn-glue Inv-loop μ-loop
-shared-slice-read-learn-glue c = search needs
-
-mul-learn-glue : tie.Need-mul-learn-glue Inv-loop μ-loop
-mul-learn-glue c = search needs
-
 shared-slice-read-learn-glue-2 : tie.Need-shared-slice-read-learn-glue-2 Inv-loop μ-loop
 shared-slice-read-learn-glue-2 c = let e = c .before .before .before .before .before .before .before .before .before .before .pre .0 .starts in omega arith
-
-mul-learn-glue-2 : tie.Need-mul-learn-glue-2 Inv-loop μ-loop
-mul-learn-glue-2 c = search needs
 
 shared-slice-read-learn-glue-3 : tie.Need-shared-slice-read-learn-glue-3 Inv-loop μ-loop
 shared-slice-read-learn-glue-3 c = let e = c .before .before .before .before .before .before .before .before .before .before .before .pre .0 .lengths in omega arith
 
 learn-glue-requires : tie.Need-learn-glue-requires Inv-loop μ-loop
 learn-glue-requires c κs = let b = c .before .before .before .before .before .before .before .before .before .before .before .before .before .pre .1 .0 in (c .before .before .before .before .before .before .loop .inv .2, (c .before .before .before .before .before .before .before .before .before .before .before .before .before .pre .0 .each (c .before .before .before .before .before .before .loop .i) (omega arith), omega arith))
-
-add-i : tie.Need-add-i Inv-loop μ-loop
-add-i c = search needs
-
-loop-less : tie.Need-loop-less Inv-loop μ-loop
-loop-less c = search needs
 
 loop-again : tie.Need-loop-again Inv-loop μ-loop
 loop-again c =
@@ -82,14 +67,14 @@ base-names-spec =
     Inv-loop
     μ-loop
     loop-holds
-    shared-slice-read-learn-glue
-    mul-learn-glue
+    (λ c. search needs)
+    (λ c. search needs)
     shared-slice-read-learn-glue-2
-    mul-learn-glue-2
+    (λ c. search needs)
     shared-slice-read-learn-glue-3
     learn-glue-requires
-    add-i
-    loop-less
+    (λ c. search needs)
+    (λ c. search needs)
     loop-again
     same-length
     same-length-2

@@ -9,7 +9,7 @@ use Rattle.lists.specs.Build.{tabulate}
 use Rattle.lists.proofs.Counted.{stored, stored-none, stored-length, stored-more, stored-whole, map-tabulate}
 use Rattle.sdc_common.specs.Lent.{namesOf, glueAt, gluesOf}
 use Rattle.sdc_common.specs.Numbers.{glueNumber}
-use Rattle.sdc_common.specs.Table.{held}
+use Rattle.sdc_common.specs.inner.Table.{held}
 use Rattle.sdc_common.proofs.Held.{numberOfGlue}
 use Rattle.sdc_common.proofs.table.fill_glues.Statement.{statement}
 use Rattle.sdc_common.proofs.table.fill_glues.Tie as tie
@@ -25,17 +25,8 @@ loop-holds c =
     let a = c .before .before .before .before .before .before .before .args in
     (omega arith, c .before .before .before .before .before .before .before .pre .1 .1 .0, stored-none (numberOfGlue (now (a .text)) (now (a .heads)) (now (a .sizes)) (a .count) (namesOf (now (a .starts)) (now (a .lengths)) (now (a .marks)))) (now (a .glues)))
 
-shared-slice-read-number : tie.Need-shared-slice-read-number Inv-loop μ-loop
-shared-slice-read-number c = search needs
-
-mul-number : tie.Need-mul-number Inv-loop μ-loop
-mul-number c = search needs
-
 shared-slice-read-number-2 : tie.Need-shared-slice-read-number-2 Inv-loop μ-loop
 shared-slice-read-number-2 c = let e = c .before .before .before .before .before .before .before .before .before .before .before .pre .1 .0 .starts in omega arith
-
-mul-number-2 : tie.Need-mul-number-2 Inv-loop μ-loop
-mul-number-2 c = search needs
 
 shared-slice-read-number-3 : tie.Need-shared-slice-read-number-3 Inv-loop μ-loop
 shared-slice-read-number-3 c = let e = c .before .before .before .before .before .before .before .before .before .before .before .before .pre .1 .0 .lengths in omega arith
@@ -50,12 +41,6 @@ slice-write-glues : tie.Need-slice-write-glues Inv-loop μ-loop
 slice-write-glues c =
     let a = c .before .before .before .before .before .before .before .before .before .before .before .before .before .args in
     omega (arith, ap length (c .before .before .before .before .before .loop .inv .2), stored-length (numberOfGlue (now (a .text)) (now (a .heads)) (now (a .sizes)) (a .count) (namesOf (now (a .starts)) (now (a .lengths)) (now (a .marks)))) (c .before .before .before .before .before .loop .i) (now (a .glues)) (omega arith))
-
-add-i : tie.Need-add-i Inv-loop μ-loop
-add-i c = search needs
-
-loop-less : tie.Need-loop-less Inv-loop μ-loop
-loop-less c = search needs
 
 loop-again : tie.Need-loop-again Inv-loop μ-loop
 loop-again c =
@@ -86,16 +71,16 @@ fill-glues-spec =
     Inv-loop
     μ-loop
     loop-holds
-    shared-slice-read-number
-    mul-number
+    (λ c. search needs)
+    (λ c. search needs)
     shared-slice-read-number-2
-    mul-number-2
+    (λ c. search needs)
     shared-slice-read-number-3
     number-requires
     cast-glues
     slice-write-glues
-    add-i
-    loop-less
+    (λ c. search needs)
+    (λ c. search needs)
     loop-again
     same-length
     returns)

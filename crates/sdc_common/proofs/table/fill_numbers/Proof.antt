@@ -9,7 +9,7 @@ use Rattle.lists.specs.Build.{tabulate}
 use Rattle.lists.proofs.Counted.{stored, stored-none, stored-length, stored-more, stored-whole, map-tabulate}
 use Rattle.sdc_common.specs.Lent.{namesOf, glueAt, gluesOf}
 use Rattle.sdc_common.specs.Numbers.{glueNumber}
-use Rattle.sdc_common.specs.Table.{held}
+use Rattle.sdc_common.specs.inner.Table.{held}
 use Rattle.sdc_common.proofs.Held.{numberOfGlue}
 use Rattle.sdc_common.proofs.table.fill_numbers.Statement.{statement}
 use Rattle.sdc_common.proofs.table.fill_numbers.Tie as tie
@@ -25,17 +25,8 @@ loop-holds c =
     let a = c .before .before .before .before .before .before .before .args in
     (omega arith, c .before .before .before .before .before .before .before .pre .1 .1, stored-none (numberOfGlue (now (a .text)) (now (a .heads)) (now (a .sizes)) (a .count) (namesOf (now (a .starts)) (now (a .lengths)) (now (a .marks)))) (now (a .numbers)))
 
-shared-slice-read-number : tie.Need-shared-slice-read-number Inv-loop μ-loop
-shared-slice-read-number c = search needs
-
-mul-number : tie.Need-mul-number Inv-loop μ-loop
-mul-number c = search needs
-
 shared-slice-read-number-2 : tie.Need-shared-slice-read-number-2 Inv-loop μ-loop
 shared-slice-read-number-2 c = let e = c .before .before .before .before .before .before .before .before .before .before .before .pre .1 .0 .starts in omega arith
-
-mul-number-2 : tie.Need-mul-number-2 Inv-loop μ-loop
-mul-number-2 c = search needs
 
 shared-slice-read-number-3 : tie.Need-shared-slice-read-number-3 Inv-loop μ-loop
 shared-slice-read-number-3 c = let e = c .before .before .before .before .before .before .before .before .before .before .before .before .pre .1 .0 .lengths in omega arith
@@ -43,19 +34,10 @@ shared-slice-read-number-3 c = let e = c .before .before .before .before .before
 number-requires : tie.Need-number-requires Inv-loop μ-loop
 number-requires c κs = (c .before .before .before .before .before .before .before .before .before .before .before .before .pre .0, c .before .before .before .before .before .before .before .before .before .before .before .before .pre .1 .0 .each (c .before .before .before .before .loop .i) (omega arith))
 
-mul-numbers : tie.Need-mul-numbers Inv-loop μ-loop
-mul-numbers c = search needs
-
 slice-write-numbers : tie.Need-slice-write-numbers Inv-loop μ-loop
 slice-write-numbers c =
     let a = c .before .before .before .before .before .before .before .before .before .before .before .before .before .args in
     omega (arith, ap length (c .before .before .before .before .before .loop .inv .2), stored-length (numberOfGlue (now (a .text)) (now (a .heads)) (now (a .sizes)) (a .count) (namesOf (now (a .starts)) (now (a .lengths)) (now (a .marks)))) (c .before .before .before .before .before .loop .i) (now (a .numbers)) (omega arith))
-
-add-i : tie.Need-add-i Inv-loop μ-loop
-add-i c = search needs
-
-loop-less : tie.Need-loop-less Inv-loop μ-loop
-loop-less c = search needs
 
 loop-again : tie.Need-loop-again Inv-loop μ-loop
 loop-again c =
@@ -86,16 +68,16 @@ fill-numbers-spec =
     Inv-loop
     μ-loop
     loop-holds
-    shared-slice-read-number
-    mul-number
+    (λ c. search needs)
+    (λ c. search needs)
     shared-slice-read-number-2
-    mul-number-2
+    (λ c. search needs)
     shared-slice-read-number-3
     number-requires
-    mul-numbers
+    (λ c. search needs)
     slice-write-numbers
-    add-i
-    loop-less
+    (λ c. search needs)
+    (λ c. search needs)
     loop-again
     same-length
     returns)

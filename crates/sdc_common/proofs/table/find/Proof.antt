@@ -8,7 +8,7 @@ use denote.Ref.{now}
 use borrow.Author.Count.{below-none, below-more}
 use Rattle.lists.proofs.Counted.{first-found, first-none}
 use Rattle.sdc_common.specs.Names.{sameName}
-use Rattle.sdc_common.specs.Table.{heldAt, held}
+use Rattle.sdc_common.specs.inner.Table.{heldAt, held}
 use Rattle.sdc_common.proofs.Held.{part-is}
 use Rattle.sdc_common.proofs.table.find.Statement.{statement}
 use Rattle.sdc_common.proofs.table.find.Tie as tie
@@ -24,32 +24,11 @@ loop-holds c =
     let a = c .before .before .before .before .args in
     (omega arith, below-none (λ j. sameName (now (a .name)) (heldAt (now (a .text)) (now (a .heads)) (now (a .sizes)) j) ≡ false))
 
-mul-start : tie.Need-mul-start Inv-loop μ-loop
-mul-start c = search needs
-
-shared-slice-read-start : tie.Need-shared-slice-read-start Inv-loop μ-loop
-shared-slice-read-start c = search needs
-
-mul-end : tie.Need-mul-end Inv-loop μ-loop
-mul-end c = search needs
-
-shared-slice-read-end : tie.Need-shared-slice-read-end Inv-loop μ-loop
-shared-slice-read-end c = search needs
-
 add-end : tie.Need-add-end Inv-loop μ-loop
 add-end c = omega (arith, c .before .before .before .before .before .before .before .before .pre .inside (c .before .before .before .loop .k) (omega arith))
 
-sub-same-bytes : tie.Need-sub-same-bytes Inv-loop μ-loop
-sub-same-bytes c = search needs
-
-part-same-bytes-start : tie.Need-part-same-bytes-start Inv-loop μ-loop
-part-same-bytes-start c = search needs
-
 part-same-bytes-end : tie.Need-part-same-bytes-end Inv-loop μ-loop
 part-same-bytes-end c = omega (arith, c .before .before .before .before .before .before .before .before .pre .inside (c .before .before .before .loop .k) (omega arith))
-
-same-bytes-requires : tie.Need-same-bytes-requires Inv-loop μ-loop
-same-bytes-requires c κs = search needs
 
 returns : tie.Need-returns Inv-loop μ-loop
 unfolding held
@@ -59,12 +38,6 @@ returns c =
     let here : sameName (now (a .name)) (heldAt (now (a .text)) (now (a .heads)) (now (a .sizes)) (l .k)) ≡ true =
     ap (sameName (now (a .name))) (sym (part-is (now (a .text)) _ _)) ∙ sym (c .before .same-bytes .ensures) ∙ c .if1 .taken in
     (sym (first-found (sameName (now (a .name))) (a .count) (heldAt (now (a .text)) (now (a .heads)) (now (a .sizes))) (l .k) (l .inv .1) (omega arith) here), omega arith)
-
-add-k : tie.Need-add-k Inv-loop μ-loop
-add-k c = search needs
-
-loop-less : tie.Need-loop-less Inv-loop μ-loop
-loop-less c = search needs
 
 loop-again : tie.Need-loop-again Inv-loop μ-loop
 loop-again c =
@@ -89,17 +62,17 @@ find-spec =
     Inv-loop
     μ-loop
     loop-holds
-    mul-start
-    shared-slice-read-start
-    mul-end
-    shared-slice-read-end
+    (λ c. search needs)
+    (λ c. search needs)
+    (λ c. search needs)
+    (λ c. search needs)
     add-end
-    sub-same-bytes
-    part-same-bytes-start
+    (λ c. search needs)
+    (λ c. search needs)
     part-same-bytes-end
-    same-bytes-requires
+    (λ c κs. search needs)
     returns
-    add-k
-    loop-less
+    (λ c. search needs)
+    (λ c. search needs)
     loop-again
     returns-2)

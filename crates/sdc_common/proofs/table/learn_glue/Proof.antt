@@ -9,7 +9,7 @@ use Rattle.lists.specs.Find.{firstIndex}
 use Rattle.sdc_common.specs.Names.{baseOf, sameName}
 use Rattle.sdc_common.specs.Lent.{partOf}
 use Rattle.sdc_common.specs.Numbers.{learn}
-use Rattle.sdc_common.specs.Table.{held}
+use Rattle.sdc_common.specs.inner.Table.{held}
 use Rattle.sdc_common.proofs.Held.{part-is, present-fits, glue-absent, glue-present, base-within, base-part, is-known, not-known, table-more, held-more, learn-known, learn-new}
 use Rattle.sdc_common.proofs.table.learn_glue.Statement.{statement}
 use Rattle.sdc_common.proofs.table.learn_glue.Tie as tie
@@ -25,19 +25,10 @@ add-end c =
     let a = c .before .before .before .before .args in
     omega (arith, present-fits (now (a .text)) (a .mark) (a .start) (a .length) (c .if1 .left) (c .before .before .before .before .pre .1 .0))
 
-sub-base-length : tie.Need-sub-base-length
-sub-base-length c = search needs
-
-part-base-length-start : tie.Need-part-base-length-start
-part-base-length-start c = search needs
-
 part-base-length-end : tie.Need-part-base-length-end
 part-base-length-end c =
     let a = c .before .before .before .before .args in
     omega (arith, present-fits (now (a .text)) (a .mark) (a .start) (a .length) (c .if1 .left) (c .before .before .before .before .pre .1 .0))
-
-base-length-requires : tie.Need-base-length-requires
-base-length-requires c κs = search needs
 
 add-base-end : tie.Need-add-base-end
 add-base-end c =
@@ -45,26 +36,11 @@ add-base-end c =
     let fit = present-fits (now (a .text)) (a .mark) (a .start) (a .length) (c .before .before .if1 .left) (c .before .before .before .before .before .before .pre .1 .0) in
     omega (arith, fit, base-within (now (a .text)) (a .mark) (a .start) (a .length) (c .base-length .result) fit (c .base-length .ensures .0))
 
-sub-find : tie.Need-sub-find
-sub-find c = search needs
-
-part-find-start : tie.Need-part-find-start
-part-find-start c = search needs
-
 part-find-end : tie.Need-part-find-end
 part-find-end c =
     let a = c .before .before .before .before .before .before .before .before .args in
     let fit = present-fits (now (a .text)) (a .mark) (a .start) (a .length) (c .before .before .before .before .if1 .left) (c .before .before .before .before .before .before .before .before .pre .1 .0) in
     omega (arith, fit, base-within (now (a .text)) (a .mark) (a .start) (a .length) (c .before .before .base-length .result) fit (c .before .before .base-length .ensures .0))
-
-find-requires : tie.Need-find-requires
-find-requires c κs = search needs
-
-same-length : tie.Need-same-length
-same-length c = search needs
-
-same-length-2 : tie.Need-same-length-2
-same-length-2 c = search needs
 
 returns-2 : tie.Need-returns-2
 returns-2 c =
@@ -78,27 +54,6 @@ returns-2 c =
     let place : c .before .find .result ≡ firstIndex (sameName (baseOf spelled)) bases = c .before .find .ensures .0 ∙ ap (λ (n : List ℕ). firstIndex (sameName n) bases) bytes in
     let glue = glue-present text (a .mark) (a .start) (a .length) (c .before .before .before .before .before .before .before .if1 .left) in
     (c .before .before .before .before .before .before .before .before .before .before .before .pre .0, (learn-known bases spelled (is-known text (now (a .heads)) (now (a .sizes)) (a .count) (baseOf spelled) (c .before .find .result) place (c .if2 .taken)) ∙ sym (ap (learn bases) glue), omega arith))
-
-mul-heads : tie.Need-mul-heads
-mul-heads c = search needs
-
-slice-write-heads : tie.Need-slice-write-heads
-slice-write-heads c = search needs
-
-mul-sizes : tie.Need-mul-sizes
-mul-sizes c = search needs
-
-slice-write-sizes : tie.Need-slice-write-sizes
-slice-write-sizes c = search needs
-
-add-result : tie.Need-add-result
-add-result c = search needs
-
-same-length-3 : tie.Need-same-length-3
-same-length-3 c = search needs
-
-same-length-4 : tie.Need-same-length-4
-same-length-4 c = search needs
 
 returns-3 : tie.Need-returns-3
 returns-3 c =
@@ -122,23 +77,23 @@ learn-glue-spec =
     (tie.spec
     returns
     add-end
-    sub-base-length
-    part-base-length-start
+    (λ c. search needs)
+    (λ c. search needs)
     part-base-length-end
-    base-length-requires
+    (λ c κs. search needs)
     add-base-end
-    sub-find
-    part-find-start
+    (λ c. search needs)
+    (λ c. search needs)
     part-find-end
-    find-requires
-    same-length
-    same-length-2
+    (λ c κs. search needs)
+    (λ c. search needs)
+    (λ c. search needs)
     returns-2
-    mul-heads
-    slice-write-heads
-    mul-sizes
-    slice-write-sizes
-    add-result
-    same-length-3
-    same-length-4
+    (λ c. search needs)
+    (λ c. search needs)
+    (λ c. search needs)
+    (λ c. search needs)
+    (λ c. search needs)
+    (λ c. search needs)
+    (λ c. search needs)
     returns-3)

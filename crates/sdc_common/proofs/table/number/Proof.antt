@@ -10,7 +10,7 @@ use Rattle.lists.specs.Find.{firstIndex}
 use Rattle.sdc_common.specs.Names.{baseOf, sameName}
 use Rattle.sdc_common.specs.Lent.{partOf}
 use Rattle.sdc_common.specs.Numbers.{numberAt, glueNumber}
-use Rattle.sdc_common.specs.Table.{held}
+use Rattle.sdc_common.specs.inner.Table.{held}
 use Rattle.sdc_common.proofs.Held.{part-is, present-fits, glue-absent, glue-present, base-within, base-part, stars-of, is-known, not-known, number-known, number-unknown}
 use Rattle.sdc_common.proofs.table.number.Statement.{statement}
 use Rattle.sdc_common.proofs.table.number.Tie as tie
@@ -26,19 +26,10 @@ add-end c =
     let a = c .before .before .before .before .args in
     omega (arith, present-fits (now (a .text)) (a .mark) (a .start) (a .length) (c .if1 .left) (c .before .before .before .before .pre .1))
 
-sub-base-length : tie.Need-sub-base-length
-sub-base-length c = search needs
-
-part-base-length-start : tie.Need-part-base-length-start
-part-base-length-start c = search needs
-
 part-base-length-end : tie.Need-part-base-length-end
 part-base-length-end c =
     let a = c .before .before .before .before .args in
     omega (arith, present-fits (now (a .text)) (a .mark) (a .start) (a .length) (c .if1 .left) (c .before .before .before .before .pre .1))
-
-base-length-requires : tie.Need-base-length-requires
-base-length-requires c κs = search needs
 
 add-base-end : tie.Need-add-base-end
 add-base-end c =
@@ -46,20 +37,11 @@ add-base-end c =
     let fit = present-fits (now (a .text)) (a .mark) (a .start) (a .length) (c .before .before .if1 .left) (c .before .before .before .before .before .before .pre .1) in
     omega (arith, fit, base-within (now (a .text)) (a .mark) (a .start) (a .length) (c .base-length .result) fit (c .base-length .ensures .0))
 
-sub-find : tie.Need-sub-find
-sub-find c = search needs
-
-part-find-start : tie.Need-part-find-start
-part-find-start c = search needs
-
 part-find-end : tie.Need-part-find-end
 part-find-end c =
     let a = c .before .before .before .before .before .before .args in
     let fit = present-fits (now (a .text)) (a .mark) (a .start) (a .length) (c .before .before .if1 .left) (c .before .before .before .before .before .before .pre .1) in
     omega (arith, fit, base-within (now (a .text)) (a .mark) (a .start) (a .length) (c .base-length .result) fit (c .base-length .ensures .0))
-
-find-requires : tie.Need-find-requires
-find-requires c κs = search needs
 
 returns-2 : tie.Need-returns-2
 unfolding glueNumber
@@ -74,18 +56,6 @@ returns-2 c =
     let place : c .before .find .result ≡ firstIndex (sameName (baseOf spelled)) bases = c .before .find .ensures .0 ∙ ap (λ (n : List ℕ). firstIndex (sameName n) bases) bytes in
     let glue = glue-present text (a .mark) (a .start) (a .length) (c .before .before .before .before .before .if1 .left) in
     (number-unknown bases spelled (not-known text (now (a .heads)) (now (a .sizes)) (a .count) (baseOf spelled) (c .before .find .result) place (c .if2 .taken)) ∙ sym (ap (glueNumber bases) glue), omega arith)
-
-mul-result : tie.Need-mul-result
-mul-result c = search needs
-
-add-result : tie.Need-add-result
-add-result c = search needs
-
-sub-result : tie.Need-sub-result
-sub-result c = search needs
-
-add-result-2 : tie.Need-add-result-2
-add-result-2 c = search needs
 
 returns-3 : tie.Need-returns-3
 unfolding glueNumber
@@ -109,18 +79,18 @@ number-spec =
     (tie.spec
     returns
     add-end
-    sub-base-length
-    part-base-length-start
+    (λ c. search needs)
+    (λ c. search needs)
     part-base-length-end
-    base-length-requires
+    (λ c κs. search needs)
     add-base-end
-    sub-find
-    part-find-start
+    (λ c. search needs)
+    (λ c. search needs)
     part-find-end
-    find-requires
+    (λ c κs. search needs)
     returns-2
-    mul-result
-    add-result
-    sub-result
-    add-result-2
+    (λ c. search needs)
+    (λ c. search needs)
+    (λ c. search needs)
+    (λ c. search needs)
     returns-3)

@@ -10,33 +10,12 @@ use Rattle.statements.specs.Words.{spelled}
 use Rattle.sheet.proofs.faults.bytes.Statement.{statement}
 use Rattle.sheet.proofs.faults.bytes.Tie as tie
 
-sub-result : tie.Need-sub-result
-sub-result c = search needs
-
-part-result-start : tie.Need-part-result-start
-part-result-start c = search needs
-
-part-result-end : tie.Need-part-result-end
-part-result-end c = search needs
-
 returns : tie.Need-returns
 unfolding spelled
 returns c =
     let a = c .before .before .args in
     let none : drop (a .word .start) (a .text .now) ≡ [] = drop-of-length-le (a .text .now) {i = a .word .start} (omega arith) in
     sym (ap (take (a .word .size)) none ∙ take-nil (a .word .size))
-
-sub-if2 : tie.Need-sub-if2
-sub-if2 c = search needs
-
-sub-result-2 : tie.Need-sub-result-2
-sub-result-2 c = search needs
-
-part-result-start-2 : tie.Need-part-result-start-2
-part-result-start-2 c = search needs
-
-part-result-end-2 : tie.Need-part-result-end-2
-part-result-end-2 c = search needs
 
 returns-2 : tie.Need-returns-2
 unfolding spelled
@@ -45,18 +24,6 @@ returns-2 c =
     let rest = drop (a .word .start) (a .text .now) in
     let long = length-drop (a .word .start) (a .text .now) in
     take-all (length (a .text .now) - a .word .start) rest (omega arith) ∙ sym (take-all (a .word .size) rest (omega arith))
-
-add-end : tie.Need-add-end
-add-end c = search needs
-
-sub-result-3 : tie.Need-sub-result-3
-sub-result-3 c = search needs
-
-part-result-start-3 : tie.Need-part-result-start-3
-part-result-start-3 c = search needs
-
-part-result-end-3 : tie.Need-part-result-end-3
-part-result-end-3 c = search needs
 
 returns-3 : tie.Need-returns-3
 unfolding spelled
@@ -69,17 +36,17 @@ pub bytes-spec : {M : Type 1} → statement M
 bytes-spec =
     tie.close
     (tie.spec
-    sub-result
-    part-result-start
-    part-result-end
+    (λ c. search needs)
+    (λ c. search needs)
+    (λ c. search needs)
     returns
-    sub-if2
-    sub-result-2
-    part-result-start-2
-    part-result-end-2
+    (λ c. search needs)
+    (λ c. search needs)
+    (λ c. search needs)
+    (λ c. search needs)
     returns-2
-    add-end
-    sub-result-3
-    part-result-start-3
-    part-result-end-3
+    (λ c. search needs)
+    (λ c. search needs)
+    (λ c. search needs)
+    (λ c. search needs)
     returns-3)

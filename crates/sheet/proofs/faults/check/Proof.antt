@@ -6,30 +6,12 @@ use Rattle.sheet.specs.Faults.{faultAt, sheetAnswer}
 use Rattle.sheet.proofs.faults.check.Statement.{statement}
 use Rattle.sheet.proofs.faults.check.Tie as tie
 
-first-faulty-requires : tie.Need-first-faulty-requires
-first-faulty-requires c κs = search needs
-
-fault-at-requires : tie.Need-fault-at-requires
-fault-at-requires c κs = search needs
-
 returns : tie.Need-returns
 unfolding sheetAnswer
 returns c =
     let a = c .before .before .before .before .before .before .before .args in
     let e = c .before .before .first-faulty .ensures in
     rw (lt-ltb _ _ (rw e at (c .before .if1 .taken))) (c .fault-at .ensures ∙ ap (faultAt (a .text .now) (a .kinds .now) (a .lines .now) (a .words .now)) e)
-
-first-of-requires : tie.Need-first-of-requires
-first-of-requires c κs = search needs
-
-count-before-requires : tie.Need-count-before-requires
-count-before-requires c κs = search needs
-
-count-before-requires-2 : tie.Need-count-before-requires-2
-count-before-requires-2 c κs = search needs
-
-count-before-requires-3 : tie.Need-count-before-requires-3
-count-before-requires-3 c κs = search needs
 
 returns-2 : tie.Need-returns-2
 unfolding sheetAnswer
@@ -49,12 +31,12 @@ pub check-spec : {M : Type 1} → statement M
 check-spec =
     tie.close
     (tie.spec
-    first-faulty-requires
-    fault-at-requires
+    (λ c κs. search needs)
+    (λ c κs. search needs)
     returns
-    first-of-requires
-    count-before-requires
-    count-before-requires-2
-    count-before-requires-3
+    (λ c κs. search needs)
+    (λ c κs. search needs)
+    (λ c κs. search needs)
+    (λ c κs. search needs)
     returns-2
     returns-3)

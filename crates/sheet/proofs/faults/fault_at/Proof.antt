@@ -7,27 +7,9 @@ use Rattle.sheet.specs.declared.faults.SheetAnswer.the-variants.{NameTwi
 use Rattle.sheet.proofs.faults.fault_at.Statement.{statement}
 use Rattle.sheet.proofs.faults.fault_at.Tie as tie
 
-place-at-requires : tie.Need-place-at-requires
-place-at-requires c κs = search needs
-
-is-name-twice-requires : tie.Need-is-name-twice-requires
-is-name-twice-requires c κs = search needs
-
-word-of-requires : tie.Need-word-of-requires
-word-of-requires c κs = search needs
-
 returns : tie.Need-returns
 unfolding faultAt
 returns c = rw (sym (c .before .before .is-name-twice .ensures) ∙ c .before .if1 .taken) (ap₂ NameTwice (c .before .before .before .place-at .ensures) (c .word-of .ensures))
-
-shared-slice-read-group-of : tie.Need-shared-slice-read-group-of
-shared-slice-read-group-of c = search needs
-
-group-of-requires : tie.Need-group-of-requires
-group-of-requires c κs = search needs
-
-limit-of-requires : tie.Need-limit-of-requires
-limit-of-requires c κs = search needs
 
 returns-2 : tie.Need-returns-2
 unfolding faultAt
@@ -45,12 +27,12 @@ pub fault-at-spec : {M : Type 1} → statement M
 fault-at-spec =
     tie.close
     (tie.spec
-    place-at-requires
-    is-name-twice-requires
-    word-of-requires
+    (λ c κs. search needs)
+    (λ c κs. search needs)
+    (λ c κs. search needs)
     returns
-    shared-slice-read-group-of
-    group-of-requires
-    limit-of-requires
+    (λ c. search needs)
+    (λ c κs. search needs)
+    (λ c κs. search needs)
     returns-2
     returns-3)

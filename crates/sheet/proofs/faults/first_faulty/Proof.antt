@@ -21,9 +21,6 @@ abbrev μ-loop : tie.MeasureT-loop
 loop-holds : tie.Need-loop-holds Inv-loop μ-loop
 loop-holds c = (omega arith, λ k h. absurd (not-suc-le-zero h))
 
-is-name-twice-requires : tie.Need-is-name-twice-requires Inv-loop μ-loop
-is-name-twice-requires c κs = search needs
-
 returns : tie.Need-returns Inv-loop μ-loop
 unfolding firstFaulty
 returns c =
@@ -35,9 +32,6 @@ returns c =
     let twice : isNameTwice (a .text .now) (a .kinds .now) (a .words .now) i ≡ true = sym (c .before .is-name-twice .ensures) ∙ c .if1 .taken in
     sym (first-found t n (λ k. k) i (l .loop .inv .1) (omega arith) (rw twice))
 
-is-over-requires : tie.Need-is-over-requires Inv-loop μ-loop
-is-over-requires c κs = search needs
-
 returns-2 : tie.Need-returns-2 Inv-loop μ-loop
 unfolding firstFaulty
 returns-2 c =
@@ -48,12 +42,6 @@ returns-2 c =
     let i = l .loop .i in
     let over : isOver (a .kinds .now) i ≡ true = sym (c .before .is-over .ensures) ∙ c .if2 .taken in
     sym (first-found t n (λ k. k) i (l .loop .inv .1) (omega arith) (rw over (or-true (isNameTwice (a .text .now) (a .kinds .now) (a .words .now) i))))
-
-add-i : tie.Need-add-i Inv-loop μ-loop
-add-i c = search needs
-
-loop-less : tie.Need-loop-less Inv-loop μ-loop
-loop-less c = search needs
 
 loop-again : tie.Need-loop-again Inv-loop μ-loop
 loop-again c =
@@ -84,11 +72,11 @@ first-faulty-spec =
     Inv-loop
     μ-loop
     loop-holds
-    is-name-twice-requires
+    (λ c κs. search needs)
     returns
-    is-over-requires
+    (λ c κs. search needs)
     returns-2
-    add-i
-    loop-less
+    (λ c. search needs)
+    (λ c. search needs)
     loop-again
     returns-3)

@@ -6,21 +6,9 @@ use Rattle.sheet.specs.Faults.{sameWord, hasName}
 use Rattle.sheet.proofs.faults.has_name.Statement.{statement}
 use Rattle.sheet.proofs.faults.has_name.Tie as tie
 
-shared-slice-read-group-of : tie.Need-shared-slice-read-group-of
-shared-slice-read-group-of c = search needs
-
-group-of-requires : tie.Need-group-of-requires
-group-of-requires c κs = search needs
-
 returns : tie.Need-returns
 unfolding hasName
 returns c = simp (ne-eqb _ _ (λ e. c .if1 .taken (c .before .group-of .ensures ∙ e)))
-
-word-of-requires : tie.Need-word-of-requires
-word-of-requires c κs = search needs
-
-same-word-requires : tie.Need-same-word-requires
-same-word-requires c κs = search needs
 
 returns-2 : tie.Need-returns-2
 unfolding hasName
@@ -32,9 +20,9 @@ pub has-name-spec : {M : Type 1} → statement M
 has-name-spec =
     tie.close
     (tie.spec
-    shared-slice-read-group-of
-    group-of-requires
+    (λ c. search needs)
+    (λ c κs. search needs)
     returns
-    word-of-requires
-    same-word-requires
+    (λ c κs. search needs)
+    (λ c κs. search needs)
     returns-2)

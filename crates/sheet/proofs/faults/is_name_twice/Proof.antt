@@ -23,24 +23,12 @@ Inv-loop text kinds words i name j₀ j = (j ≤ i) × (name ≡ wordOf words i 
 abbrev μ-loop : tie.MeasureT-loop
 μ-loop text kinds words i name j₀ j = i - j
 
-shared-slice-read-group-of : tie.Need-shared-slice-read-group-of Inv-loop μ-loop
-shared-slice-read-group-of c = search needs
-
-group-of-requires : tie.Need-group-of-requires Inv-loop μ-loop
-group-of-requires c κs = search needs
-
 returns : tie.Need-returns Inv-loop μ-loop
 unfolding isNameTwice
 returns c = simp (ne-eqb _ _ (λ e. c .if1 .taken (c .before .group-of .ensures ∙ e)))
 
-word-of-requires : tie.Need-word-of-requires Inv-loop μ-loop
-word-of-requires c κs = search needs
-
 loop-holds : tie.Need-loop-holds Inv-loop μ-loop
 loop-holds c = (omega arith, c .word-of .ensures, λ k h. absurd (not-suc-le-zero h))
-
-has-name-requires : tie.Need-has-name-requires Inv-loop μ-loop
-has-name-requires c κs = search needs
 
 returns-2 : tie.Need-returns-2 Inv-loop μ-loop
 unfolding isNameTwice
@@ -51,12 +39,6 @@ returns-2 c =
     let t = hasName (a .text .now) (a .kinds .now) (a .words .now) in
     let found = any-found (t (l .before .word-of .result)) (a .i) (λ k. k) (l .loop .j) (omega arith) (sym (c .before .has-name .ensures) ∙ c .if2 .taken) in
     rw here (sym found ∙ ap (λ (w : Word). any (t w) (upTo (a .i))) (l .loop .inv .1))
-
-add-j : tie.Need-add-j Inv-loop μ-loop
-add-j c = search needs
-
-loop-less : tie.Need-loop-less Inv-loop μ-loop
-loop-less c = search needs
 
 loop-again : tie.Need-loop-again Inv-loop μ-loop
 loop-again c =
@@ -81,14 +63,14 @@ is-name-twice-spec =
     (tie.spec
     Inv-loop
     μ-loop
-    shared-slice-read-group-of
-    group-of-requires
+    (λ c. search needs)
+    (λ c κs. search needs)
     returns
-    word-of-requires
+    (λ c κs. search needs)
     loop-holds
-    has-name-requires
+    (λ c κs. search needs)
     returns-2
-    add-j
-    loop-less
+    (λ c. search needs)
+    (λ c. search needs)
     loop-again
     returns-3)

@@ -9,18 +9,6 @@ use Rattle.sheet.specs.Faults.{limitOf, isOver}
 use Rattle.sheet.proofs.faults.is_over.Statement.{statement}
 use Rattle.sheet.proofs.faults.is_over.Tie as tie
 
-shared-slice-read-group-of : tie.Need-shared-slice-read-group-of
-shared-slice-read-group-of c = search needs
-
-group-of-requires : tie.Need-group-of-requires
-group-of-requires c κs = search needs
-
-limit-of-requires : tie.Need-limit-of-requires
-limit-of-requires c κs = search needs
-
-count-before-requires : tie.Need-count-before-requires
-count-before-requires c κs = search needs
-
 returns : tie.Need-returns
 unfolding isOver
 returns c =
@@ -32,8 +20,8 @@ pub is-over-spec : {M : Type 1} → statement M
 is-over-spec =
     tie.close
     (tie.spec
-    shared-slice-read-group-of
-    group-of-requires
-    limit-of-requires
-    count-before-requires
+    (λ c. search needs)
+    (λ c κs. search needs)
+    (λ c κs. search needs)
+    (λ c κs. search needs)
     returns)

@@ -9,20 +9,11 @@ use Rattle.sheet.specs.declared.once.Ambient.the-variants.{Kelvin, Given
 use Rattle.sheet.proofs.once.ambient_of.Statement.{statement}
 use Rattle.sheet.proofs.once.ambient_of.Tie as tie
 
-first-of-requires : tie.Need-first-of-requires
-first-of-requires c κs = search needs
-
 returns : tie.Need-returns
 unfolding ambientOf
 returns c =
     let e = c .before .first-of .ensures in
     simp (le-ltb _ _ (rw e at (c .if1 .taken)))
-
-shared-slice-read-if2 : tie.Need-shared-slice-read-if2
-shared-slice-read-if2 c = search needs
-
-number-of-requires : tie.Need-number-of-requires
-number-of-requires c κs = search needs
 
 returns-2 : tie.Need-returns-2
 unfolding ambientOf
@@ -30,15 +21,6 @@ returns-2 c =
     let a = c .before .before .before .before .before .before .before .args in
     let e = c .before .before .before .before .first-of .ensures in
     rw (lt-ltb _ _ (rw e at (c .before .before .before .if1 .left)), eq-eqb _ _ (rw e at (c .before .if2 .taken))) (ap Kelvin (c .number-of .ensures ∙ ap (λ (r : ℕ). numberOf (a .numbers .now) r 0) e))
-
-number-of-requires-2 : tie.Need-number-of-requires-2
-number-of-requires-2 c κs = search needs
-
-number-of-requires-3 : tie.Need-number-of-requires-3
-number-of-requires-3 c κs = search needs
-
-number-of-requires-4 : tie.Need-number-of-requires-4
-number-of-requires-4 c κs = search needs
 
 returns-3 : tie.Need-returns-3
 unfolding ambientOf
@@ -52,12 +34,12 @@ pub ambient-of-spec : {M : Type 1} → statement M
 ambient-of-spec =
     tie.close
     (tie.spec
-    first-of-requires
+    (λ c κs. search needs)
     returns
-    shared-slice-read-if2
-    number-of-requires
+    (λ c. search needs)
+    (λ c κs. search needs)
     returns-2
-    number-of-requires-2
-    number-of-requires-3
-    number-of-requires-4
+    (λ c κs. search needs)
+    (λ c κs. search needs)
+    (λ c κs. search needs)
     returns-3)

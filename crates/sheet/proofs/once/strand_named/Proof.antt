@@ -22,21 +22,6 @@ abbrev μ-loop : tie.MeasureT-loop
 loop-holds : tie.Need-loop-holds Inv-loop μ-loop
 loop-holds c = (omega arith, omega arith)
 
-mul-word-of : tie.Need-mul-word-of Inv-loop μ-loop
-mul-word-of c = search needs
-
-shared-slice-read-word-of : tie.Need-shared-slice-read-word-of Inv-loop μ-loop
-shared-slice-read-word-of c = search needs
-
-word-of-requires : tie.Need-word-of-requires Inv-loop μ-loop
-word-of-requires c κs = search needs
-
-same-word-requires : tie.Need-same-word-requires Inv-loop μ-loop
-same-word-requires c κs = search needs
-
-add-result : tie.Need-add-result Inv-loop μ-loop
-add-result c = search needs
-
 returns : tie.Need-returns Inv-loop μ-loop
 unfolding strandNamed
 returns c =
@@ -48,12 +33,6 @@ returns c =
     let met = sym (c .before .same-word .ensures ∙ ap (sameWord (a .text .now) (a .name)) (c .before .before .word-of .ensures)) ∙ c .if1 .taken in
     let here : firstIndex t rows ≡ k = omega (arith, first-here t rows k 0 (omega arith) met) in
     rw here (rw (lt-ltb k (length rows) (omega arith)) (add-one k))
-
-add-k : tie.Need-add-k Inv-loop μ-loop
-add-k c = search needs
-
-loop-less : tie.Need-loop-less Inv-loop μ-loop
-loop-less c = search needs
 
 loop-again : tie.Need-loop-again Inv-loop μ-loop
 loop-again c =
@@ -83,13 +62,13 @@ strand-named-spec =
     Inv-loop
     μ-loop
     loop-holds
-    mul-word-of
-    shared-slice-read-word-of
-    word-of-requires
-    same-word-requires
-    add-result
+    (λ c. search needs)
+    (λ c. search needs)
+    (λ c κs. search needs)
+    (λ c κs. search needs)
+    (λ c. search needs)
     returns
-    add-k
-    loop-less
+    (λ c. search needs)
+    (λ c. search needs)
     loop-again
     returns-2)

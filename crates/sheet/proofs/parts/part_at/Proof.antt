@@ -8,48 +8,12 @@ use Rattle.sheet.specs.Parts.{isPair, partAt}
 use Rattle.sheet.proofs.parts.part_at.Statement.{statement}
 use Rattle.sheet.proofs.parts.part_at.Tie as tie
 
-enum-told : tie.Need-enum-told
-enum-told c = search needs
-
-add-word-among : tie.Need-add-word-among
-add-word-among c = search needs
-
-word-among-requires : tie.Need-word-among-requires
-word-among-requires c κs = search needs
-
-enum-told-2 : tie.Need-enum-told-2
-enum-told-2 c = search needs
-
-word-among-requires-2 : tie.Need-word-among-requires-2
-word-among-requires-2 c κs = search needs
-
-enum-told-3 : tie.Need-enum-told-3
-enum-told-3 c = search needs
-
-word-among-requires-3 : tie.Need-word-among-requires-3
-word-among-requires-3 c κs = search needs
-
-enum-told-4 : tie.Need-enum-told-4
-enum-told-4 c = search needs
-
-kind-among-requires : tie.Need-kind-among-requires
-kind-among-requires c κs = search needs
-
-is-pair-requires : tie.Need-is-pair-requires
-is-pair-requires c κs = search needs
-
-word-among-requires-4 : tie.Need-word-among-requires-4
-word-among-requires-4 c κs = search needs
-
 returns : tie.Need-returns
 unfolding partAt
 returns c =
     let a = c .before .before .before .before .before .before .before .before .before .args in
     let pair = sym (c .before .before .is-pair .ensures ∙ ap isPair (c .before .before .before .kind-among .ensures)) ∙ c .before .if1 .taken in
     c .word-among4 .ensures ∙ ap (λ (b : Bool). wordAmong (a .words .now) (a .rows .now) (a .m) (cond b 2 1)) (sym pair) ∙ ap (λ (p : Part). partAt (a .kinds .now) (a .words .now) (a .rows .now) p (a .m)) (sym (c .before .before .before .before .enum-told4 .given .1))
-
-word-among-requires-5 : tie.Need-word-among-requires-5
-word-among-requires-5 c κs = search needs
 
 returns-2 : tie.Need-returns-2
 unfolding partAt
@@ -80,19 +44,19 @@ pub part-at-spec : {M : Type 1} → statement M
 part-at-spec =
     tie.close
     (tie.spec
-    enum-told
-    add-word-among
-    word-among-requires
-    enum-told-2
-    word-among-requires-2
-    enum-told-3
-    word-among-requires-3
-    enum-told-4
-    kind-among-requires
-    is-pair-requires
-    word-among-requires-4
+    (λ c. search needs)
+    (λ c. search needs)
+    (λ c κs. search needs)
+    (λ c. search needs)
+    (λ c κs. search needs)
+    (λ c. search needs)
+    (λ c κs. search needs)
+    (λ c. search needs)
+    (λ c κs. search needs)
+    (λ c κs. search needs)
+    (λ c κs. search needs)
     returns
-    word-among-requires-5
+    (λ c κs. search needs)
     returns-2
     returns-3
     returns-4

@@ -22,24 +22,12 @@ abbrev μ-loop : tie.MeasureT-loop
 loop-holds : tie.Need-loop-holds Inv-loop μ-loop
 loop-holds c = (omega arith, λ k h. absurd (not-suc-le-zero h))
 
-shared-slice-read-group-of : tie.Need-shared-slice-read-group-of Inv-loop μ-loop
-shared-slice-read-group-of c = search needs
-
-group-of-requires : tie.Need-group-of-requires Inv-loop μ-loop
-group-of-requires c κs = search needs
-
 returns : tie.Need-returns Inv-loop μ-loop
 unfolding firstOf
 returns c =
     let l = c .before .before .before .before in
     let a = l .before .before .args in
     sym (first-found (isOf (a .group) (a .kinds .now)) (length (a .kinds .now)) (λ k. k) (l .loop .i) (l .loop .inv .1) (omega arith) (eq-eqb _ _ (sym (c .before .group-of .ensures) ∙ c .if1 .taken)))
-
-add-i : tie.Need-add-i Inv-loop μ-loop
-add-i c = search needs
-
-loop-less : tie.Need-loop-less Inv-loop μ-loop
-loop-less c = search needs
 
 loop-again : tie.Need-loop-again Inv-loop μ-loop
 loop-again c =
@@ -62,10 +50,10 @@ first-of-spec =
     Inv-loop
     μ-loop
     loop-holds
-    shared-slice-read-group-of
-    group-of-requires
+    (λ c. search needs)
+    (λ c κs. search needs)
     returns
-    add-i
-    loop-less
+    (λ c. search needs)
+    (λ c. search needs)
     loop-again
     returns-2)

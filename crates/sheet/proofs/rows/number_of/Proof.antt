@@ -6,7 +6,7 @@ use native.Mathlib.Omega.{arith}
 use lib.Ieee.{ofBits, nan}
 use lib.ListN.{List·getD-eq-default}
 use Rattle.doubles.specs.Decimal.{zero}
-use Rattle.lists.proofs.Default.{getD-default}
+use Rattle.lists.proofs.Places.{getD-default}
 use Rattle.sheet.proofs.rows.number_of.Statement.{statement}
 use Rattle.sheet.proofs.rows.number_of.Tie as tie
 

@@ -8,7 +8,7 @@ use native.Mathlib.Omega.{arith}
 use lib.ListN.{length, drop, take}
 use lib.Seq.{take-nil}
 use borrow.Author.Tests.{eq-eqb, ne-eqb, ltb-true, ltb-false}
-use Rattle.lists.specs.Over.{over}
+use Rattle.lists.specs.Front.{over}
 use Rattle.lists.specs.Build.{upTo, keep}
 use Rattle.lists.proofs.Build.{keep-here, keep-later, keep-past}
 use Rattle.lists.proofs.Front.{Front, front-none, front-length, front-step, front-same, front-whole}
@@ -27,27 +27,6 @@ loop-holds : tie.Need-loop-holds Inv-loop μ-loop
 loop-holds c =
     let all : length (c .before .before .args .rows .now) - 0 ≡ length (c .before .before .args .rows .now) = omega arith in
     (omega arith, rw all (front-none _ _))
-
-shared-slice-read-group-of : tie.Need-shared-slice-read-group-of Inv-loop μ-loop
-shared-slice-read-group-of c = search needs
-
-group-of-requires : tie.Need-group-of-requires Inv-loop μ-loop
-group-of-requires c κs = search needs
-
-mul-rows : tie.Need-mul-rows Inv-loop μ-loop
-mul-rows c = search needs
-
-slice-write-rows : tie.Need-slice-write-rows Inv-loop μ-loop
-slice-write-rows c = search needs
-
-add-n : tie.Need-add-n Inv-loop μ-loop
-add-n c = search needs
-
-add-i : tie.Need-add-i Inv-loop μ-loop
-add-i c = search needs
-
-loop-less : tie.Need-loop-less Inv-loop μ-loop
-loop-less c = search needs
 
 loop-again : tie.Need-loop-again Inv-loop μ-loop
 loop-again c =
@@ -116,13 +95,13 @@ rows-of-spec =
     Inv-loop
     μ-loop
     loop-holds
-    shared-slice-read-group-of
-    group-of-requires
-    mul-rows
-    slice-write-rows
-    add-n
-    add-i
-    loop-less
+    (λ c. search needs)
+    (λ c κs. search needs)
+    (λ c. search needs)
+    (λ c. search needs)
+    (λ c. search needs)
+    (λ c. search needs)
+    (λ c. search needs)
     loop-again
     same-length
     returns

@@ -19,24 +19,6 @@ returns c = let a = c .before .before .args in none (a .words .now) (a .row) (a 
 returns-2 : tie.Need-returns-2
 returns-2 c = let a = c .before .before .before .args in none (a .words .now) (a .row) (a .j) (omega arith)
 
-mul-at : tie.Need-mul-at
-mul-at c = search needs
-
-mul-at-2 : tie.Need-mul-at-2
-mul-at-2 c = search needs
-
-add-at : tie.Need-add-at
-add-at c = search needs
-
-place-at-requires : tie.Need-place-at-requires
-place-at-requires c κs = search needs
-
-add-place-at : tie.Need-add-place-at
-add-place-at c = search needs
-
-place-at-requires-2 : tie.Need-place-at-requires-2
-place-at-requires-2 c κs = search needs
-
 returns-3 : tie.Need-returns-3
 returns-3 c = ap₂ wordAt (c .before .place-at .ensures) (c .place-at2 .ensures)
 
@@ -46,10 +28,10 @@ word-of-spec =
     (tie.spec
     returns
     returns-2
-    mul-at
-    mul-at-2
-    add-at
-    place-at-requires
-    add-place-at
-    place-at-requires-2
+    (λ c. search needs)
+    (λ c. search needs)
+    (λ c. search needs)
+    (λ c κs. search needs)
+    (λ c. search needs)
+    (λ c κs. search needs)
     returns-3)

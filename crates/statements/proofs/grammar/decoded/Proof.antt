@@ -10,20 +10,11 @@ returns : tie.Need-returns
 unfolding decoded
 returns c = (simp (eq-eqb (c .before .args .code) 0 (c .if1 .taken)), tt)
 
-sub-wide : tie.Need-sub-wide
-sub-wide c = search needs
-
-wide-requires : tie.Need-wide-requires
-wide-requires c κs = search needs
-
 returns-2 : tie.Need-returns-2
 unfolding decoded
 returns-2 c =
     let code = c .before .before .before .args .code in
     (simp (c .wide .ensures, ne-eqb code 0 (c .before .before .if1 .left), lt-ltb code 4 (c .before .if2 .taken)), omega arith)
-
-wide-requires-2 : tie.Need-wide-requires-2
-wide-requires-2 c κs = search needs
 
 returns-3 : tie.Need-returns-3
 unfolding decoded
@@ -31,17 +22,11 @@ returns-3 c =
     let code = c .before .before .before .before .args .code in
     (simp (c .wide2 .ensures, ne-eqb code 0 (c .before .before .before .if1 .left), le-ltb code 4 (c .before .before .if2 .left), lt-ltb code 8 (c .before .if3 .taken)), omega arith)
 
-wide-requires-3 : tie.Need-wide-requires-3
-wide-requires-3 c κs = search needs
-
 returns-4 : tie.Need-returns-4
 unfolding decoded
 returns-4 c =
     let code = c .before .before .before .before .before .args .code in
     (simp (c .wide3 .ensures, ne-eqb code 0 (c .before .before .before .before .if1 .left), le-ltb code 4 (c .before .before .before .if2 .left), le-ltb code 8 (c .before .before .if3 .left), lt-ltb code 12 (c .before .if4 .taken)), omega arith)
-
-wide-requires-4 : tie.Need-wide-requires-4
-wide-requires-4 c κs = search needs
 
 returns-5 : tie.Need-returns-5
 unfolding decoded
@@ -66,14 +51,14 @@ decoded-spec =
     tie.close
     (tie.spec
     returns
-    sub-wide
-    wide-requires
+    (λ c. search needs)
+    (λ c κs. search needs)
     returns-2
-    wide-requires-2
+    (λ c κs. search needs)
     returns-3
-    wide-requires-3
+    (λ c κs. search needs)
     returns-4
-    wide-requires-4
+    (λ c κs. search needs)
     returns-5
     returns-6
     returns-7)

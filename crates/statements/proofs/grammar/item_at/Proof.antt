@@ -17,21 +17,6 @@ returns-2 : tie.Need-returns-2
 unfolding itemOf
 returns-2 c = (simp (lt-ltb (c .before .before .args .kind) 11 (c .before .if1 .left), le-ltb (c .before .before .args .place) 6 (c .if2 .taken)), tt)
 
-wide-requires : tie.Need-wide-requires
-wide-requires c κs = search needs
-
-mul-decoded : tie.Need-mul-decoded
-mul-decoded c = search needs
-
-index-1-decoded : tie.Need-index-1-decoded
-index-1-decoded c = search needs
-
-index-2-decoded : tie.Need-index-2-decoded
-index-2-decoded c = search needs
-
-decoded-requires : tie.Need-decoded-requires
-decoded-requires c κs = search needs
-
 returns-3 : tie.Need-returns-3
 unfolding itemOf shapes
 returns-3 c =
@@ -46,9 +31,9 @@ item-at-spec =
     (tie.spec
     returns
     returns-2
-    wide-requires
-    mul-decoded
-    index-1-decoded
-    index-2-decoded
-    decoded-requires
+    (λ c κs. search needs)
+    (λ c. search needs)
+    (λ c. search needs)
+    (λ c. search needs)
+    (λ c κs. search needs)
     returns-3)

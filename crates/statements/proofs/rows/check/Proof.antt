@@ -24,17 +24,8 @@ abbrev μ-loop : tie.MeasureT-loop
 loop-holds : tie.Need-loop-holds Inv-loop μ-loop
 loop-holds c = (omega arith, omega arith, omega arith, refl)
 
-line-end-requires : tie.Need-line-end-requires Inv-loop μ-loop
-line-end-requires c κs = search needs
-
 slice-aggregate-count-rows : tie.Need-slice-aggregate-count-rows Inv-loop μ-loop
 slice-aggregate-count-rows c = sym (length-take-le (c .before .line-end .result) (now (c .before .before .before .before .before .args .text)) (c .before .line-end .ensures .1))
-
-count-rows-requires : tie.Need-count-rows-requires Inv-loop μ-loop
-count-rows-requires c κs = search needs
-
-enum-known-word : tie.Need-enum-known-word Inv-loop μ-loop
-enum-known-word c = search needs
 
 returns : tie.Need-returns Inv-loop μ-loop
 returns c =
@@ -45,12 +36,6 @@ returns c =
     let lines = c .before .before .before .before .before .line-end .ensures .2 in
     sym (l .inv .3 ∙ answer-fault text (a .room) (l .number) (l .count) (linesFrom (l .at) (l .at) (drop (l .at) text)) (lineOf (l .at) end) (linesFrom (end + 1) (end + 1) (drop (end + 1) text)) lines (c .before .word .given .0 .0) (c .before .word .given .0 .1 .0) (sym (c .before .before .before .count-rows .ensures) ∙ c .before .word .given .1))
 
-enum-known-more : tie.Need-enum-known-more Inv-loop μ-loop
-enum-known-more c = search needs
-
-sub-if1 : tie.Need-sub-if1 Inv-loop μ-loop
-sub-if1 c = search needs
-
 returns-2 : tie.Need-returns-2 Inv-loop μ-loop
 returns-2 c =
     let a = c .before .before .before .before .before .before .before .before .before .before .args in
@@ -59,18 +44,6 @@ returns-2 c =
     let end = c .before .before .before .before .before .before .line-end .result in
     let lines = c .before .before .before .before .before .before .line-end .ensures .2 in
     sym (l .inv .3 ∙ answer-full text (a .room) (l .number) (l .count) (linesFrom (l .at) (l .at) (drop (l .at) text)) (lineOf (l .at) end) (linesFrom (end + 1) (end + 1) (drop (end + 1) text)) lines (c .before .before .more .given .0 .0) (sym (c .before .before .before .before .count-rows .ensures) ∙ c .before .before .more .given .1) (omega arith))
-
-add-count : tie.Need-add-count Inv-loop μ-loop
-add-count c = search needs
-
-add-number : tie.Need-add-number Inv-loop μ-loop
-add-number c = search needs
-
-add-at : tie.Need-add-at Inv-loop μ-loop
-add-at c = search needs
-
-loop-less : tie.Need-loop-less Inv-loop μ-loop
-loop-less c = search needs
 
 loop-again : tie.Need-loop-again Inv-loop μ-loop
 loop-again c =
@@ -94,17 +67,17 @@ check-spec =
     Inv-loop
     μ-loop
     loop-holds
-    line-end-requires
+    (λ c κs. search needs)
     slice-aggregate-count-rows
-    count-rows-requires
-    enum-known-word
+    (λ c κs. search needs)
+    (λ c. search needs)
     returns
-    enum-known-more
-    sub-if1
+    (λ c. search needs)
+    (λ c. search needs)
     returns-2
-    add-count
-    add-number
-    add-at
-    loop-less
+    (λ c. search needs)
+    (λ c. search needs)
+    (λ c. search needs)
+    (λ c. search needs)
     loop-again
     returns-3)

@@ -18,9 +18,6 @@ abbrev μ-loop : tie.MeasureT-loop
 loop-holds : tie.Need-loop-holds Inv-loop μ-loop
 loop-holds c = (omega arith, rw zero-add)
 
-next-word-requires : tie.Need-next-word-requires Inv-loop μ-loop
-next-word-requires c κs = search needs
-
 returns : tie.Need-returns Inv-loop μ-loop
 returns c =
     let none = ap length (c .before .before .next-word .ensures .last (c .if1 .taken)) in
@@ -53,7 +50,7 @@ count-words-spec =
     Inv-loop
     μ-loop
     loop-holds
-    next-word-requires
+    (λ c κs. search needs)
     returns
     add-count
     add-from

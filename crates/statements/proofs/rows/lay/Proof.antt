@@ -27,9 +27,6 @@ abbrev μ-loop : tie.MeasureT-loop
 loop-holds : tie.Need-loop-holds Inv-loop μ-loop
 loop-holds c = (c .before .before .before .before .before .pre .0, refl, omega arith, omega arith, omega (arith, c .before .before .before .before .before .pre .1), refl)
 
-line-end-requires : tie.Need-line-end-requires Inv-loop μ-loop
-line-end-requires c κs = search needs
-
 slice-aggregate-lay-line : tie.Need-slice-aggregate-lay-line Inv-loop μ-loop
 slice-aggregate-lay-line c = sym (length-take-le (c .before .line-end .result) (now (c .before .before .before .before .before .before .before .before .before .args .text)) (c .before .line-end .ensures .1))
 
@@ -41,15 +38,6 @@ lay-line-requires c κs =
     let lines = c .before .before .before .before .before .line-end .ensures .2 in
     let count = line-count text (l .number) (linesFrom (l .at) (l .at) (drop (l .at) text)) (linesFrom (end + 1) (end + 1) (drop (end + 1) text)) (lineOf (l .at) end) lines in
     (l .inv .0, omega arith)
-
-add-number : tie.Need-add-number Inv-loop μ-loop
-add-number c = search needs
-
-add-at : tie.Need-add-at Inv-loop μ-loop
-add-at c = search needs
-
-loop-less : tie.Need-loop-less Inv-loop μ-loop
-loop-less c = search needs
 
 loop-again : tie.Need-loop-again Inv-loop μ-loop
 loop-again c =
@@ -67,18 +55,6 @@ loop-again c =
       line-step text (l .number) (linesFrom (l .at) (l .at) (drop (l .at) text)) (linesFrom (end + 1) (end + 1) (drop (end + 1) text)) (lineOf (l .at) end) lines _ _ (l .next) _ (laid-line .1) (laid-line .0) ∙ l .inv .5,
     )
 
-same-length : tie.Need-same-length Inv-loop μ-loop
-same-length c = search needs
-
-same-length-2 : tie.Need-same-length-2 Inv-loop μ-loop
-same-length-2 c = search needs
-
-same-length-3 : tie.Need-same-length-3 Inv-loop μ-loop
-same-length-3 c = search needs
-
-same-length-4 : tie.Need-same-length-4 Inv-loop μ-loop
-same-length-4 c = search needs
-
 returns : tie.Need-returns Inv-loop μ-loop
 unfolding rowsFrom laid
 returns c =
@@ -92,15 +68,15 @@ lay-spec =
     Inv-loop
     μ-loop
     loop-holds
-    line-end-requires
+    (λ c κs. search needs)
     slice-aggregate-lay-line
     lay-line-requires
-    add-number
-    add-at
-    loop-less
+    (λ c. search needs)
+    (λ c. search needs)
+    (λ c. search needs)
     loop-again
-    same-length
-    same-length-2
-    same-length-3
-    same-length-4
+    (λ c. search needs)
+    (λ c. search needs)
+    (λ c. search needs)
+    (λ c. search needs)
     returns)

@@ -10,15 +10,6 @@ use Rattle.statements.proofs.Answers.{rows-by}
 use Rattle.statements.proofs.rows.lay_line.Statement.{statement}
 use Rattle.statements.proofs.rows.lay_line.Tie as tie
 
-statement-of-requires : tie.Need-statement-of-requires
-statement-of-requires c κs = search needs
-
-enum-told : tie.Need-enum-told
-enum-told c = search needs
-
-enum-told-2 : tie.Need-enum-told-2
-enum-told-2 c = search needs
-
 lay-row-requires : tie.Need-lay-row-requires
 unfolding rowsBy
 lay-row-requires c κs =
@@ -33,9 +24,6 @@ add-result c =
     let one = ap length (rows-by (now (a .line)) (a .at) (c .before .before .before .before .before .before .before .before .before .before .before .before .before .before .before .statement-of .result) (c .before .before .before .before .before .before .before .before .before .before .before .before .before .before .before .statement-of .ensures) _ (c .before .before .before .before .before .before .before .before .before .before .before .before .before .enum-told2 .given .1) (a .number)) in
     omega (arith, c .before .before .before .before .before .before .before .before .before .before .before .before .before .before .before .before .before .before .before .before .before .good, c .before .before .before .before .before .before .before .before .before .before .before .before .before .before .before .before .before .before .before .before .before .pre .1)
 
-enum-known-outcome : tie.Need-enum-known-outcome
-enum-known-outcome c = search needs
-
 lay-positions-requires : tie.Need-lay-positions-requires
 unfolding rowsBy
 lay-positions-requires c κs =
@@ -43,9 +31,6 @@ lay-positions-requires c κs =
     let each = ap length (rows-by (now (a .line)) (a .at) (c .before .before .before .before .before .before .before .statement-of .result) (c .before .before .before .before .before .before .before .statement-of .ensures) _ (c .before .before .before .before .before .outcome .given .1) (a .number)) in
     let as-many = length-map (wordsIn (now (a .line)) (c .before .before .before .before .before .outcome .given .0 .0)) (positionRow (now (a .line)) (a .number)) in
     (c .before .before .before .before .before .before .before .before .before .before .before .before .before .pre .0, omega (arith, c .before .before .before .before .before .before .before .before .before .before .before .before .before .pre .1))
-
-enum-told-3 : tie.Need-enum-told-3
-enum-told-3 c = search needs
 
 returns : tie.Need-returns
 unfolding rowsBy laid
@@ -55,18 +40,6 @@ returns c =
     let count = ap length none in
     (omega arith, rw (sym none))
 
-same-length : tie.Need-same-length
-same-length c = search needs
-
-same-length-2 : tie.Need-same-length-2
-same-length-2 c = search needs
-
-same-length-3 : tie.Need-same-length-3
-same-length-3 c = search needs
-
-same-length-4 : tie.Need-same-length-4
-same-length-4 c = search needs
-
 returns-2 : tie.Need-returns-2
 unfolding rowsBy laid
 returns-2 c =
@@ -74,18 +47,6 @@ returns-2 c =
     let one = rows-by (now (a .line)) (a .at) (c .before .before .before .before .before .before .before .before .before .before .before .before .before .before .before .statement-of .result) (c .before .before .before .before .before .before .before .before .before .before .before .before .before .before .before .statement-of .ensures) _ (c .before .before .before .before .before .before .before .before .before .before .before .before .before .enum-told2 .given .1) (a .number) in
     let count = ap length one in
     (omega arith, rw (sym one) (c .before .before .before .before .before .before .before .before .lay-row .ensures))
-
-same-length-5 : tie.Need-same-length-5
-same-length-5 c = search needs
-
-same-length-6 : tie.Need-same-length-6
-same-length-6 c = search needs
-
-same-length-7 : tie.Need-same-length-7
-same-length-7 c = search needs
-
-same-length-8 : tie.Need-same-length-8
-same-length-8 c = search needs
 
 returns-3 : tie.Need-returns-3
 unfolding rowsBy
@@ -108,23 +69,23 @@ pub lay-line-spec : {M : Type 1} → statement M
 lay-line-spec =
     tie.close
     (tie.spec
-    statement-of-requires
-    enum-told
-    enum-told-2
+    (λ c κs. search needs)
+    (λ c. search needs)
+    (λ c. search needs)
     lay-row-requires
     add-result
-    enum-known-outcome
+    (λ c. search needs)
     lay-positions-requires
-    enum-told-3
+    (λ c. search needs)
     returns
-    same-length
-    same-length-2
-    same-length-3
-    same-length-4
+    (λ c. search needs)
+    (λ c. search needs)
+    (λ c. search needs)
+    (λ c. search needs)
     returns-2
-    same-length-5
-    same-length-6
-    same-length-7
-    same-length-8
+    (λ c. search needs)
+    (λ c. search needs)
+    (λ c. search needs)
+    (λ c. search needs)
     returns-3
     returns-4)

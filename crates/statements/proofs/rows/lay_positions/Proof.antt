@@ -30,21 +30,6 @@ abbrev μ-loop : tie.MeasureT-loop
 loop-holds : tie.Need-loop-holds Inv-loop μ-loop
 loop-holds c = (c .before .before .before .before .before .pre .0, refl, refl, refl)
 
-next-word-requires : tie.Need-next-word-requires Inv-loop μ-loop
-next-word-requires c κs = search needs
-
-same-length : tie.Need-same-length Inv-loop μ-loop
-same-length c = search needs
-
-same-length-2 : tie.Need-same-length-2 Inv-loop μ-loop
-same-length-2 c = search needs
-
-same-length-3 : tie.Need-same-length-3 Inv-loop μ-loop
-same-length-3 c = search needs
-
-same-length-4 : tie.Need-same-length-4 Inv-loop μ-loop
-same-length-4 c = search needs
-
 returns : tie.Need-returns Inv-loop μ-loop
 unfolding laid
 returns c =
@@ -52,14 +37,8 @@ returns c =
     let count = ap length none in
     (omega arith, rw none at (c .before .before .before .loop .inv .3))
 
-blank-requires : tie.Need-blank-requires Inv-loop μ-loop
-blank-requires c κs = search needs
-
 bytes-requires : tie.Need-bytes-requires Inv-loop μ-loop
 bytes-requires c κs = c .before .before .before .next-word .ensures .inside (omega arith)
-
-accept-requires : tie.Need-accept-requires Inv-loop μ-loop
-accept-requires c κs = search needs
 
 lay-row-requires : tie.Need-lay-row-requires Inv-loop μ-loop
 lay-row-requires c κs =
@@ -111,15 +90,15 @@ lay-positions-spec =
     Inv-loop
     μ-loop
     loop-holds
-    next-word-requires
-    same-length
-    same-length-2
-    same-length-3
-    same-length-4
+    (λ c κs. search needs)
+    (λ c. search needs)
+    (λ c. search needs)
+    (λ c. search needs)
+    (λ c. search needs)
     returns
-    blank-requires
+    (λ c κs. search needs)
     bytes-requires
-    accept-requires
+    (λ c κs. search needs)
     lay-row-requires
     add-next
     add-from

@@ -21,26 +21,11 @@ Inv-loop line key kind row₀ at₀ place₀ row at place =
 abbrev μ-loop : tie.MeasureT-loop
 μ-loop line key kind row₀ at₀ place₀ row at place = length line - at
 
-blank-requires : tie.Need-blank-requires Inv-loop μ-loop
-blank-requires c κs = search needs
-
-add-at : tie.Need-add-at Inv-loop μ-loop
-add-at c = search needs
-
 loop-holds : tie.Need-loop-holds Inv-loop μ-loop
 loop-holds c =
     let a = c .before .before .before .args in
     let words = wordsIn (now (a .line)) (a .key .start + a .key .size) in
     (c .before .before .before .pre, omega arith, ap (λ (row : Statement). fit (now (a .line)) (a .key) 0 row words) (sym (c .before .blank .ensures)))
-
-item-at-requires : tie.Need-item-at-requires Inv-loop μ-loop
-item-at-requires c κs = search needs
-
-next-word-requires : tie.Need-next-word-requires Inv-loop μ-loop
-next-word-requires c κs = search needs
-
-close-requires : tie.Need-close-requires Inv-loop μ-loop
-close-requires c κs = search needs
 
 returns : tie.Need-returns Inv-loop μ-loop
 returns c =
@@ -55,9 +40,6 @@ bytes-requires c κs = c .before .before .next-word .ensures .inside (omega arit
 
 accept-requires : tie.Need-accept-requires Inv-loop μ-loop
 accept-requires c κs = c .before .before .before .before .item-at .ensures .1
-
-goes-on-requires : tie.Need-goes-on-requires Inv-loop μ-loop
-goes-on-requires c κs = search needs
 
 returns-2 : tie.Need-returns-2 Inv-loop μ-loop
 returns-2 c =
@@ -108,16 +90,16 @@ fit-spec =
     (tie.spec
     Inv-loop
     μ-loop
-    blank-requires
-    add-at
+    (λ c κs. search needs)
+    (λ c. search needs)
     loop-holds
-    item-at-requires
-    next-word-requires
-    close-requires
+    (λ c κs. search needs)
+    (λ c κs. search needs)
+    (λ c κs. search needs)
     returns
     bytes-requires
     accept-requires
-    goes-on-requires
+    (λ c κs. search needs)
     returns-2
     add-at-2
     add-place

@@ -11,24 +11,12 @@ use Rattle.statements.proofs.Answers.{by-kind}
 use Rattle.statements.proofs.statement.statement_of.Statement.{statement}
 use Rattle.statements.proofs.statement.statement_of.Tie as tie
 
-next-word-requires : tie.Need-next-word-requires
-next-word-requires c κs = search needs
-
-without-requires : tie.Need-without-requires
-without-requires c κs = search needs
-
 returns : tie.Need-returns
 unfolding statementOf statementOfWords
 returns c = rw (c .before .before .before .next-word .ensures .last (c .before .if1 .taken)) (c .without .ensures)
 
 bytes-requires : tie.Need-bytes-requires
 bytes-requires c κs = c .before .before .next-word .ensures .inside (omega arith)
-
-kind-of-requires : tie.Need-kind-of-requires
-kind-of-requires c κs = search needs
-
-without-requires-2 : tie.Need-without-requires-2
-without-requires-2 c κs = search needs
 
 returns-2 : tie.Need-returns-2
 unfolding statementFrom
@@ -44,9 +32,6 @@ add-t10 : tie.Need-add-t10
 add-t10 c =
     let inside = c .before .before .before .before .before .before .before .next-word .ensures .inside (omega arith) in
     search needs
-
-without-requires-3 : tie.Need-without-requires-3
-without-requires-3 c κs = search needs
 
 returns-3 : tie.Need-returns-3
 unfolding statementFrom
@@ -75,15 +60,15 @@ pub statement-of-spec : {M : Type 1} → statement M
 statement-of-spec =
     tie.close
     (tie.spec
-    next-word-requires
-    without-requires
+    (λ c κs. search needs)
+    (λ c κs. search needs)
     returns
     bytes-requires
-    kind-of-requires
-    without-requires-2
+    (λ c κs. search needs)
+    (λ c κs. search needs)
     returns-2
     add-t10
-    without-requires-3
+    (λ c κs. search needs)
     returns-3
     fit-requires
     returns-4)

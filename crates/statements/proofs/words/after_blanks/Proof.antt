@@ -20,22 +20,10 @@ abbrev μ-loop : tie.MeasureT-loop
 loop-holds : tie.Need-loop-holds Inv-loop μ-loop
 loop-holds c = (omega arith, refl)
 
-shared-slice-read-is-blank : tie.Need-shared-slice-read-is-blank Inv-loop μ-loop
-shared-slice-read-is-blank c = search needs
-
-is-blank-requires : tie.Need-is-blank-requires Inv-loop μ-loop
-is-blank-requires c κs = search needs
-
 returns : tie.Need-returns Inv-loop μ-loop
 returns c =
     let l = c .before .before .before .before .loop in
     (omega arith, l .inv .1, λ h. sym (c .before .is-blank .ensures) ∙ not-true _ (c .if1 .taken))
-
-add-i : tie.Need-add-i Inv-loop μ-loop
-add-i c = search needs
-
-loop-less : tie.Need-loop-less Inv-loop μ-loop
-loop-less c = search needs
 
 loop-again : tie.Need-loop-again Inv-loop μ-loop
 loop-again c =
@@ -52,10 +40,10 @@ after-blanks-spec =
     Inv-loop
     μ-loop
     loop-holds
-    shared-slice-read-is-blank
-    is-blank-requires
+    (λ c. search needs)
+    (λ c κs. search needs)
     returns
-    add-i
-    loop-less
+    (λ c. search needs)
+    (λ c. search needs)
     loop-again
     returns-2)

@@ -8,9 +8,6 @@ use Rattle.statements.proofs.Bytes.{words-past, comment, word-begins}
 use Rattle.statements.proofs.words.next_word.Statement.{statement}
 use Rattle.statements.proofs.words.next_word.Tie as tie
 
-after-blanks-requires : tie.Need-after-blanks-requires
-after-blanks-requires c κs = search needs
-
 returns : tie.Need-returns
 returns c =
     let line = now (c .before .before .before .args .line) in
@@ -22,9 +19,6 @@ returns c =
       more = λ some. absurd (omega arith);
     }
 
-shared-slice-read-if2 : tie.Need-shared-slice-read-if2
-shared-slice-read-if2 c = search needs
-
 returns-2 : tie.Need-returns-2
 returns-2 c =
     let line = now (c .before .before .before .before .before .args .line) in
@@ -35,12 +29,6 @@ returns-2 c =
       last = λ none. s .ensures .1 ∙ comment line (s .result) (omega arith) (s .ensures .2 (omega arith)) (c .if2 .taken);
       more = λ some. absurd (omega arith);
     }
-
-word-end-requires : tie.Need-word-end-requires
-word-end-requires c κs = search needs
-
-sub-t5 : tie.Need-sub-t5
-sub-t5 c = search needs
 
 returns-3 : tie.Need-returns-3
 returns-3 c =
@@ -59,10 +47,10 @@ pub next-word-spec : {M : Type 1} → statement M
 next-word-spec =
     tie.close
     (tie.spec
-    after-blanks-requires
+    (λ c κs. search needs)
     returns
-    shared-slice-read-if2
+    (λ c. search needs)
     returns-2
-    word-end-requires
-    sub-t5
+    (λ c κs. search needs)
+    (λ c. search needs)
     returns-3)

@@ -18,29 +18,14 @@ Inv-loop line start i₀ i =
 abbrev μ-loop : tie.MeasureT-loop
 μ-loop line start i₀ i = length line - i
 
-add-i : tie.Need-add-i Inv-loop μ-loop
-add-i c = search needs
-
 loop-holds : tie.Need-loop-holds Inv-loop μ-loop
 loop-holds c = (omega arith, omega arith, refl)
-
-shared-slice-read-is-blank : tie.Need-shared-slice-read-is-blank Inv-loop μ-loop
-shared-slice-read-is-blank c = search needs
-
-is-blank-requires : tie.Need-is-blank-requires Inv-loop μ-loop
-is-blank-requires c κs = search needs
 
 returns : tie.Need-returns Inv-loop μ-loop
 returns c =
     let l = c .before .before .before .before .loop in
     let a = c .before .before .before .before .before .before .args in
     (omega arith, omega arith, l .inv .2 ∙ word-ends (now (a .line)) (l .i) (a .start) (omega arith) (sym (c .before .is-blank .ensures) ∙ c .if1 .taken))
-
-add-i-2 : tie.Need-add-i-2 Inv-loop μ-loop
-add-i-2 c = search needs
-
-loop-less : tie.Need-loop-less Inv-loop μ-loop
-loop-less c = search needs
 
 loop-again : tie.Need-loop-again Inv-loop μ-loop
 loop-again c =
@@ -60,12 +45,12 @@ word-end-spec =
     (tie.spec
     Inv-loop
     μ-loop
-    add-i
+    (λ c. search needs)
     loop-holds
-    shared-slice-read-is-blank
-    is-blank-requires
+    (λ c. search needs)
+    (λ c κs. search needs)
     returns
-    add-i-2
-    loop-less
+    (λ c. search needs)
+    (λ c. search needs)
     loop-again
     returns-2)

@@ -4,33 +4,6 @@ use Rattle.statements.specs.Statement.{putNumber, numberPut}
 use Rattle.statements.proofs.statement.Statement.put_number.Statement.{statement}
 use Rattle.statements.proofs.statement.Statement.put_number.Tie as tie
 
-enum-known-number : tie.Need-enum-known-number
-enum-known-number c = search needs
-
-mul-self : tie.Need-mul-self
-mul-self c = search needs
-
-element-write-self : tie.Need-element-write-self
-element-write-self c = search needs
-
-enum-told : tie.Need-enum-told
-enum-told c = search needs
-
-without-requires : tie.Need-without-requires
-without-requires c κs = search needs
-
-enum-told-2 : tie.Need-enum-told-2
-enum-told-2 c = search needs
-
-without-requires-2 : tie.Need-without-requires-2
-without-requires-2 c κs = search needs
-
-enum-told-3 : tie.Need-enum-told-3
-enum-told-3 c = search needs
-
-without-requires-3 : tie.Need-without-requires-3
-without-requires-3 c κs = search needs
-
 returns : tie.Need-returns
 unfolding numberPut putNumber
 returns c = rw (c .before .number .given .1)
@@ -51,15 +24,15 @@ pub put-number-spec : {M : Type 1} → statement M
 put-number-spec =
     tie.close
     (tie.spec
-    enum-known-number
-    mul-self
-    element-write-self
-    enum-told
-    without-requires
-    enum-told-2
-    without-requires-2
-    enum-told-3
-    without-requires-3
+    (λ c. search needs)
+    (λ c. search needs)
+    (λ c. search needs)
+    (λ c. search needs)
+    (λ c κs. search needs)
+    (λ c. search needs)
+    (λ c κs. search needs)
+    (λ c. search needs)
+    (λ c κs. search needs)
     returns
     returns-2
     returns-3

@@ -1,0 +1,3 @@
+-- What contracts of inner functions are stated by. No public call is.
+pub mod Fit
+pub mod Table
