@@ -20,7 +20,7 @@ use Rattle.doubles.specs.Sum.{sumFrom}
 use Rattle.doubles.proofs.Bounds.{zero-within, sum-within}
 use Rattle.doubles.proofs.Sums.{weaken}
 use Rattle.doubles.proofs.Near.{total, round-near, sum-near}
-use Rattle.doubles.proofs.Sum.{sum-append}
+use Rattle.doubles.proofs.Sums.{sum-append}
 use Rattle.reply.specs.First.{firstOf}
 use Rattle.reply.specs.declared.Reply.the-variants.{Admitted}
 use Rattle.utils.specs.Bases.{Base, bases}

@@ -11,7 +11,7 @@ use lib.Ieee.{Float, binary64, add}
 use lib.ListN.{length, getD, drop, length-map, length-reverse, List·getD-append, List·getD-map}
 use lib.Seq.{drop-cons, drop-length, getD-at}
 use Rattle.doubles.specs.Sum.{sumFrom}
-use Rattle.doubles.proofs.Sum.{sum-append}
+use Rattle.doubles.proofs.Sums.{sum-append}
 use Rattle.utils.specs.Bases.{Base, baseOf, bases, complement, complementary, indexOf}
 use Rattle.utils.specs.Terms.{isAT, reverseComplement, sameBases, selfComplementary, firstBase, lastBase, endTerm, symmetryTerm, termsAfter}
 use Rattle.utils.specs.declared.bases.DnaNucleotideBase.the-variants.{A, T, G, C}
