@@ -21,7 +21,7 @@ pub fn answer(words: Words) -> Result<Reply, Complaint> {
         "published" => {
             expect_words(words, &[1])?;
             let s = sequence(words[1])?;
-            let figures = [mj::published_dg(&s), mj::published_ds(&s)];
+            let figures = [mj::published_dg(&s), mj::published_ds(&s)].map(f64::from_bits);
             Ok(reply(mj::published_reply(&s), &figures))
         }
         "pair" => {
