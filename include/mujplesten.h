@@ -72,6 +72,13 @@ uint32_t mj_sequence_reply(const uint8_t *s, size_t n);
 uint64_t mj_sequence_dg(const uint8_t *s, size_t n);
 uint64_t mj_sequence_ds(const uint8_t *s, size_t n);
 
+/* The same as the paper has it: after the same stacks its initiation entropy of -0.0057, its terms
+ * for each end whose pair is A-T, and that for a sequence equal to its own reverse complement
+ * (published_dna_dg_ds). Replies 1, 2, 3. */
+uint32_t mj_published_reply(const uint8_t *s, size_t n);
+uint64_t mj_published_dg(const uint8_t *s, size_t n);
+uint64_t mj_published_ds(const uint8_t *s, size_t n);
+
 /* Two strands, mismatches and internal loops priced, no initiation (sequence_pair_dg_ds).
  * Replies 1, 2, 4, 5. The other three as above. */
 uint32_t mj_pair(const uint8_t *a, size_t m, const uint8_t *b, size_t n, double *dg, double *ds);

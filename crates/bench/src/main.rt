@@ -219,13 +219,31 @@ fn table() {
 
 // The worked examples.
 fn examples() {
-    // SantaLucia's duplex CGTTGA / GCAACT, without the terminal A·T term, which the Rust never adds: -5.40.
+    // SantaLucia's duplex CGTTGA / GCAACT in the Rust's mode, which never adds the terminal A·T term: -5.40.
     say(
         b"CGTTGA: -2.17 - 1.44 - 1.00 - 1.45 - 1.30 + 1.96",
         is_dg_ds(
             utils::string_dna_dg_ds(b"CGTTGA"),
             -2.17 - 1.44 - 1.0 - 1.45 - 1.3 + 1.96,
             -0.0272 - 0.0224 - 0.0213 - 0.0227 - 0.0222 + 0.0057,
+        ),
+    );
+    // The same duplex as the paper has it: -5.35.
+    say(
+        b"CGTTGA as published: -2.17 - 1.44 - 1.00 - 1.45 - 1.30 + 1.96 + 0.05",
+        is_dg_ds(
+            utils::published_dna_dg_ds(b"CGTTGA"),
+            -2.17 - 1.44 - 1.0 - 1.45 - 1.3 + 1.96 + 0.05,
+            -0.0272 - 0.0224 - 0.0213 - 0.0227 - 0.0222 - 0.0057 + 0.0069,
+        ),
+    );
+    // A self-complementary duplex with two A·T ends.
+    say(
+        b"aT as published: -0.88 + 1.96 + 0.05 + 0.05 + 0.43",
+        is_dg_ds(
+            utils::published_dna_dg_ds(b"aT"),
+            -0.88 + 1.96 + 0.05 + 0.05 + 0.43,
+            -0.0204 - 0.0057 + 0.0069 + 0.0069 - 0.0014,
         ),
     );
     // rgrow's documentation gives this energy as the same double as -5.8 + 1.96.

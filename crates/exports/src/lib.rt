@@ -16,6 +16,7 @@ ghost use lib.Ieee.{binary64};
 ghost use Rattle.units.specs.Ambient.{ambientAt};
 ghost use Rattle.utils.specs.Loops.{loopPenalty};
 ghost use Rattle.utils.specs.Single.{stringDnaDgDs};
+ghost use Rattle.utils.specs.Terms.{publishedDnaDgDs};
 ghost use Rattle.utils.specs.Pair.{sequencePairDgDs};
 ghost use Rattle.utils.specs.Strength.{sequenceStrength, pairStrength};
 use units::Kelvin;
@@ -52,6 +53,30 @@ pub extern "C" fn mj_sequence(s: &[u8], dg: &mut f64, ds: &mut f64) -> u32
     ensures { λ r. ⌜ now (ds .exit) ≡ stringDnaDgDs (now (s .entry)) .ds ⌝ }
 {
     figures::dg_ds_tell(utils::string_dna_dg_ds(s), dg, ds)
+}
+
+// One sequence in the published mode.
+#[no_mangle]
+pub extern "C" fn mj_published_reply(s: &[u8]) -> u32
+    ensures { λ r. ⌜ r ≡ publishedDnaDgDs (now (s .entry)) .number ⌝ }
+{
+    figures::dg_ds_reply(utils::published_dna_dg_ds(s))
+}
+
+// Its dG.
+#[no_mangle]
+pub extern "C" fn mj_published_dg(s: &[u8]) -> u64
+    ensures { λ r. ⌜ r ≡ Ieee.toBits binary64 (publishedDnaDgDs (now (s .entry)) .dg) ⌝ }
+{
+    figures::dg_ds_dg(utils::published_dna_dg_ds(s))
+}
+
+// Its dS.
+#[no_mangle]
+pub extern "C" fn mj_published_ds(s: &[u8]) -> u64
+    ensures { λ r. ⌜ r ≡ Ieee.toBits binary64 (publishedDnaDgDs (now (s .entry)) .ds) ⌝ }
+{
+    figures::dg_ds_ds(utils::published_dna_dg_ds(s))
 }
 
 // Two sequences.

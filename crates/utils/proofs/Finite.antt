@@ -48,13 +48,13 @@ entropy-sum n x y h p q =
 
 -- ---- one strand
 
-few-neighbours : (s : List Base) → length (neighbours s) ≤ length s - 1
+pub few-neighbours : (s : List Base) → length (neighbours s) ≤ length s - 1
 unfolding neighbours
 few-neighbours [] = omega arith
 few-neighbours (a ∷ []) = omega arith
 few-neighbours (a ∷ b ∷ s) = omega (arith, few-neighbours (b ∷ s))
 
-one-energy : (s : List Base) → length s ≤ 256 → Within binary64 765 (stackSum stackDg s)
+pub one-energy : (s : List Base) → length s ≤ 256 → Within binary64 765 (stackSum stackDg s)
 unfolding stackSum
 one-energy s h =
     let terms = map (atNeighbours stackDg) (neighbours s) in
@@ -172,7 +172,7 @@ both-passed (c ∷ cs) ds e =
     let r = both-passed cs ds (p .1) in
     (rw (p .0) (r .0), r .1)
 
-sequence-short : (s : List ℕ) → firstOf (sequenceChecks s) ≡ Admitted → length (bases s) ≤ 256
+pub sequence-short : (s : List ℕ) → firstOf (sequenceChecks s) ≡ Admitted → length (bases s) ≤ 256
 sequence-short s e = rw (bases-length s) (ltb-false 256 (length s) (passes (WrongSize if tooLong s) (NotABase if any notABase s ∷ TooShort if tooShort s ∷ []) e .0))
 
 pair-short : (a b : List ℕ) → firstOf (pairChecks a b) ≡ Admitted → length (bases a) ≤ 256
@@ -218,10 +218,10 @@ pair-strength-within a b x t e =
     strength-within 1020 (lit≤ tt) x _ _ (excess-within x t (p .1)) (pair-energy (bases a) (bases b) h) (pair-kept (bases a) (bases b) h .entropy)
 
 -- a figure of an answer
-energy-of : (most : ℕ) (checks : List Check) (given : DgDsFigures) → (firstOf checks ≡ Admitted → Within binary64 most (given .dg)) → Within binary64 most (answer (firstOf checks) refusedDgDs given .dg)
+pub energy-of : (most : ℕ) (checks : List Check) (given : DgDsFigures) → (firstOf checks ≡ Admitted → Within binary64 most (given .dg)) → Within binary64 most (answer (firstOf checks) refusedDgDs given .dg)
 energy-of most checks given = of-answer (λ (r : DgDsFigures). Within binary64 most (r .dg)) (firstOf checks) refusedDgDs given (λ n. none-within most)
 
-entropy-of : (most : ℕ) (checks : List Check) (given : DgDsFigures) → (firstOf checks ≡ Admitted → Within binary64 most (given .ds)) → Within binary64 most (answer (firstOf checks) refusedDgDs given .ds)
+pub entropy-of : (most : ℕ) (checks : List Check) (given : DgDsFigures) → (firstOf checks ≡ Admitted → Within binary64 most (given .ds)) → Within binary64 most (answer (firstOf checks) refusedDgDs given .ds)
 entropy-of most checks given = of-answer (λ (r : DgDsFigures). Within binary64 most (r .ds)) (firstOf checks) refusedDgDs given (λ n. none-within most)
 
 strength-of : (most : ℕ) (checks : List Check) (given : DgFigures) → (firstOf checks ≡ Admitted → Within binary64 most (given .dg)) → Within binary64 most (answer (firstOf checks) refusedDg given .dg)

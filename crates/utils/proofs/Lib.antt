@@ -5,6 +5,7 @@ pub mod Lengths
 pub mod Divided
 pub mod Loops
 pub mod Neighbours
+pub mod Terms
 pub mod Windows
 pub mod Strands
 pub mod Published
@@ -13,3 +14,5 @@ pub mod SameSums
 pub mod ThirtySeconds
 pub mod Small
 pub mod Finite
+pub mod Exact
+pub mod PublishedTerms

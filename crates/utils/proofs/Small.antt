@@ -21,7 +21,7 @@ use Rattle.utils.specs.declared.tables.LoopKind.the-variants.{Internal}
 use Rattle.utils.proofs.ThirtySeconds.{Parts, round-parts, parts-within}
 
 -- at most n / 32 in size
-abbrev small : ℕ → Decimal → Bool
+abbrev pub small : ℕ → Decimal → Bool
 small n d = leb (d .digits * 32) (n * 10 ^ d .places)
 
 nearest-parts : (n : ℕ) → n < 2 ^ prec binary64 → (d : Decimal) → T (small n d) → Parts binary64 n (nearest d)
@@ -31,36 +31,36 @@ nearest-parts n h d t =
     let above : 0 < c = lt-of-lt-of-le (pow-pos (d .places)) (pow-le-pow-left (lit≤ tt) (d .places)) in
     round-parts binary64 (d .negative) (d .digits) c n above h (leb→le (d .digits * 32) (n * c) t)
 
-nearest-within : (most : ℕ) → most * 32 < 2 ^ prec binary64 → (d : Decimal) → T (small (most * 32) d) → Within binary64 most (nearest d)
+pub nearest-within : (most : ℕ) → most * 32 < 2 ^ prec binary64 → (d : Decimal) → T (small (most * 32) d) → Within binary64 most (nearest d)
 nearest-within most h d t = parts-within binary64 (most * 32) most (nearest d) (le-refl (most * 32)) (nearest-parts (most * 32) h d t)
 
 -- ---- a test of every base, read at one
 
-abbrev every : (Base → Bool) → Bool
+abbrev pub every : (Base → Bool) → Bool
 every p = p base.A && (p base.T && (p base.G && p base.C))
 
-halves : (p q : Bool) → T (p && q) → T p × T q
+pub halves : (p q : Bool) → T (p && q) → T p × T q
 halves true q t = (tt, t)
 halves false q t = absurd t
 
-at-base : (p : Base → Bool) → T (every p) → (b : Base) → T (p b)
-at-base p t base.A = halves (p base.A) _ t .0
-at-base p t base.T = halves (p base.T) _ (halves (p base.A) _ t .1) .0
-at-base p t base.G = halves (p base.G) _ (halves (p base.T) _ (halves (p base.A) _ t .1) .1) .0
-at-base p t base.C = halves (p base.G) _ (halves (p base.T) _ (halves (p base.A) _ t .1) .1) .1
+tested-once : (p : Base → Bool) → T (every p) → (b : Base) → T (p b)
+tested-once p t base.A = halves (p base.A) _ t .0
+tested-once p t base.T = halves (p base.T) _ (halves (p base.A) _ t .1) .0
+tested-once p t base.G = halves (p base.G) _ (halves (p base.T) _ (halves (p base.A) _ t .1) .1) .0
+tested-once p t base.C = halves (p base.G) _ (halves (p base.T) _ (halves (p base.A) _ t .1) .1) .1
 
-at-bases : (p : Base → Base → Bool) → T (every (λ a. every (p a))) → (a b : Base) → T (p a b)
-at-bases p t a b = at-base (p a) (at-base (λ a. every (p a)) t a) b
+pub tested : (p : Base → Base → Bool) → T (every (λ a. every (p a))) → (a b : Base) → T (p a b)
+tested p t a b = tested-once (p a) (tested-once (λ a. every (p a)) t a) b
 
 -- ---- the figures
 
 pub stack-energy : (a b : Base) → Within binary64 3 (stackDg a b)
 unfolding stackDg stackOf find table1
-stack-energy a b = nearest-within 3 (lit< tt) (stackOf a b .dg) (at-bases (λ a b. small 96 (stackOf a b .dg)) tt a b)
+stack-energy a b = nearest-within 3 (lit< tt) (stackOf a b .dg) (tested (λ a b. small 96 (stackOf a b .dg)) tt a b)
 
 pub stack-entropy : (a b : Base) → Parts binary64 1 (stackDs a b)
 unfolding stackDs entropyOf stackOf find table1
-stack-entropy a b = nearest-parts 1 (lit< tt) (kilo (entropyOf a b)) (at-bases (λ a b. small 1 (kilo (entropyOf a b))) tt a b)
+stack-entropy a b = nearest-parts 1 (lit< tt) (kilo (entropyOf a b)) (tested (λ a b. small 1 (kilo (entropyOf a b))) tt a b)
 
 pub start-energy : Within binary64 2 startDg
 unfolding startDg initiationDg
@@ -74,7 +74,7 @@ penalty-energy : (p x y : Base) → Within binary64 2 (penalty p x y)
 unfolding penalty mismatchOf table2
 penalty-energy p x y =
     nearest-within 2 (lit< tt) (mismatchOf p x y)
-    (at-bases (λ x y. small 64 (mismatchOf p x y)) (at-base (λ p. every (λ x. every (λ y. small 64 (mismatchOf p x y)))) tt p) x y)
+    (tested (λ x y. small 64 (mismatchOf p x y)) (tested-once (λ p. every (λ x. every (λ y. small 64 (mismatchOf p x y)))) tt p) x y)
 
 pub mismatch-energy : (a1 a2 b1 b2 : Base) → Within binary64 2 (mismatchDg a1 a2 b1 b2)
 unfolding mismatchDg

@@ -21,6 +21,12 @@ only-bases s e =
     let first = passes (WrongSize if tooLong s) (NotABase if any notABase s ∷ TooShort if tooShort s ∷ []) e in
     passes (NotABase if any notABase s) (TooShort if tooShort s ∷ []) (first .1) .0
 
+pub long-enough : (s : List ℕ) → firstOf (sequenceChecks s) ≡ Admitted → 2 ≤ length s
+long-enough s e =
+    let first = passes (WrongSize if tooLong s) (NotABase if any notABase s ∷ TooShort if tooShort s ∷ []) e in
+    let second = passes (NotABase if any notABase s) (TooShort if tooShort s ∷ []) (first .1) in
+    ltb-false (length s) 2 (passes (TooShort if tooShort s) [] (second .1) .0)
+
 -- what the three checks of two strands say where all pass
 each-passes : (x y z : Bool) → firstOf (WrongSize if x ∷ NotABase if y ∷ UnequalLengths if z ∷ []) ≡ Admitted → (x ≡ false) × (y ≡ false) × (z ≡ false)
 each-passes x y z e =

@@ -9,7 +9,7 @@ use Rattle.lists.specs.Find.{any, firstIndex}
 use Rattle.lists.specs.Build.{keep}
 use Rattle.doubles.specs.Decimal.{Decimal, plus, minus, nearest, zero}
 use Rattle.utils.specs.Bases.{Base, same, complementary}
-use Rattle.utils.specs.Paper.{stackOf, initiationDg, kilo, mismatchOf, Loop, noLoop, table4, loopFigure}
+use Rattle.utils.specs.Paper.{stackOf, initiationDg, initiationDs, terminalDg, terminalDs, symmetryDg, symmetryDs, kilo, mismatchOf, Loop, noLoop, table4, loopFigure}
 use Rattle.utils.specs.declared.bases.DnaNucleotideBase.the-variants.{A, T, G, C}
 use Rattle.utils.specs.declared.tables.LoopKind.{LoopKind}
 
@@ -33,6 +33,22 @@ startDg = nearest initiationDg
 -- the paper has −0.0057
 unfoldable pub startDs : Float
 startDs = nearest (plus 57 4)
+
+-- what the published mode adds: the initiation's dS as printed, and the terms for ends and symmetry
+unfoldable pub printedStartDs : Float
+printedStartDs = nearest (kilo initiationDs)
+
+unfoldable pub endDg : Float
+endDg = nearest terminalDg
+
+unfoldable pub endDs : Float
+endDs = nearest (kilo terminalDs)
+
+unfoldable pub symmetricDg : Float
+symmetricDg = nearest symmetryDg
+
+unfoldable pub symmetricDs : Float
+symmetricDs = nearest (kilo symmetryDs)
 
 -- dG of a mismatch, 5'-PX-3' over 3'-P*Y-5'
 unfoldable pub penalty : Base → Base → Base → Float

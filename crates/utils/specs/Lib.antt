@@ -4,8 +4,10 @@ pub mod Figures
 pub mod Answers
 pub mod Loops
 pub mod Single
+pub mod Terms
 pub mod Pair
 pub mod Strength
 pub mod Published
 pub mod Finite
+pub mod Exact
 pub mod inner

@@ -65,6 +65,20 @@ initiationDg = plus 196 2
 unfoldable pub initiationDs : Decimal
 initiationDs = minus 57 1
 
+-- dG and dS for each end whose pair is A·T, by document 02 and DNA_NN4
+unfoldable pub terminalDg : Decimal
+terminalDg = plus 5 2
+
+unfoldable pub terminalDs : Decimal
+terminalDs = plus 69 1
+
+-- dG and dS of a self-complementary sequence, by document 02 and DNA_NN4
+unfoldable pub symmetryDg : Decimal
+symmetryDg = plus 43 2
+
+unfoldable pub symmetryDs : Decimal
+symmetryDs = minus 14 1
+
 -- cal/mol/K as kcal/mol/K
 abbrev pub kilo : Decimal → Decimal
 kilo d = record { negative = d .negative; digits = d .digits; places = d .places + 3 }

@@ -3,15 +3,22 @@
 -- where the entropies part from the paper's, and that dG, dH and dS agree with each other.
 use mathlib.Core.Path.{_≡_}
 use mathlib.Core.Bool.{Bool, true, false, not, _&&_, _||_}
+use mathlib.Core.List.{List, map}
 use Prim.Native.Nat.{ℕ, _+_, _-_, _*_, _^_, _<_}
 use lib.Dec.{leb}
 use lib.Ieee.{neg}
 use lib.ListN.{getD, length}
 use Rattle.lists.specs.Build.{keep}
 use Rattle.doubles.specs.Decimal.{Decimal, minus, nearest}
-use Rattle.utils.specs.Bases.{Base, complement, complementary, same}
-use Rattle.utils.specs.Paper.{Stack, table1, isFor, absent, stackOf, kilo, initiationDg, initiationDs, mismatchOf, table4, noLoop, loopFigure}
-use Rattle.utils.specs.Figures.{stackDg, entropyOf, stackDs, startDg, startDs, mismatchDg, loopRows, loopDg}
+use Rattle.doubles.specs.Sum.{sumFrom}
+use Rattle.reply.specs.First.{firstOf}
+use Rattle.reply.specs.declared.Reply.the-variants.{Admitted}
+use Rattle.utils.specs.Answers.{givenDgDs}
+use Rattle.utils.specs.Bases.{Base, bases, complement, complementary, same}
+use Rattle.utils.specs.Paper.{Stack, table1, isFor, absent, stackOf, kilo, initiationDg, initiationDs, terminalDg, terminalDs, symmetryDg, symmetryDs, mismatchOf, table4, noLoop, loopFigure}
+use Rattle.utils.specs.Figures.{stackDg, entropyOf, stackDs, startDg, startDs, printedStartDs, endDg, endDs, symmetricDg, symmetricDs, mismatchDg, loopRows, loopDg}
+use Rattle.utils.specs.Single.{stackSum, sequenceChecks}
+use Rattle.utils.specs.Terms.{reverseComplement, selfComplementary, termsAfter, publishedDnaDgDs}
 use Rattle.utils.specs.declared.bases.DnaNucleotideBase.the-variants.{A, T, G, C}
 use Rattle.utils.specs.declared.tables.LoopKind.{LoopKind}
 
@@ -64,3 +71,18 @@ pub record Consistent : Type 0 where
   pub taken : (a b : Base) → agrees (stackOf a b) (entropyOf a b) ≡ true
   -- the printed entropies do so in every window but those that part
   pub asPrinted : (a b : Base) → agrees (stackOf a b) (stackOf a b .ds) ≡ not (parts a b)
+
+-- the published mode's terms after the pairs, against the paper
+pub record PublishedTerms : Type 0 where
+  -- each is the double nearest to the paper's decimal, dG and dS
+  pub initiation : (startDg ≡ nearest initiationDg) × (printedStartDs ≡ nearest (kilo initiationDs))
+  pub terminal : (endDg ≡ nearest terminalDg) × (endDs ≡ nearest (kilo terminalDs))
+  pub symmetry : (symmetricDg ≡ nearest symmetryDg) × (symmetricDs ≡ nearest (kilo symmetryDs))
+  -- the symmetry's are there exactly where the other strand reads the same
+  pub symmetric : (s : List Base) → selfComplementary s ≡ true → reverseComplement s ≡ s
+  pub unsymmetric : (s : List Base) → selfComplementary s ≡ false → reverseComplement s ≡ s → ⊥
+  -- the answer is the pairs' sum followed by the paper's terms
+  pub answer : (s : List ℕ) → firstOf (sequenceChecks s) ≡ Admitted
+      → publishedDnaDgDs s
+      ≡ givenDgDs (sumFrom (stackSum stackDg (bases s)) (map nearest (termsAfter initiationDg terminalDg symmetryDg (bases s))))
+      (sumFrom (stackSum stackDs (bases s)) (map nearest (termsAfter (kilo initiationDs) (kilo terminalDs) (kilo symmetryDs) (bases s))))

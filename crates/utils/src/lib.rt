@@ -3,16 +3,18 @@ mod bases;
 mod tables;
 
 ghost use mathlib.Core.Path.{_≡_};
-ghost use mathlib.Core.Bool.{false};
+ghost use mathlib.Core.Bool.{true, false};
 ghost use Prim.Native.Nat.{_<_, _≤_};
 ghost use lib.ListN.{length};
 ghost use Rattle.lists.specs.Find.{any};
 ghost use Rattle.reply.specs.First.{firstOf};
-ghost use Rattle.utils.specs.Bases.{notABase, bases};
-ghost use Rattle.utils.specs.Figures.{stackDg, stackDs, hasLength, loopDg};
+ghost use Rattle.utils.specs.Bases.{isBase, baseOf, notABase, bases};
+ghost use Rattle.utils.specs.Figures.{stackDg, stackDs, endDg, endDs, symmetricDg, symmetricDs, hasLength, loopDg};
 ghost use Rattle.utils.specs.Answers.{dgFigures, dgDsFigures};
 ghost use Rattle.utils.specs.Loops.{kindOf, loopPenalty};
+ghost use Rattle.doubles.specs.Sum.{sumFrom};
 ghost use Rattle.utils.specs.Single.{stackSum, sequenceChecks, stringDnaDgDs};
+ghost use Rattle.utils.specs.Terms.{selfComplementary, endTerm, symmetryTerm, publishedDg, publishedDs, publishedDnaDgDs};
 ghost use Rattle.utils.specs.Pair.{window, good, afterGood, afterBad, pairSums, lacksLoop, strandChecks, sequencePairDgDs};
 ghost use Rattle.utils.specs.inner.Tables.{byTwo, byThree, hundredths};
 ghost use Rattle.utils.specs.inner.Code.{sumsOf, flagged};
@@ -44,6 +46,19 @@ const INITIATION_DG: KcalPerMol = KcalPerMol(1.96);
 
 // What initiation adds to its entropy: the Rust's sign, where the paper has the opposite.
 const INITIATION_DS: KcalPerMolKelvin = KcalPerMolKelvin(0.0057);
+
+// What initiation adds to the entropy by the paper.
+const PUBLISHED_INITIATION_DS: KcalPerMolKelvin = KcalPerMolKelvin(-0.0057);
+
+// What an end whose pair is A·T adds by the paper.
+const TERMINAL_DG: KcalPerMol = KcalPerMol(0.05);
+
+const TERMINAL_DS: KcalPerMolKelvin = KcalPerMolKelvin(0.0069);
+
+// What a sequence that is its own reverse complement adds by the paper.
+const SYMMETRY_DG: KcalPerMol = KcalPerMol(0.43);
+
+const SYMMETRY_DS: KcalPerMolKelvin = KcalPerMolKelvin(-0.0014);
 
 // The longest sequence.
 const LONGEST: usize = 256;
@@ -148,6 +163,73 @@ pub fn string_dna_dg_ds(dna: &[u8]) -> DgDsAnswer
         Reply::Admitted => {
             let stacks = single_sequence_dg_ds(dna);
             DgDsAnswer::Given(stacks.0.add(INITIATION_DG), stacks.1.add(INITIATION_DS))
+        }
+    }
+}
+
+// The sums after an end: its terms, if its pair is A·T. A and T have the lowest two numbers.
+fn after_end(sums: DgDs, letter: u8) -> DgDs
+    requires { ⌜ isBase letter ≡ true ⌝ }
+    ensures { λ r. ⌜ (r .0 .0 ≡ sumFrom (sums .0 .0) (endTerm endDg (baseOf letter))) × (r .1 .0 ≡ sumFrom (sums .1 .0) (endTerm endDs (baseOf letter))) ⌝ }
+{
+    if base_index(letter) < 2 {
+        return DgDs(sums.0.add(TERMINAL_DG), sums.1.add(TERMINAL_DS));
+    }
+    sums
+}
+
+// Whether a sequence is its own reverse complement: each base pairs with the one as far from the other end.
+fn self_complementary(dna: &[u8]) -> bool
+    requires { ⌜ any notABase (now dna) ≡ false ⌝ }
+    ensures { λ r. ⌜ r ≡ selfComplementary (bases (now (dna .entry))) ⌝ }
+{
+    let mut i = 0;
+    while i < dna.len() {
+        if !good_match(base(dna[dna.len() - 1 - i]), base(dna[i])) {
+            return false;
+        }
+        i += 1;
+    }
+    true
+}
+
+// The sums after the symmetry: its terms, if the sequence has it.
+fn after_symmetry(sums: DgDs, dna: &[u8]) -> DgDs
+    requires { ⌜ any notABase (now dna) ≡ false ⌝ }
+    ensures { λ r. ⌜ (r .0 .0 ≡ sumFrom (sums .0 .0) (symmetryTerm symmetricDg (bases (now (dna .entry))))) × (r .1 .0 ≡ sumFrom (sums .1 .0) (symmetryTerm symmetricDs (bases (now (dna .entry))))) ⌝ }
+{
+    if self_complementary(dna) {
+        return DgDs(sums.0.add(SYMMETRY_DG), sums.1.add(SYMMETRY_DS));
+    }
+    sums
+}
+
+// The sums of a sequence by the paper: its stacks, then initiation, first end, last end and symmetry.
+fn published_sums(dna: &[u8]) -> DgDs
+    requires { ⌜ (any notABase (now dna) ≡ false) × (2 ≤ length (now dna)) ⌝ }
+    ensures { λ r. ⌜ (r .0 .0 ≡ publishedDg (bases (now (dna .entry)))) × (r .1 .0 ≡ publishedDs (bases (now (dna .entry)))) ⌝ }
+{
+    let stacks = single_sequence_dg_ds(dna);
+    let begun = DgDs(
+        stacks.0.add(INITIATION_DG),
+        stacks.1.add(PUBLISHED_INITIATION_DS),
+    );
+    let first = after_end(begun, dna[0]);
+    let last = after_end(first, dna[dna.len() - 1]);
+    after_symmetry(last, dna)
+}
+
+// dG and dS of a sequence on its perfect partner as the paper has them, with what it prints for initiation, ends and symmetry.
+pub fn published_dna_dg_ds(dna: &[u8]) -> DgDsAnswer
+    ensures { λ r. ⌜ dgDsFigures r ≡ publishedDnaDgDs (now (dna .entry)) ⌝ }
+{
+    match sequence_reply(dna) {
+        Reply::Refused(refusal, _) => DgDsAnswer::Refused(refusal),
+        Reply::Admitted => {
+            let sums = published_sums(dna);
+            let dg = sums.0;
+            let ds = sums.1;
+            DgDsAnswer::Given(dg, ds)
         }
     }
 }

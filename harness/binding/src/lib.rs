@@ -21,8 +21,8 @@ pub use design::{
 pub use names::{name, strand_glues, Names};
 pub use params::{params, Built, Params};
 pub use sequences::{
-    loop_penalty, pair, pair_dg, pair_ds, pair_reply, pair_strength, sequence, sequence_dg,
-    sequence_ds, sequence_reply, sequence_strength,
+    loop_penalty, pair, pair_dg, pair_ds, pair_reply, pair_strength, published_dg, published_ds,
+    published_reply, sequence, sequence_dg, sequence_ds, sequence_reply, sequence_strength,
 };
 pub use temperature::ambient;
 

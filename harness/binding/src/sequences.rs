@@ -6,6 +6,9 @@ mod c {
         pub fn mj_sequence_reply(s: *const u8, n: usize) -> u32;
         pub fn mj_sequence_dg(s: *const u8, n: usize) -> u64;
         pub fn mj_sequence_ds(s: *const u8, n: usize) -> u64;
+        pub fn mj_published_reply(s: *const u8, n: usize) -> u32;
+        pub fn mj_published_dg(s: *const u8, n: usize) -> u64;
+        pub fn mj_published_ds(s: *const u8, n: usize) -> u64;
         pub fn mj_pair(
             a: *const u8,
             m: usize,
@@ -50,6 +53,18 @@ pub fn sequence_dg(s: &[u8]) -> u64 {
 /// As its bits.
 pub fn sequence_ds(s: &[u8]) -> u64 {
     unsafe { c::mj_sequence_ds(s.as_ptr(), s.len()) }
+}
+
+pub fn published_reply(s: &[u8]) -> u32 {
+    unsafe { c::mj_published_reply(s.as_ptr(), s.len()) }
+}
+
+pub fn published_dg(s: &[u8]) -> u64 {
+    unsafe { c::mj_published_dg(s.as_ptr(), s.len()) }
+}
+
+pub fn published_ds(s: &[u8]) -> u64 {
+    unsafe { c::mj_published_ds(s.as_ptr(), s.len()) }
 }
 
 pub fn pair(a: &[u8], b: &[u8], dg: &mut f64, ds: &mut f64) -> u32 {

@@ -57,6 +57,9 @@ static void refused_sequence(const uint8_t *s, size_t n, uint32_t number)
     reply("a refused sequence", mj_sequence_reply(s, n), number);
     bits("its dG", mj_sequence_dg(s, n), 0.0);
     bits("its dS", mj_sequence_ds(s, n), 0.0);
+    reply("refused as published", mj_published_reply(s, n), number);
+    bits("its published dG", mj_published_dg(s, n), 0.0);
+    bits("its published dS", mj_published_ds(s, n), 0.0);
 }
 
 static void one_sequence(void)
@@ -69,6 +72,9 @@ static void one_sequence(void)
     bits("AC dG", mj_sequence_dg(SEQ("AC")), -1.44 + 1.96);
     bits("AC dS", mj_sequence_ds(SEQ("AC")), -0.0224 + 0.0057);
     bits("cga dG", mj_sequence_dg(SEQ("cga")), (-2.17 + -1.30) + 1.96);
+    bits("AC published dG", mj_published_dg(SEQ("AC")), -1.44 + 1.96 + 0.05);
+    bits("AC published dS", mj_published_ds(SEQ("AC")), -0.0224 - 0.0057 + 0.0069);
+    bits("gC published dG", mj_published_dg(SEQ("gC")), -2.24 + 1.96 + 0.43);
     reply("256 bases", mj_sequence_reply(many, 256), 0);
     refused_sequence(many, 257, 1);
     refused_sequence(SEQ("acxg"), 2);

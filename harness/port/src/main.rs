@@ -22,7 +22,7 @@ fn main() -> std::io::Result<()> {
 /// is about the design that lines have set so far.
 fn answer(lent: &mut Lent, words: Words) -> Result<Option<Reply>, Complaint> {
     match words[0] {
-        "seq" | "pair" | "loop" | "strengthx" => sequences::answer(words).map(Some),
+        "seq" | "published" | "pair" | "loop" | "strengthx" => sequences::answer(words).map(Some),
         "ambient" => temperature::answer(words).map(Some),
         "deck.read" | "deck.write" | "deck.move" => deck::answer(words).map(Some),
         "params" => params::answer(words).map(Some),

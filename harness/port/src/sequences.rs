@@ -18,6 +18,12 @@ pub fn answer(words: Words) -> Result<Reply, Complaint> {
             );
             told(number, [dg, ds], one_by_one)
         }
+        "published" => {
+            expect_words(words, &[1])?;
+            let s = sequence(words[1])?;
+            let figures = [mj::published_dg(&s), mj::published_ds(&s)].map(f64::from_bits);
+            Ok(reply(mj::published_reply(&s), &figures))
+        }
         "pair" => {
             expect_words(words, &[2])?;
             let (a, b) = (sequence(words[1])?, sequence(words[2])?);

@@ -33,7 +33,7 @@ pub fn call(random: &mut Random, tally: &mut Tally) {
     let (a, b) = (any_sequence(random), any_sequence(random));
     let excess = any_double(random);
     let [mut x, mut y, mut z] = [Figure::double(), Figure::double(), Figure::double()];
-    match random.below(7) {
+    match random.below(8) {
         0 => {
             let number = mj::sequence(&a, x.lent(), y.lent());
             let one_by_one = (
@@ -82,6 +82,12 @@ pub fn call(random: &mut Random, tally: &mut Tally) {
             let number = mj::ambient(excess, x.lent(), y.lent(), z.lent());
             let fit = x.is_fit(number) && y.is_fit(number) && z.is_fit(number);
             tally.call("ambient", number, fit);
+        }
+        6 => {
+            let number = mj::published_reply(&a);
+            let figures = [mj::published_dg(&a), mj::published_ds(&a)];
+            let none = figures.iter().all(|figure| *figure == 0);
+            tally.call("published", number, number == 0 || none);
         }
         _ => deck(random, tally),
     }

@@ -76,6 +76,21 @@ fn one_sequence(checks: &mut Checks) {
     checks.bits("AC dS", mj::sequence_ds(b"AC"), -0.0224 + 0.0057);
     checks.bits("cga dG", mj::sequence_dg(b"cga"), (-2.17 + -1.30) + 1.96);
     checks.reply("256 bases", mj::sequence_reply(&[b'g'; 256]), 0);
+    checks.bits(
+        "AC published dG",
+        mj::published_dg(b"AC"),
+        -1.44 + 1.96 + 0.05,
+    );
+    checks.bits(
+        "AC published dS",
+        mj::published_ds(b"AC"),
+        -0.0224 - 0.0057 + 0.0069,
+    );
+    checks.bits(
+        "gC published dG",
+        mj::published_dg(b"gC"),
+        -2.24 + 1.96 + 0.43,
+    );
     let refused: [(&[u8], u32); 5] = [
         (&[b'g'; 257], 1),
         (b"acxg", 2),
@@ -91,6 +106,9 @@ fn one_sequence(checks: &mut Checks) {
         checks.reply("a refused sequence", mj::sequence_reply(s), number);
         checks.bits("its dG", mj::sequence_dg(s), 0.0);
         checks.bits("its dS", mj::sequence_ds(s), 0.0);
+        checks.reply("refused as published", mj::published_reply(s), number);
+        checks.bits("its published dG", mj::published_dg(s), 0.0);
+        checks.bits("its published dS", mj::published_ds(s), 0.0);
     }
 }
 

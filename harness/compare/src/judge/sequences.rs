@@ -71,6 +71,33 @@ pub const STACKS: [(&[u8; 2], i32, i32); 10] = [
 /// dG and dS of one sequence that is not refused: "pairs summed left to right from 0.0, then 1.96
 /// and +0.0057 added".
 pub fn energies(s: &[u8]) -> (f64, f64) {
+    let (dg, ds) = stacks(s);
+    (dg + 1.96, ds + 0.0057)
+}
+
+/// Document 02's published mode of a sequence that is not refused: "pairs, initiation, first end,
+/// last end, symmetry".
+pub fn published(s: &[u8]) -> (f64, f64) {
+    let letters = s.to_ascii_lowercase();
+    let (mut dg, mut ds) = stacks(&letters);
+    dg += 1.96;
+    ds += -0.0057;
+    for end in [letters[0], letters[letters.len() - 1]] {
+        if end == b'a' || end == b't' {
+            dg += 0.05;
+            ds += 0.0069;
+        }
+    }
+    let reverse_complement: Vec<u8> = letters.iter().rev().map(|x| partner(*x)).collect();
+    if letters == reverse_complement {
+        dg += 0.43;
+        ds += -0.0014;
+    }
+    (dg, ds)
+}
+
+/// The pairs' sums, without the initiation.
+fn stacks(s: &[u8]) -> (f64, f64) {
     let (mut dg, mut ds) = (0.0, 0.0);
     for window in s.to_ascii_lowercase().windows(2) {
         let other = [partner(window[1]), partner(window[0])];
@@ -80,7 +107,7 @@ pub fn energies(s: &[u8]) -> (f64, f64) {
         dg += f64::from(*hundredths) / 100.0;
         ds += f64::from(*tenths) / 10_000.0;
     }
-    (dg + 1.96, ds + 0.0057)
+    (dg, ds)
 }
 
 fn partner(letter: u8) -> u8 {
@@ -134,6 +161,25 @@ mod tests {
         assert_eq!(number(b"x"), 2);
         assert_eq!(number(&[b'g'; 256]), 0);
         assert_eq!(number(&[b'x'; 257]), 1);
+    }
+
+    /// Values worked out apart from this file, with exact fractions rounded at each addition.
+    #[test]
+    fn the_published_mode_as_worked_out() {
+        let worked: [(&[u8], f64, f64); 6] = [
+            (b"AC", 0.5700000000000001, -0.0212),
+            (b"GC", 0.14999999999999974, -0.0315),
+            (b"AT", 1.61, -0.013700000000000002),
+            (b"CGTTGA", -5.35, -0.11459999999999998),
+            (b"CC", 0.11999999999999988, -0.0256),
+            (b"AAA", 0.05999999999999997, -0.03449999999999999),
+        ];
+        for (s, dg, ds) in worked {
+            let (given_dg, given_ds) = published(s);
+            assert_eq!(given_dg.to_bits(), dg.to_bits(), "{s:?}");
+            assert_eq!(given_ds.to_bits(), ds.to_bits(), "{s:?}");
+            assert_eq!(published(&s.to_ascii_lowercase()), (given_dg, given_ds));
+        }
     }
 
     #[test]

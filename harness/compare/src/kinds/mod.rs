@@ -7,6 +7,7 @@ pub mod loops;
 pub mod names;
 pub mod pair;
 pub mod parameters;
+pub mod published;
 pub mod raw;
 pub mod sequence;
 pub mod strength;
@@ -68,6 +69,7 @@ pub trait Kind {
 pub fn all() -> Vec<Box<dyn Kind>> {
     vec![
         Box::new(sequence::Sequences),
+        Box::new(published::Published),
         Box::new(pair::Pairs),
         Box::new(loops::Loops),
         Box::new(strength::Strengths),
