@@ -11,4 +11,5 @@ pub mod Placed
 pub mod Fixed
 pub mod Sizes
 pub mod Nearness
+pub mod Once
 pub mod Back

@@ -16,7 +16,7 @@ use Rattle.doubles.proofs.Fields.{low-size, normal-size, top-size, same-size, b
 use Rattle.decimals.specs.Print.{millionths, unprintable}
 
 -- ---- in limbs
-pub million-room : (m : ℕ) → m < 2 ^ 53 → m * 1000000 < 2 ^ (32 * 44)
+pub million-room : (m : ℕ) → m < 2 ^ 53 → m * 1000000 < 2 ^ (32 * 47)
 million-room m h = lt-of-lt-of-le (mul-lt-mul-of-pos-right h (zero-lt-suc 999999)) (lit≤ tt)
 
 pub below-unit : (m shift : ℕ) → m < 2 ^ 53 → 10 ≤ shift → m * 1000000 < 1 * 2 ^ (shift + 63)
@@ -29,10 +29,10 @@ below-unit m shift h l =
     room : 10 ≤ shift → 73 ≤ shift + 63
     room l = omega arith
 
-pub unit-room : (shift : ℕ) → shift ≤ 1074 → 1 * 2 ^ (shift + 63) * 2 < 2 ^ (32 * 44)
-unit-room shift h = rw (one-mul (2 ^ (shift + 63))) (subst (_< 2 ^ (32 * 44)) (pow-suc 2 (shift + 63)) (pow-lt (room h)))
+pub unit-room : (shift : ℕ) → shift ≤ 1074 → 1 * 2 ^ (shift + 63) * 2 < 2 ^ (32 * 47)
+unit-room shift h = rw (one-mul (2 ^ (shift + 63))) (subst (_< 2 ^ (32 * 47)) (pow-suc 2 (shift + 63)) (pow-lt (room h)))
   where
-    room : shift ≤ 1074 → suc (shift + 63) < 32 * 44
+    room : shift ≤ 1074 → suc (shift + 63) < 32 * 47
     room h = omega arith
 
 pub unit-same : (m shift : ℕ) → closest (m * 2 ^ 63) (1 * 2 ^ (shift + 63)) ≡ closest m (2 ^ shift)

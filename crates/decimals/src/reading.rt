@@ -2,8 +2,7 @@
 use super::NumberAnswer;
 use super::digits::digit_run;
 use super::digits::read_digits;
-use super::rounding::decimal_bits;
-use doubles::double;
+use super::rounding::decimal_double;
 ghost use mathlib.Core.Path.{_≡_};
 ghost use Prim.Native.Nat.{_+_, _^_, _≤_, _<_};
 ghost use mathlib.Core.Bool.{cond};
@@ -122,12 +121,12 @@ fn place(negative: bool, digits: u64, up: usize, down: usize) -> NumberAnswer
         if 400 < up - down {
             return NumberAnswer::OutOfReach;
         }
-        return NumberAnswer::Number(double(decimal_bits(negative, digits, up - down, 0)));
+        return NumberAnswer::Number(decimal_double(negative, digits, up - down, 0));
     }
     if 400 < down - up {
         return NumberAnswer::OutOfReach;
     }
-    NumberAnswer::Number(double(decimal_bits(negative, digits, 0, down - up)))
+    NumberAnswer::Number(decimal_double(negative, digits, 0, down - up))
 }
 
 // Whether there is a digit neither before the point nor after it.

@@ -14,23 +14,23 @@ times-requires : tie.Need-times-requires
 times-requires c κs =
     let s = c .before .before .before in
     let num = c .before .before .limbs-of in
-    let e : length (num .result) ≡ 44 = search needs in
+    let e : length (num .result) ≡ 47 = search needs in
     rw (e, num .ensures) (million-room (s .args .significand) (s .pre .0))
 
 times-power-requires : tie.Need-times-power-requires
 times-power-requires c κs =
     let s = c .before .before .before .before .before .before in
     let den = c .before .before .before .before .limbs-of2 in
-    let e : length (den .result) ≡ 44 = search needs in
-    (omega arith, rw (e, den .ensures) (once-below (1 * 2 ^ (s .args .shift + 63)) 2 (2 ^ (32 * 44)) (omega arith) (unit-room (s .args .shift) (s .pre .2))))
+    let e : length (den .result) ≡ 47 = search needs in
+    (omega arith, rw (e, den .ensures) (once-below (1 * 2 ^ (s .args .shift + 63)) 2 (2 ^ (32 * 47)) (omega arith) (unit-room (s .args .shift) (s .pre .2))))
 
 nearest-quotient-requires : tie.Need-nearest-quotient-requires
 nearest-quotient-requires c κs =
     let s = c .before .before .before .before .before .before .before .before .before .before in
     let num = c .before .before .before .before .before .before .times in
     let den = c .before .before .before .times-power in
-    let m : length (num .last .0) ≡ 44 = search needs in
-    let n : length (den .last .0) ≡ 44 = search needs in
+    let m : length (num .last .0) ≡ 47 = search needs in
+    let n : length (den .last .0) ≡ 47 = search needs in
     let digits : valueOf (num .last .0) ≡ s .args .significand * 1000000 = num .ensures ∙ ap (_* 1000000) (c .before .before .before .before .before .before .before .before .before .limbs-of .ensures) in
     let unit : valueOf (den .last .0) ≡ 1 * 2 ^ (s .args .shift + 63) = den .ensures ∙ ap (_* 2 ^ (s .args .shift + 63)) (c .before .before .before .before .before .before .before .before .limbs-of2 .ensures) in
     let proper : Proper (num .last .0) (den .last .0) = record {

@@ -14,9 +14,9 @@ returns c =
 
 returns-2 : tie.Need-returns-2
 returns-2 c =
-    let a = c .before .before .before .before .args in
-    let x = double-is (a .negative) (a .digits) (a .up) (a .down) (a .up - a .down) 0 (c .before .decimal-bits .result) (c .double .result) (c .double .ensures) (c .before .decimal-bits .ensures) refl (omega arith) in
-    placed-near (a .negative) (a .digits) (a .up) (a .down) (omega arith) (omega arith) (c .double .result) x
+    let a = c .before .before .before .args in
+    let x = double-is (a .negative) (a .digits) (a .up) (a .down) (a .up - a .down) 0 (c .decimal-double .result) (c .decimal-double .ensures) refl (omega arith) in
+    placed-near (a .negative) (a .digits) (a .up) (a .down) (omega arith) (omega arith) (c .decimal-double .result) x
 
 returns-3 : tie.Need-returns-3
 returns-3 c =
@@ -25,9 +25,9 @@ returns-3 c =
 
 returns-4 : tie.Need-returns-4
 returns-4 c =
-    let a = c .before .before .before .before .args in
-    let x = double-is (a .negative) (a .digits) (a .up) (a .down) 0 (a .down - a .up) (c .before .decimal-bits2 .result) (c .double2 .result) (c .double2 .ensures) (c .before .decimal-bits2 .ensures) (omega arith) refl in
-    placed-near (a .negative) (a .digits) (a .up) (a .down) (omega arith) (omega arith) (c .double2 .result) x
+    let a = c .before .before .before .args in
+    let x = double-is (a .negative) (a .digits) (a .up) (a .down) 0 (a .down - a .up) (c .decimal-double2 .result) (c .decimal-double2 .ensures) (omega arith) refl in
+    placed-near (a .negative) (a .digits) (a .up) (a .down) (omega arith) (omega arith) (c .decimal-double2 .result) x
 
 pub place-spec : {M : Type 1} → statement M
 place-spec =
@@ -37,9 +37,7 @@ place-spec =
     returns
     (λ c. search needs)
     (λ c κs. search needs)
-    (λ c κs. search needs)
     returns-2
     returns-3
-    (λ c κs. search needs)
     (λ c κs. search needs)
     returns-4)
