@@ -26,26 +26,14 @@ returns c =
     let t = ne-eqb (length (now (c .before .before .before .args .moved))) 129 (c .if1 .taken) in
     (rw t, (rw t, λ e. absurd (omega arith)))
 
-fault-requires : tie.Need-fault-requires
-fault-requires c κs = search needs
-
-enum-told : tie.Need-enum-told
-enum-told c = search needs
-
 -- where no fault was found, the deck is valid
 valid : (c : tie.After-enum-told) → isDeck (formOf (c .before .before .before .before .before .before .args .from)) (now (c .before .before .before .before .before .before .args .words)) ≡ true
 valid c =
     let a = c .before .before .before .before .before .before .args in
     no-fault (formOf (a .from)) (now (a .words)) (sym (c .before .before .fault .ensures) ∙ c .enum-told .given .1)
 
-slice-aggregate-unpack : tie.Need-slice-aggregate-unpack
-slice-aggregate-unpack c = search needs
-
 unpack-requires : tie.Need-unpack-requires
 unpack-requires c κs = (valid (c .before), search needs)
-
-other-requires : tie.Need-other-requires
-other-requires c κs = search needs
 
 -- what was read is the configuration
 configuration : (c : tie.After-unpack) → take (c .unpack .result) (c .unpack .last .1 .1 .0)
@@ -73,12 +61,6 @@ slice-aggregate-pack c = simp length-take (omega (arith, count (c .before .befor
 
 pack-requires : tie.Need-pack-requires
 pack-requires c κs = (simp length-take (omega (arith, count (c .before .before .before .before))), search needs)
-
-enum-known-place : tie.Need-enum-known-place
-enum-known-place c = search needs
-
-same-length : tie.Need-same-length
-same-length c = search needs
 
 returns-2 : tie.Need-returns-2
 unfolding moveFigures moveWords
@@ -115,15 +97,15 @@ move-deck-spec =
     tie.close
     (tie.spec
     returns
-    fault-requires
-    enum-told
-    slice-aggregate-unpack
+    (λ c κs. search needs)
+    (λ c. search needs)
+    (λ c. search needs)
     unpack-requires
-    other-requires
+    (λ c κs. search needs)
     array-share-prefix-entries
     slice-aggregate-pack
     pack-requires
-    enum-known-place
-    same-length
+    (λ c. search needs)
+    (λ c. search needs)
     returns-2
     returns-3)

@@ -19,24 +19,12 @@ returns : tie.Need-returns
 unfolding readFigures readEntries
 returns c = let t = ne-eqb (length (now (c .before .before .before .args .entries))) 128 (c .if1 .taken) in (rw t, rw t)
 
-fault-requires : tie.Need-fault-requires
-fault-requires c κs = search needs
-
-enum-told : tie.Need-enum-told
-enum-told c = search needs
-
 -- where no fault was found, the deck is valid
 valid : (c : tie.After-enum-told) → isDeck (formOf (c .before .before .before .before .before .before .args .form)) (now (c .before .before .before .before .before .before .args .words)) ≡ true
 valid c = no-fault (formOf (c .before .before .before .before .before .before .args .form)) (now (c .before .before .before .before .before .before .args .words)) (sym (c .before .before .fault .ensures) ∙ c .enum-told .given .1)
 
 unpack-requires : tie.Need-unpack-requires
 unpack-requires c κs = (valid (c .before), c .before .before .before .before .if1 .left)
-
-enum-known-place : tie.Need-enum-known-place
-enum-known-place c = search needs
-
-same-length : tie.Need-same-length
-same-length c = search needs
 
 returns-2 : tie.Need-returns-2
 unfolding readFigures readEntries
@@ -61,10 +49,10 @@ read-spec =
     tie.close
     (tie.spec
     returns
-    fault-requires
-    enum-told
+    (λ c κs. search needs)
+    (λ c. search needs)
     unpack-requires
-    enum-known-place
-    same-length
+    (λ c. search needs)
+    (λ c. search needs)
     returns-2
     returns-3)

@@ -26,9 +26,6 @@ returns-2 c =
     let u = ne-eqb (length (now (a .words))) 129 (c .if2 .taken) in
     (rw (t, u), rw (t, u))
 
-first-too-high-requires : tie.Need-first-too-high-requires
-first-too-high-requires c κs = search needs
-
 returns-3 : tie.Need-returns-3
 unfolding writeFigures writeWords
 returns-3 c =
@@ -37,12 +34,6 @@ returns-3 c =
     let u = eq-eqb (length (now (a .words))) 129 (c .before .before .if2 .left) in
     let h = any-true tooHigh (now (a .configuration)) (omega arith) in
     (rw (t, u, h), rw (t, u, h))
-
-pack-requires : tie.Need-pack-requires
-pack-requires c κs = search needs
-
-same-length : tie.Need-same-length
-same-length c = search needs
 
 returns-4 : tie.Need-returns-4
 unfolding writeFigures writeWords
@@ -61,8 +52,8 @@ write-spec =
     (tie.spec
     returns
     returns-2
-    first-too-high-requires
+    (λ c κs. search needs)
     returns-3
-    pack-requires
-    same-length
+    (λ c κs. search needs)
+    (λ c. search needs)
     returns-4)

@@ -32,12 +32,6 @@ returns c =
     let words = now (a .words) in
     sym (fault-none form words (c .if1 .taken))
 
-shared-slice-read-of : tie.Need-shared-slice-read-of Inv-loop μ-loop
-shared-slice-read-of c = search needs
-
-of-requires : tie.Need-of-requires Inv-loop μ-loop
-of-requires c κs = search needs
-
 returns-2 : tie.Need-returns-2 Inv-loop μ-loop
 returns-2 c =
     let a = c .before .before .before .before .before .before .args in
@@ -45,9 +39,6 @@ returns-2 c =
     let words = now (a .words) in
     let e = c .before .before .of .ensures in
     sym (fault-first form words (omega arith) (rw (ne-eqb (kindOf (getD words 0 0)) 1 (λ k. c .if2 .taken (e .0 ∙ k)))))
-
-cast-left : tie.Need-cast-left Inv-loop μ-loop
-cast-left c = search needs
 
 returns-3 : tie.Need-returns-3 Inv-loop μ-loop
 returns-3 c =
@@ -57,9 +48,6 @@ returns-3 c =
     let e = c .before .before .before .before .of .ensures in
     sym (fault-first form words (omega arith) (rw (sym (e .0) ∙ c .before .before .if2 .left, lt-leb (payloadOf (getD words 0 0)) 128 (omega arith))))
 
-nothing-requires : tie.Need-nothing-requires Inv-loop μ-loop
-nothing-requires c κs = search needs
-
 loop-holds : tie.Need-loop-holds Inv-loop μ-loop
 loop-holds c =
     let a = c .before .before .before .before .before .before .before .before .before .args in
@@ -67,18 +55,6 @@ loop-holds c =
     let words = now (a .words) in
     let e = c .before .before .before .before .before .of .ensures in
     (omega arith, rw (c .nothing .ensures, e .1) (fault-rest form words (omega arith) (rw (sym (e .0) ∙ c .before .before .before .if2 .left, le-leb (payloadOf (getD words 0 0)) 128 (omega arith)))))
-
-mul-of : tie.Need-mul-of Inv-loop μ-loop
-mul-of c = search needs
-
-shared-slice-read-of-2 : tie.Need-shared-slice-read-of-2 Inv-loop μ-loop
-shared-slice-read-of-2 c = search needs
-
-of-requires-2 : tie.Need-of-requires-2 Inv-loop μ-loop
-of-requires-2 c κs = search needs
-
-may-follow-requires : tie.Need-may-follow-requires Inv-loop μ-loop
-may-follow-requires c κs = search needs
 
 -- whether the word's stretch may follow is what the call said
 follows : (c : tie.After-may-follow Inv-loop μ-loop) → mayFollow (formOf (c .before .before .before .before .before .before .before .before .before .before .before .before .before .before .args .form)) (c .before .before .before .before .loop .before) (formOf (c .before .before .before .before .before .before .before .before .before .before .before .before .before .before .args .form) .stretchOf (getD (now (c .before .before .before .before .before .before .before .before .before .before .before .before .before .before .args .words)) (c .before .before .before .before .loop .i) 0)) ≡ c .may-follow .result
@@ -102,12 +78,6 @@ returns-5 c =
     let run : c .before .before .before .before .of2 .result .run ≡ form .stretchOf (getD words (l .i) 0) .run = ap (λ (s : Stretch). s .run) (c .before .before .before .before .of2 .ensures) in
     sym (l .inv .1 ∙ walk-stops form words (l .i) (l .before) (l .left) (c .before .before .before .before .before .before .loop-test .taken)
     (rw (lt-leb (form .stretchOf (getD words (l .i) 0) .run) (l .left) (omega arith)) (and-false (mayFollow form (l .before) (form .stretchOf (getD words (l .i) 0))))))
-
-add-i : tie.Need-add-i Inv-loop μ-loop
-add-i c = search needs
-
-loop-less : tie.Need-loop-less Inv-loop μ-loop
-loop-less c = search needs
 
 loop-again : tie.Need-loop-again Inv-loop μ-loop
 loop-again c =
@@ -145,21 +115,21 @@ fault-spec =
     Inv-loop
     μ-loop
     returns
-    shared-slice-read-of
-    of-requires
+    (λ c. search needs)
+    (λ c κs. search needs)
     returns-2
-    cast-left
+    (λ c. search needs)
     returns-3
-    nothing-requires
+    (λ c κs. search needs)
     loop-holds
-    mul-of
-    shared-slice-read-of-2
-    of-requires-2
-    may-follow-requires
+    (λ c. search needs)
+    (λ c. search needs)
+    (λ c κs. search needs)
+    (λ c κs. search needs)
     returns-4
     returns-5
-    add-i
-    loop-less
+    (λ c. search needs)
+    (λ c. search needs)
     loop-again
     returns-6
     returns-7)

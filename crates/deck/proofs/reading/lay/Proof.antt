@@ -17,17 +17,8 @@ Inv-loop entries₀ at occupant end i₀ entries i =
 abbrev μ-loop : tie.MeasureT-loop
 μ-loop entries₀ at occupant end i₀ entries i = length entries - i
 
-add-end : tie.Need-add-end Inv-loop μ-loop
-add-end c = search needs
-
 loop-holds : tie.Need-loop-holds Inv-loop μ-loop
 loop-holds c = (omega arith, omega arith, omega arith, refl, refl)
-
-slice-write-entries : tie.Need-slice-write-entries Inv-loop μ-loop
-slice-write-entries c = search needs
-
-add-i : tie.Need-add-i Inv-loop μ-loop
-add-i c = search needs
 
 loop-less : tie.Need-loop-less Inv-loop μ-loop
 loop-less c = simp length-set (omega arith)
@@ -39,9 +30,6 @@ loop-again c =
     let end = a .at + a .stretch .run in
     let n = length-set (l .entries) (l .i) (a .stretch .occupant) in
     (omega arith, omega arith, omega arith, n ∙ l .inv .3, sets-run (l .entries) (a .stretch .occupant) (l .i) end (c .loop-test .taken) ∙ l .inv .4)
-
-same-length : tie.Need-same-length Inv-loop μ-loop
-same-length c = search needs
 
 returns : tie.Need-returns Inv-loop μ-loop
 returns c =
@@ -57,11 +45,11 @@ lay-spec =
     (tie.spec
     Inv-loop
     μ-loop
-    add-end
+    (λ c. search needs)
     loop-holds
-    slice-write-entries
-    add-i
+    (λ c. search needs)
+    (λ c. search needs)
     loop-less
     loop-again
-    same-length
+    (λ c. search needs)
     returns)

@@ -28,15 +28,6 @@ loop-holds : tie.Need-loop-holds Inv-loop μ-loop
 unfolding configurationOf
 loop-holds c = (refl, omega arith, refl)
 
-mul-of : tie.Need-mul-of Inv-loop μ-loop
-mul-of c = search needs
-
-shared-slice-read-of : tie.Need-shared-slice-read-of Inv-loop μ-loop
-shared-slice-read-of c = search needs
-
-of-requires : tie.Need-of-requires Inv-loop μ-loop
-of-requires c κs = search needs
-
 lay-requires : tie.Need-lay-requires Inv-loop μ-loop
 lay-requires c κs =
     let a = c .before .before .before .before .before .before .before .args in
@@ -44,12 +35,6 @@ lay-requires c κs =
     let n = laid-length (formOf (a .form)) (now (a .words)) (l .i) (c .before .before .before .loop-test .taken) (c .of .result) (c .of .ensures) in
     let few = configuration-few (formOf (a .form)) (now (a .words)) (c .before .before .before .before .before .before .before .pre .0) in
     omega arith
-
-add-i : tie.Need-add-i Inv-loop μ-loop
-add-i c = search needs
-
-loop-less : tie.Need-loop-less Inv-loop μ-loop
-loop-less c = search needs
 
 loop-again : tie.Need-loop-again Inv-loop μ-loop
 loop-again c =
@@ -60,9 +45,6 @@ loop-again c =
     let laid = c .before .before .lay .ensures in
     let n = laid-length (formOf (a .form)) (now (a .words)) (l .i) h (s .result) (s .ensures) in
     (omega (arith, c .before .before .lay .kept .0), omega arith, rw (laid .0, laid .1) (laid-more (formOf (a .form)) (now (a .words)) (l .i) h (s .result) (s .ensures) (l .entries) (l .at) ∙ l .inv .2))
-
-same-length : tie.Need-same-length Inv-loop μ-loop
-same-length c = search needs
 
 returns : tie.Need-returns Inv-loop μ-loop
 returns c =
@@ -79,12 +61,12 @@ unpack-spec =
     Inv-loop
     μ-loop
     loop-holds
-    mul-of
-    shared-slice-read-of
-    of-requires
+    (λ c. search needs)
+    (λ c. search needs)
+    (λ c κs. search needs)
     lay-requires
-    add-i
-    loop-less
+    (λ c. search needs)
+    (λ c. search needs)
     loop-again
-    same-length
+    (λ c. search needs)
     returns)

@@ -19,12 +19,6 @@ Inv-loop configuration at occupant end₀ end =
 abbrev μ-loop : tie.MeasureT-loop
 μ-loop configuration at occupant end₀ end = length configuration - end
 
-shared-slice-read-occupant : tie.Need-shared-slice-read-occupant Inv-loop μ-loop
-shared-slice-read-occupant c = search needs
-
-in-runs-requires : tie.Need-in-runs-requires Inv-loop μ-loop
-in-runs-requires c κs = search needs
-
 returns : tie.Need-returns Inv-loop μ-loop
 returns c =
     let a = c .before .before .before .before .args in
@@ -34,19 +28,10 @@ returns c =
 runs-here : (c : tie.Else1 Inv-loop μ-loop) → formOf (c .before .before .before .before .args .form) .inRuns (getD (now (c .before .before .before .before .args .configuration)) (c .before .before .before .before .args .at) 0) ≡ true
 runs-here c = sym (c .before .in-runs .ensures) ∙ not-false (c .before .in-runs .result) (c .if1 .left)
 
-add-end : tie.Need-add-end Inv-loop μ-loop
-add-end c = search needs
-
 loop-holds : tie.Need-loop-holds Inv-loop μ-loop
 loop-holds c =
     let a = c .before .before .before .before .args in
     (omega arith, omega arith, hold-one (now (a .configuration)) (a .at) (c .before .before .before .before .pre))
-
-shared-slice-read-if2 : tie.Need-shared-slice-read-if2 Inv-loop μ-loop
-shared-slice-read-if2 c = search needs
-
-sub-result : tie.Need-sub-result Inv-loop μ-loop
-sub-result c = search needs
 
 returns-2 : tie.Need-returns-2 Inv-loop μ-loop
 returns-2 c =
@@ -55,20 +40,11 @@ returns-2 c =
     let runs = runs-here (c .before .before .before .before) in
     (omega arith, omega arith, run-first (now (a .configuration)) (formOf (a .form)) (a .at) (l .end) (l .inv .0) runs (l .inv .2) (at-other (c .before .before .loop-test .taken) (λ e. omega arith)))
 
-add-end-2 : tie.Need-add-end-2 Inv-loop μ-loop
-add-end-2 c = search needs
-
-loop-less : tie.Need-loop-less Inv-loop μ-loop
-loop-less c = search needs
-
 loop-again : tie.Need-loop-again Inv-loop μ-loop
 loop-again c =
     let a = c .before .before .before .before .before .before .before .before .args in
     let l = c .before .before .before .loop in
     (omega arith, omega arith, hold-more (now (a .configuration)) (getD (now (a .configuration)) (a .at) 0) (a .at) (l .end) (omega arith) (c .before .before .loop-test .taken) (omega arith) (l .inv .2))
-
-sub-result-2 : tie.Need-sub-result-2 Inv-loop μ-loop
-sub-result-2 c = search needs
 
 returns-3 : tie.Need-returns-3 Inv-loop μ-loop
 returns-3 c =
@@ -82,16 +58,16 @@ run-at-spec =
     (tie.spec
     Inv-loop
     μ-loop
-    shared-slice-read-occupant
-    in-runs-requires
+    (λ c. search needs)
+    (λ c κs. search needs)
     returns
-    add-end
+    (λ c. search needs)
     loop-holds
-    shared-slice-read-if2
-    sub-result
+    (λ c. search needs)
+    (λ c. search needs)
     returns-2
-    add-end-2
-    loop-less
+    (λ c. search needs)
+    (λ c. search needs)
     loop-again
-    sub-result-2
+    (λ c. search needs)
     returns-3)
