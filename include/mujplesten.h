@@ -39,15 +39,22 @@
  *    6 unknown  a scaffold name that is neither the base of a strand glue nor that base with one star
  *    7 glues    the strands use more than 31 base names
  *    8 twice    two energy entries name the same unordered pair of known names
- *    9 range    a number not finite or outside its range; an entry of a configuration above 63 that is
- *               to be written as a deck
+ *    9 range    a number not finite or outside its range, but for those of 16 and 17; an entry of a
+ *               configuration above 63 that is to be written as a deck
  *   10 null     strand 0 has a glue, or row or column 0 of a table a nonzero cell
  *   11 stranger a configuration holds, at some position, neither 0 nor a friend
  *   12 many     a design of more than 1,048,576 states
  *   13 rank     a rank at or above the number of states
- *   14 deck     a stored configuration that breaks the word rules; it also gives the place
+ *   14 deck     a stored configuration that breaks the word rules
+ *   16 ambient  RT or an excess temperature of a design not finite or outside its range
+ *   17 potential  the potential of a strand that is a friend somewhere not finite or outside its range
  *
- * If several apply, the lowest is given.
+ * If several apply, the lowest is given. Four of them say where the fault lies:
+ *
+ *    9 of a design   the lowest bad cell: 64 * row + column in dg, 4,096 more in ds
+ *   14               the index of the faulty word
+ *   16               the first that is out: 0 rt, 1 strand_excess, 2 scaffold_excess
+ *   17               the lowest such strand
  *
  * Units. Free energies (dg, strengths, rt) are in kcal/mol, entropies (ds) in kcal/mol/K,
  * temperatures and excess temperatures in kelvin.
@@ -176,8 +183,7 @@ uint32_t mj_params(
  *
  * Every call checks all of the design. A strand is a friend at a position if dG or dS is nonzero at
  * the cell of the position's glue and the strand's bottom glue. A configuration has an occupant for
- * each position, 0 for an empty place; a state is one that has 0 or a friend at each position. The
- * place is written, though no refusal of a design has one: MJ_NOWHERE. */
+ * each position, 0 for an empty place; a state is one that has 0 or a friend at each position. */
 #define MJ_DESIGN                                                                              \
     const uint8_t *scaffold, size_t positions, const uint8_t *glues, size_t glue_count,        \
         const double *dg, size_t dg_cells, const double *ds, size_t ds_cells,                  \
@@ -185,37 +191,38 @@ uint32_t mj_params(
         double scaffold_excess
 
 /* The bond between strand x and strand y to the east of it: an energy over RT
- * (bond_between_strands). Replies 1, 9, 10. */
+ * (bond_between_strands). Replies 1, 9, 10, 16, 17. */
 uint32_t mj_strand_bond(MJ_DESIGN, uint8_t x, uint8_t y, uint64_t *place, double *bond);
 
-/* The bond between the scaffold at a position and a strand (bond_with_scaffold). Replies 1, 9, 10. */
+/* The bond between the scaffold at a position and a strand (bond_with_scaffold). Replies 1, 9, 10,
+ * 16, 17. */
 uint32_t mj_scaffold_bond(MJ_DESIGN, size_t position, uint8_t strand, uint64_t *place,
                           double *bond);
 
 /* The friends of a position, in rising order, into 64 lent entries, of which it fills as many as
- * there are friends (count); the rest is kept, and on a refusal all is. Replies 1, 9, 10. */
+ * there are friends (count); the rest is kept, and on a refusal all is. Replies 1, 9, 10, 16, 17. */
 uint32_t mj_friends(MJ_DESIGN, size_t position, uint8_t *entries, size_t lent, uint64_t *place,
                     uint64_t *count);
 
-/* How many states there are. Replies 1, 9, 10, 12. */
+/* How many states there are. Replies 1, 9, 10, 12, 16, 17. */
 uint32_t mj_states(MJ_DESIGN, uint64_t *place, uint64_t *count);
 
 /* The state at a rank in the order of system_states, into one lent entry for each position; on a
- * refusal all are kept. Replies 1, 9, 10, 12, 13. */
+ * refusal all are kept. Replies 1, 9, 10, 12, 13, 16, 17. */
 uint32_t mj_state(MJ_DESIGN, uint64_t rank, uint8_t *entries, size_t lent, uint64_t *place);
 
-/* The state energy of a configuration (g_system), in kcal/mol. Replies 1, 9, 10, 11. */
+/* The state energy of a configuration (g_system), in kcal/mol. Replies 1, 9, 10, 11, 16, 17. */
 uint32_t mj_state_energy(MJ_DESIGN, const uint8_t *configuration, size_t n, uint64_t *place,
                          double *energy);
 
 /* The chain energy of a configuration: the sum as it is, a plain number, and RT times it, in kcal/mol.
- * Replies 1, 9, 10, 11. */
+ * Replies 1, 9, 10, 11, 16, 17. */
 uint32_t mj_chain_energy(MJ_DESIGN, const uint8_t *configuration, size_t n, uint64_t *place,
                          double *sum, double *energy);
 
 /* The search (mfe_configuration): the configuration with the lowest RT times chain energy, into one
  * lent entry for each position, 0 for an empty place, and that energy in kcal/mol; on a refusal all
- * entries are kept. Replies 1, 9, 10. */
+ * entries are kept. Replies 1, 9, 10, 16, 17. */
 uint32_t mj_search(MJ_DESIGN, uint8_t *configuration, size_t lent, uint64_t *place, double *energy);
 
 #undef MJ_DESIGN

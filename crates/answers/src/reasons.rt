@@ -33,6 +33,7 @@ pub enum Why {
     // range
     EnergyRange,
     KelvinRange,
+    // ambient, potential
     AmbientRange,
     PotentialRange,
     // Whatever else a call may refuse.

@@ -352,24 +352,12 @@ fn search(
         ambient,
         reads::bytes(&mut configuration, positions),
     ) {
-        EnergyAnswer::Refused(refusal, _) => refuse(
+        EnergyAnswer::Refused(refusal, place) => refuse(
             style,
             path,
             text,
             refusal,
-            unfit::of_design(
-                text,
-                kinds,
-                lines,
-                words,
-                strand_rows,
-                scaffold,
-                glues,
-                dg,
-                ds,
-                potentials,
-                ambient,
-            ),
+            unfit::of_design(refusal, place, text, kinds, lines, words, strand_rows),
         ),
         EnergyAnswer::Energy(energy) => {
             let states = number_of_states(scaffold, glues, dg, ds, potentials, ambient);

@@ -30,7 +30,7 @@ pub fn rows() -> Vec<Row> {
 }
 
 pub fn remarks() -> Vec<String> {
-    let (made, _) = measure(&mut row(&Rc::new(full()), false));
+    let made = measure(&mut row(&Rc::new(full()), false)).least.rust;
     vec![format!("Rust, making those parameters: {made:.1} ns")]
 }
 

@@ -1,5 +1,5 @@
-//! Port against Rust, in one process and on the same inputs: medians, and port time over Rust
-//! time. A new group of rows is a file of its own and an entry in `main`.
+//! Port against Rust, in one process and on the same inputs: the least of some samples, and port time
+//! over Rust time, of the least and of the medians. A new group of rows is a file of its own and an entry in `main`.
 
 mod both;
 mod builds;
@@ -8,7 +8,7 @@ mod measure;
 mod searches;
 mod sequences;
 
-use measure::{measure, Row};
+use measure::{measure, Measured, Row};
 
 fn main() {
     let groups = [
@@ -18,8 +18,12 @@ fn main() {
         searches::rows(),
     ];
     let rows: Vec<Row> = groups.into_iter().flatten().collect();
-    println!("ns for one input, median of {} samples", measure::SAMPLES);
-    println!("{:44} {:>9} {:>9} {:>7}", "", "Rust", "port", "ratio");
+    let samples = measure::SAMPLES;
+    println!("ns for one input, the least of {samples} samples; port over Rust, then that of the medians");
+    println!(
+        "{:44} {:>9} {:>9} {:>7} {:>7}",
+        "", "Rust", "port", "ratio", "median"
+    );
     let mut cleared = "";
     for mut row in rows {
         if row.cleared != cleared {
@@ -27,8 +31,10 @@ fn main() {
             println!("cleared before: {cleared}");
         }
         let label = row.label.clone();
-        let (rust, port) = measure(&mut row);
-        println!("{label:44} {rust:9.1} {port:9.1} {:7.2}", port / rust);
+        let Measured { least, median } = measure(&mut row);
+        let (rust, port) = (least.rust, least.port);
+        let (ratio, medians) = (least.ratio(), median.ratio());
+        println!("{label:44} {rust:9.1} {port:9.1} {ratio:7.2} {medians:7.2}");
     }
     for remark in builds::remarks().into_iter().chain(searches::remarks()) {
         println!("{remark}");

@@ -5,7 +5,7 @@
 //! time; the Rust checks nothing.
 
 use crate::both::{ambient, Both};
-use crate::measure::{measure, Row};
+use crate::measure::{measure, Row, Times};
 use compare::judge::design::{Lent, CELLS};
 use compare::random::Random;
 use mujplesten as mj;
@@ -42,18 +42,25 @@ pub fn remarks() -> Vec<String> {
     let mut remarks = vec!["port, search of 61 friends, ns for a position:".to_string()];
     for positions in LENGTHS {
         let both = Rc::new(settling(positions, 61, 61));
-        let (_, port) = measure(&mut row(String::new(), &both, WARM));
-        remarks.push(format!("{positions:44} {:9.1}", port / positions as f64));
+        let least = measure(&mut row(String::new(), &both, WARM)).least;
+        let for_one = least.port / positions as f64;
+        remarks.push(format!("{positions:44} {for_one:9.1}"));
     }
     let smallest = Rc::new(settling(20, 3, 3));
     let check = count_of_no_position(&smallest);
-    let (check, whole) = measure(&mut beside_the_search(&smallest, check));
+    let Times {
+        rust: check,
+        port: whole,
+    } = measure(&mut beside_the_search(&smallest, check)).least;
     let share = |part: f64, whole: f64| format!("{part:.1}, or {:.0} %", 100.0 * part / whole);
     remarks.push(format!("port, 20 x 3 friends of 3 strands: {whole:.1} ns"));
     let checked = share(check, whole);
     remarks.push(format!("  the check of {} cells: {checked}", 2 * CELLS));
     let fixed = search_of_no_position(&smallest);
-    let (fixed, whole) = measure(&mut beside_the_search(&smallest, fixed));
+    let Times {
+        rust: fixed,
+        port: whole,
+    } = measure(&mut beside_the_search(&smallest, fixed)).least;
     let fixed = share(fixed, whole);
     remarks.push(format!("  all that hangs on no position: {fixed}"));
     remarks

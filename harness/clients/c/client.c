@@ -313,11 +313,44 @@ static void designs(void)
     states_and_energies();
     searches();
     potentials[2] = NAN;
-    reply("a potential", mj_states(DESIGN, &place, &n), 9);
+    reply("a potential", mj_states(DESIGN, &place, &n), 17);
+    count("its strand", place == 2);
     count("no count", n == 0);
-    potentials[2] = -1.0;
     dg[0][7] = 1.0;
-    reply("a null cell", mj_states(DESIGN, &place, &n), 10);
+    reply("a null cell beside it", mj_states(DESIGN, &place, &n), 10);
+    count("no place", place == MJ_NOWHERE);
+    ds[63][63] = 9.0;
+    reply("a cell beside both", mj_states(DESIGN, &place, &n), 9);
+    count("its place", place == 8191);
+    dg[1][1] = NAN;
+    reply("a lower cell", mj_states(DESIGN, &place, &n), 9);
+    count("its place", place == 65);
+    dg[1][1] = -0.5;
+    ds[63][63] = dg[0][7] = 0.0;
+}
+
+/* The ambient of a design that is else in order: RT, then the two excesses. */
+static void an_unfit_ambient(double rt, double strand_excess, double scaffold_excess, uint64_t which)
+{
+    uint8_t state[2] = {9, 9};
+    uint64_t place = unread;
+    double energy = unwritten;
+    reply("an ambient",
+          mj_search(scaffold, 2, glues, 9, dg[0], 4096, ds[0], 4096, potentials, 3, rt,
+                    strand_excess, scaffold_excess, state, 2, &place, &energy),
+          16);
+    count("its place", place == which);
+    figure("no energy", energy, 0.0);
+    count("entries kept", state[0] == 9 && state[1] == 9);
+}
+
+static void unfit_ambients(void)
+{
+    potentials[2] = NAN;
+    an_unfit_ambient(0.0, 2000.0, 0.0, 0);
+    an_unfit_ambient(0.5, 2000.0, (double)NAN, 1);
+    an_unfit_ambient(0.5, 0.0, -2000.0, 2);
+    potentials[2] = -1.0;
 }
 
 /* One strand with glues a, b* and c**, at the start of the text; after them two bases. */
@@ -384,6 +417,7 @@ int main(void)
     decks();
     decks_with_runs();
     designs();
+    unfit_ambients();
     names();
     params();
     printf("client: %u passed, %u failed\n", passed, failed);

@@ -6,7 +6,7 @@ use std::fmt;
 pub enum Reply {
     /// Answered; the figures as they stand on the line.
     Ok(String),
-    /// Refused with a number of document 01; 14 also gives the place of a word.
+    /// Refused with a number of the documents, and the place that some of them give.
     Refused { number: u32, place: Option<u64> },
     /// The Rust panicked (the oracle alone says this).
     Panic(String),

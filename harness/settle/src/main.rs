@@ -340,9 +340,7 @@ fn damaged(arguments: &Arguments, tally: &mut Tally) -> Result<(), String> {
         let texts: Vec<&[u8]> = files.iter().map(|(text, _)| text.as_slice()).collect();
         for (answer, (text, expected)) in arguments.settle.ask(&texts)?.iter().zip(&files) {
             let complaint = match expected {
-                Some((expected, line))
-                    if answer.reply != expected.reply || answer.line != *line =>
-                {
+                Some((expected, line)) if !is_as(answer, expected, *line) => {
                     Some(format!("expected {expected:?} at line {line:?}"))
                 }
                 _ => misplaced(answer, text),
@@ -357,6 +355,14 @@ fn damaged(arguments: &Arguments, tally: &mut Tally) -> Result<(), String> {
         }
         _ => Ok(()),
     }
+}
+
+/// The reply, the line and, where one is known, the word.
+fn is_as(answer: &Answer, expected: &Expected, line: Option<usize>) -> bool {
+    let word = expected.word.map(str::as_bytes);
+    answer.reply == expected.reply
+        && answer.line == line
+        && (word.is_none() || answer.word.as_deref() == word)
 }
 
 /// A line is one of the file's, and a word stands in it; of a long one the beginning, and dots.

@@ -75,15 +75,24 @@ impl Designs {
     }
 }
 
-/// One design in four has a fault.
+/// Two designs in five have a fault.
 fn spoil(random: &mut Random, one: &mut Lent) {
-    match random.below(16) {
+    match random.below(20) {
         0 => one.dg[random.below(4096)] = random.pick(&not_finite()),
         1 => one.rt = 9.0,
         2 => one.glues[0] = 1,
         3 => one.ds[64 * random.below(64)] = 1.0,
+        4 => one.ds[random.below(4096)] = -9.0,
+        5 => one.strand_excess = random.pick(&not_finite()),
+        6 => one.scaffold_excess = 1025.0,
+        7 => one.potentials[1..].fill(random.pick(&not_finite())),
         _ => {}
     }
+}
+
+/// The place of the first that is at fault.
+fn first(mut faults: impl Iterator<Item = bool>) -> Option<u64> {
+    faults.position(|fault| fault).map(|place| place as u64)
 }
 
 struct Asked<'a> {
@@ -93,6 +102,30 @@ struct Asked<'a> {
 }
 
 impl Asked<'_> {
+    /// The place of a number that has one is the first that is out: a cell, a number of the ambient.
+    /// Of the potentials it is one that is out, and not strand 0's.
+    fn is_placed(&self, place: &Figure<u64>, number: u32) -> bool {
+        let (design, told) = (self.design, place.told());
+        let out = |x: f64, low: f64, high: f64| !(low..=high).contains(&x);
+        let fits = match number {
+            9 => {
+                let dg = design.dg.iter().map(|x| out(*x, -1024.0, 1024.0));
+                first(dg.chain(design.ds.iter().map(|x| out(*x, -8.0, 8.0)))) == Some(told)
+            }
+            16 => {
+                let excesses = [design.strand_excess, design.scaffold_excess];
+                let excesses = excesses.map(|x| out(x, -1024.0, 1024.0));
+                first([out(design.rt, 0.125, 8.0)].into_iter().chain(excesses)) == Some(told)
+            }
+            17 => {
+                let potential = design.potentials.get(told as usize);
+                told > 0 && potential.is_some_and(|x| out(*x, -1024.0, 1024.0))
+            }
+            _ => told == mj::NOWHERE,
+        };
+        place.is_place(number) && fits
+    }
+
     fn call(&self, random: &mut Random, tally: &mut Tally) {
         let design = self.design;
         let (x, y) = (self.strand(random), self.strand(random));
@@ -102,19 +135,19 @@ impl Asked<'_> {
             0 => {
                 let mut bond = Figure::double();
                 let number = mj::strand_bond(design, x, y, place.lent(), bond.lent());
-                let fit = place.is_place(number) && bond.is_fit(number);
+                let fit = self.is_placed(&place, number) && bond.is_fit(number);
                 tally.call("strand_bond", number, fit);
             }
             1 => {
                 let mut bond = Figure::double();
                 let number = mj::scaffold_bond(design, position, x, place.lent(), bond.lent());
-                let fit = place.is_place(number) && bond.is_fit(number);
+                let fit = self.is_placed(&place, number) && bond.is_fit(number);
                 tally.call("scaffold_bond", number, fit);
             }
             2 => {
                 let mut count = Figure::whole();
                 let number = mj::states(design, place.lent(), count.lent());
-                let fit = place.is_place(number) && count.is_fit(number);
+                let fit = self.is_placed(&place, number) && count.is_fit(number);
                 tally.call("states", number, fit);
             }
             3 => self.friends(random, position, tally),
@@ -123,7 +156,7 @@ impl Asked<'_> {
                 let rank = random.pick(&[0, 1, any, u64::MAX]);
                 let mut entries = Guarded::new(near(random, self.positions), 0xa5);
                 let number = mj::state(design, rank, entries.lent(), place.lent());
-                let fit = place.is_place(number) && entries.is_fit(number);
+                let fit = self.is_placed(&place, number) && entries.is_fit(number);
                 tally.call("state", number, fit);
             }
             5 | 6 => self.energies(random, tally),
@@ -132,7 +165,7 @@ impl Asked<'_> {
                 let mut energy = Figure::double();
                 let number = mj::search(design, entries.lent(), place.lent(), energy.lent());
                 let written = entries.is_fit(number) && energy.is_fit(number);
-                tally.call("search", number, place.is_place(number) && written);
+                tally.call("search", number, self.is_placed(&place, number) && written);
             }
         }
     }
@@ -148,7 +181,7 @@ impl Asked<'_> {
         let slice = entries.lent();
         let number = mj::friends(self.design, position, slice, place.lent(), count.lent());
         let counted = count.is_fit(number) && count.told() <= 64;
-        let fit = place.is_place(number) && counted && entries.is_fit(number);
+        let fit = self.is_placed(&place, number) && counted && entries.is_fit(number);
         tally.call("friends", number, fit);
     }
 
@@ -162,7 +195,7 @@ impl Asked<'_> {
         let configuration: Vec<u8> = (0..length).map(|_| place(random)).collect();
         let (mut place, mut energy) = (Figure::whole(), Figure::double());
         let number = mj::state_energy(self.design, &configuration, place.lent(), energy.lent());
-        let fit = place.is_place(number) && energy.is_fit(number);
+        let fit = self.is_placed(&place, number) && energy.is_fit(number);
         tally.call("state_energy", number, fit);
         let (mut place, mut sum, mut energy) =
             (Figure::whole(), Figure::double(), Figure::double());
@@ -173,7 +206,7 @@ impl Asked<'_> {
             sum.lent(),
             energy.lent(),
         );
-        let fit = place.is_place(number) && sum.is_fit(number) && energy.is_fit(number);
+        let fit = self.is_placed(&place, number) && sum.is_fit(number) && energy.is_fit(number);
         tally.call("chain_energy", number, fit);
     }
 }

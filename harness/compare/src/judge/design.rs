@@ -1,7 +1,7 @@
-//! Document 01, "Bonds, friends, states", read once more: refusals and answers of every call that
-//! takes a design, from the documents alone.
+//! Document 01, "Bonds, friends, states", read once more, with the places that document 02 gives:
+//! refusals and answers of every call that takes a design, from the documents alone.
 
-use super::{out_of_range, Verdict};
+use super::{out_of_range, Holds, Verdict};
 
 const MOST_POSITIONS: usize = 128;
 const MOST_STRANDS: usize = 64;
@@ -27,16 +27,20 @@ pub struct Lent {
 /// Refusals. Each call has conditions of its own beside those of the design.
 impl Lent {
     /// "Every call that takes a design checks all of it." Nothing else can be looked up while a
-    /// size is wrong, and 1 is the lowest number.
+    /// size is wrong, and 1 is the lowest number. Of all other conditions each is asked by itself,
+    /// whatever the others say: the lowest that holds gives number and place.
     fn verdict(&self, own_size: bool, own: impl FnOnce() -> Vec<(u32, bool)>) -> Verdict {
         if own_size || self.wrong_sizes() {
             return Verdict::lowest(&[(1, true)]);
         }
-        let mut conditions = vec![(9, self.numbers_out_of_range()), (10, self.null_binds())];
-        // A design that is refused has no states of which a call could ask more.
-        if conditions.iter().all(|(_, holds)| !holds) {
-            conditions.extend(own());
-        }
+        let mut conditions = vec![
+            (9, self.bad_cell()),
+            (10, self.null_binds().into()),
+            (16, self.bad_ambient()),
+            (17, self.bad_potential()),
+        ];
+        let own = own().into_iter();
+        conditions.extend(own.map(|(number, holds)| (number, holds.into())));
         Verdict::lowest(&conditions)
     }
 
@@ -92,20 +96,29 @@ impl Lent {
             || self.glues.iter().any(high)
     }
 
-    fn numbers_out_of_range(&self) -> bool {
-        let cells = self.dg.iter().any(|x| out_of_range(*x, -1024.0, 1024.0))
-            || self.ds.iter().any(|x| out_of_range(*x, -8.0, 8.0));
-        let ambient = out_of_range(self.rt, 0.125, 8.0)
-            || out_of_range(self.strand_excess, -1024.0, 1024.0)
-            || out_of_range(self.scaffold_excess, -1024.0, 1024.0);
-        cells || ambient || self.potentials_out_of_range()
+    /// "The lowest bad cell, 64 × row + column in dG, 4,096 more in dS."
+    fn bad_cell(&self) -> Holds {
+        let dg = self.dg.iter().map(|x| out_of_range(*x, -1024.0, 1024.0));
+        let ds = self.ds.iter().map(|x| out_of_range(*x, -8.0, 8.0));
+        Holds::first(dg.chain(ds))
     }
 
-    /// "Only potentials of strands that are somewhere friends are read or checked", strand 0 among
-    /// them where a cell makes it one.
-    fn potentials_out_of_range(&self) -> bool {
+    /// "0, 1 or 2 for the first that is out in the order RT, strand excess, scaffold excess."
+    fn bad_ambient(&self) -> Holds {
+        let ambient = [
+            out_of_range(self.rt, 0.125, 8.0),
+            out_of_range(self.strand_excess, -1024.0, 1024.0),
+            out_of_range(self.scaffold_excess, -1024.0, 1024.0),
+        ];
+        Holds::first(ambient.into_iter())
+    }
+
+    /// "Only potentials of strands that are somewhere friends are read or checked": the lowest such
+    /// strand. Strand 0 is asked like any other; where it is a friend, 10 comes first.
+    fn bad_potential(&self) -> Holds {
         let unfit = |strand: usize| out_of_range(self.potentials[strand], -1024.0, 1024.0);
-        (0..self.strands()).any(|strand| unfit(strand) && self.is_somewhere_friend(strand))
+        let at_fault = |strand| unfit(strand) && self.is_somewhere_friend(strand);
+        Holds::first((0..self.strands()).map(at_fault))
     }
 
     fn null_binds(&self) -> bool {
@@ -271,6 +284,10 @@ pub(crate) mod tests {
         assert_eq!(empty.state_verdict(1, 0).number(), 13);
     }
 
+    fn refused(number: u32, place: Option<u64>) -> Verdict {
+        Verdict::Refused { number, place }
+    }
+
     #[test]
     fn the_lowest_number_is_given() {
         let mut lent = bench(&[1; 21], &[-2.0, -2.0]);
@@ -278,29 +295,93 @@ pub(crate) mod tests {
         assert_eq!(lent.energy_verdict(&[2; 21]).number(), 11);
         assert_eq!(lent.energy_verdict(&[3; 21]).number(), 11);
         assert_eq!(lent.energy_verdict(&[1; 20]).number(), 1);
+        lent.potentials[2] = f64::NAN;
+        assert_eq!(lent.search_verdict(21), Verdict::Admitted);
+        lent.potentials[1] = f64::NAN;
+        assert_eq!(lent.search_verdict(21), refused(17, Some(1)));
+        assert_eq!(lent.energy_verdict(&[2; 21]).number(), 11);
         lent.glues[2] = 1;
         assert_eq!(lent.energy_verdict(&[2; 21]).number(), 10);
-        lent.potentials[2] = f64::NAN;
-        assert_eq!(lent.energy_verdict(&[2; 21]).number(), 10);
-        lent.potentials[1] = f64::NAN;
-        assert_eq!(lent.energy_verdict(&[2; 21]).number(), 9);
+        lent.ds[4095] = f64::NAN;
+        assert_eq!(lent.energy_verdict(&[2; 21]), refused(9, Some(8191)));
         lent.scaffold[20] = 64;
-        assert_eq!(lent.energy_verdict(&[2; 21]).number(), 1);
+        assert_eq!(lent.energy_verdict(&[2; 21]), refused(1, None));
     }
 
-    /// Strand 0 is asked like any other: its potential is looked at where it is a friend.
+    /// The places that the documents have worked out.
     #[test]
-    fn strand_0_can_be_a_friend_before_it_is_refused() {
+    fn places_are_as_worked_out() {
+        let place = |change: &dyn Fn(&mut Lent)| {
+            let mut lent = bench(&[1, 7], &[-2.0; 7]);
+            change(&mut lent);
+            lent.count_verdict()
+        };
+        assert_eq!(place(&|d| d.dg[65] = f64::NAN), refused(9, Some(65)));
+        assert_eq!(place(&|d| d.ds[0] = 9.0), refused(9, Some(4096)));
+        assert_eq!(place(&|d| d.ds[4095] = -9.0), refused(9, Some(8191)));
+        let both = |d: &mut Lent| (d.dg[4095], d.ds[0]) = (1025.0, 9.0);
+        assert_eq!(place(&both), refused(9, Some(4095)));
+        let rt = |d: &mut Lent| (d.rt, d.strand_excess) = (0.0, 2000.0);
+        assert_eq!(place(&rt), refused(16, Some(0)));
+        let excesses = |d: &mut Lent| (d.strand_excess, d.scaffold_excess) = (2000.0, f64::NAN);
+        assert_eq!(place(&excesses), refused(16, Some(1)));
+        assert_eq!(
+            place(&|d| d.scaffold_excess = -1025.0),
+            refused(16, Some(2))
+        );
+        let potentials = |d: &mut Lent| (d.potentials[3], d.potentials[7]) = (f64::NAN, 1025.0);
+        assert_eq!(place(&potentials), refused(17, Some(7)));
+    }
+
+    /// Two faults at once: an ambient or a potential gives way to each lower number.
+    #[test]
+    fn an_ambient_or_a_potential_comes_last() {
+        let unfit: [(&dyn Fn(&mut Lent), Verdict); 2] = [
+            (&|d| d.rt = f64::NAN, refused(16, Some(0))),
+            (&|d| d.potentials[1] = f64::NAN, refused(17, Some(1))),
+        ];
+        for (fault, alone) in unfit {
+            let mut lent = bench(&[1, 2], &[-0.5, -2.0]);
+            fault(&mut lent);
+            assert_eq!(lent.energy_verdict(&[1, 2]), alone);
+            assert_eq!(lent.energy_verdict(&[2, 2]), refused(11, None));
+            assert_eq!(lent.state_verdict(0, 2), alone);
+            assert_eq!(lent.state_verdict(4, 2), refused(13, None));
+            let mut many = bench(&[1; 21], &[-2.0]);
+            fault(&mut many);
+            assert_eq!(many.count_verdict(), refused(12, None));
+            assert_eq!(many.state_verdict(0, 21), refused(12, None));
+            assert_eq!(many.search_verdict(21), alone);
+            let mut null = lent.clone();
+            null.dg[7] = 1.0;
+            assert_eq!(null.count_verdict(), refused(10, None));
+            lent.ds[7] = 9.0;
+            assert_eq!(lent.energy_verdict(&[2, 2]), refused(9, Some(4103)));
+        }
+        let mut both = bench(&[1], &[-2.0]);
+        (both.scaffold_excess, both.potentials[1]) = (1025.0, f64::NAN);
+        assert_eq!(both.count_verdict(), refused(16, Some(2)));
+        let mut empty = bench(&[], &[-2.0]);
+        (empty.rt, empty.potentials[1]) = (9.0, f64::NAN);
+        assert_eq!(empty.count_verdict(), refused(16, Some(0)));
+        empty.rt = 8.0;
+        assert_eq!(empty.count_verdict(), Verdict::Admitted);
+    }
+
+    /// Where strand 0 is a friend, its bottom glue or a cell of column 0 is null's: 10, whatever its
+    /// potential.
+    #[test]
+    fn the_potential_of_strand_0_decides_nothing() {
         let mut lent = bench(&[1], &[-2.0]);
         assert_eq!(lent.count_verdict(), Verdict::Admitted);
         lent.glues[1] = 1;
-        assert_eq!(lent.count_verdict().number(), 9);
+        assert_eq!(lent.count_verdict(), refused(10, None));
         lent.potentials[0] = 0.0;
-        assert_eq!(lent.count_verdict().number(), 10);
+        assert_eq!(lent.count_verdict(), refused(10, None));
         let mut lent = bench(&[1], &[-2.0]);
         lent.dg[GLUES] = -0.0;
         assert_eq!(lent.count_verdict(), Verdict::Admitted);
         lent.ds[GLUES] = 5e-324;
-        assert_eq!(lent.count_verdict().number(), 9);
+        assert_eq!(lent.count_verdict(), refused(10, None));
     }
 }

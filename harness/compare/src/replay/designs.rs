@@ -207,8 +207,7 @@ fn refused(random: &mut Random, lent: &Lent) -> Vec<Answered> {
     let stranger = vec![63; positions];
     let mut lines = vec![];
     let mut put = |question: String, verdict: Verdict| {
-        if let Some(refusal) = verdict.refusal() {
-            let answer = refusal.to_string();
+        if let Some(answer) = super::refused(verdict) {
             lines.push(Answered { question, answer });
         }
     };
@@ -240,9 +239,13 @@ fn refused(random: &mut Random, lent: &Lent) -> Vec<Answered> {
         _ => faulty.rt = f64::NAN,
     }
     lines.append(&mut setting(&faulty));
-    for question in ["mfe", "settled", "nstates"] {
-        let refusal = faulty.search_verdict(positions).refusal();
-        let answer = refusal.expect("faulty").to_string();
+    let search = faulty.search_verdict(positions);
+    for (question, verdict) in [
+        ("mfe", search),
+        ("settled", search),
+        ("nstates", faulty.count_verdict()),
+    ] {
+        let answer = super::refused(verdict).expect("faulty");
         let question = question.to_string();
         lines.push(Answered { question, answer });
     }

@@ -231,8 +231,8 @@ fn depends_on_the_order(lent: &Lent) -> bool {
 fn asked(lent: &Lent) -> Vec<Answered> {
     let mut lines = setting(lent);
     let mut put = |question: String, verdict: Verdict, figures: &dyn Fn() -> String| {
-        let answer = match verdict.refusal() {
-            Some(refusal) => refusal.to_string(),
+        let answer = match super::refused(verdict) {
+            Some(refusal) => refusal,
             None => format!("ok {}", figures()),
         };
         lines.push(Answered { question, answer });
@@ -339,6 +339,8 @@ mod tests {
             "refused 11",
             "refused 12",
             "refused 13",
+            "refused 16",
+            "refused 17",
         ] {
             assert!(met.contains(reply), "{reply}: {met:?}");
         }

@@ -30,7 +30,7 @@ pub const HEADER: &str = "\
 #   gsys PLACES                      ok ENERGY
 #   chain PLACES                     ok SUM ENERGY
 #   mfe, settled                     ok ENERGY, ok PLACES: what the search answers
-# or, in place of ok and its figures, refused NUMBER. Doubles are 16 hex digits, other numbers decimal.
+# or, in place of ok and its figures, refused NUMBER, without its place. Doubles are 16 hex digits, other numbers decimal.
 # A sequence or a name stands as it is, an empty one as -. PLACES are a byte for each place, 48 and the number of its strand, so
 # that 0 is an empty place; with no places they are -. Below 256 K the Rust's strand excess can be another number than
 # document 01's T - 310.15; there the Rust's scaffold excess, which is that, stands for both.
@@ -175,6 +175,14 @@ fn letters(s: &[u8]) -> String {
     }
 }
 
+/// A refusal as the list has it: the number alone.
+fn refused(verdict: Verdict) -> Option<String> {
+    match verdict.number() {
+        0 => None,
+        number => Some(format!("refused {number}")),
+    }
+}
+
 /// The whole list, the header included.
 pub fn list(oracle: &mut Program) -> Result<String, String> {
     let lines = answered(oracle)?
@@ -212,8 +220,8 @@ fn answered(oracle: &mut Program) -> Result<Vec<Answered>, String> {
     let mut list = vec![];
     for line in &lines {
         let answer = oracle.answer()?;
-        let written = match (line.verdict().refusal(), Reply::parse(&answer)) {
-            (Some(refusal), Some(Reply::Ok(_) | Reply::Panic(_))) => Some(refusal.to_string()),
+        let written = match (refused(line.verdict()), Reply::parse(&answer)) {
+            (Some(refusal), Some(Reply::Ok(_) | Reply::Panic(_))) => Some(refusal),
             (None, Some(Reply::Ok(figures))) => line.figures(&figures).map(|f| format!("ok {f}")),
             _ => None,
         };

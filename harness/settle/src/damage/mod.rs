@@ -7,8 +7,9 @@ use crate::design::Design;
 use crate::statements::{statement, Statement};
 use compare::random::Random;
 use refused::{
-    ambient_range, bad_sequence, bases_32, energy_range, entries_1025, long_name, no_such_strand,
-    pair_twice, positions_129, potential_range, strands_62,
+    ambient_range, bad_sequence, bases_32, copied_potential_range, energy_range, entries_1025,
+    kelvin_range, long_name, no_such_strand, pair_twice, positions_129, potential_range,
+    strands_62,
 };
 use unreadable::{
     bad_number, dash_for_a_name, given_twice, no_ambient, no_statement, strand_twice,
@@ -22,12 +23,15 @@ pub struct Expected {
     pub reply: Option<u32>,
     /// The statement at fault, where there is one.
     pub statement: Option<usize>,
+    /// The word at fault, where one is known to be told.
+    pub word: Option<&'static str>,
 }
 
 fn unreadable(at: usize) -> Option<Expected> {
     Some(Expected {
         reply: None,
         statement: Some(at),
+        word: None,
     })
 }
 
@@ -35,10 +39,19 @@ fn refused(reply: u32, at: usize) -> Option<Expected> {
     Some(Expected {
         reply: Some(reply),
         statement: Some(at),
+        word: None,
     })
 }
 
-pub const KINDS: usize = 27;
+/// Refused at a word of the statement.
+fn refused_at(reply: u32, at: usize, word: &'static str) -> Option<Expected> {
+    Some(Expected {
+        word: Some(word),
+        ..refused(reply, at)?
+    })
+}
+
+pub const KINDS: usize = 29;
 
 /// Plants a fault of a kind; none where the design has no place for it.
 pub fn plant(
@@ -85,8 +98,10 @@ pub fn plant(
         21 => bases_32(design, all),
         22 => pair_twice(random, design, all),
         23 => energy_range(random, design, all),
-        24 => ambient_range(random, all),
-        25 => potential_range(random, design, all),
+        24 => kelvin_range(random, all),
+        25 => ambient_range(random, design, all),
+        26 => potential_range(random, design, all),
+        27 => copied_potential_range(random, design, all),
         _ => no_such_strand(random, all),
     }
 }

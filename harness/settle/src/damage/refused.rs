@@ -1,6 +1,6 @@
 //! Faults for which a design is refused, each by its number.
 
-use super::{add, is, one, refused, split, Expected};
+use super::{add, is, one, refused, refused_at, split, Expected};
 use crate::design::{base, pair, Design, Entry};
 use crate::statements::{number, statement, Statement};
 use compare::random::Random;
@@ -138,46 +138,86 @@ pub fn energy_range(
     refused(9, all.len() - 1)
 }
 
-pub fn ambient_range(random: &mut Random, all: &mut [Statement]) -> Option<Expected> {
-    let at = one(random, all, |words| {
+fn ambient_line(random: &mut Random, all: &[Statement]) -> Option<usize> {
+    one(random, all, |words| {
         is(words, b"kelvin") || is(words, b"ambient")
-    })?;
-    all[at] = split(random.pick(&[
-        "kelvin 199.99999999999997",
-        "kelvin 500.1",
-        "kelvin -300",
-        "kelvin 0x7ff0000000000000",
-        "ambient 0.12499999999999999 0 0",
-        "ambient 8.000000000000002 0 0",
-        "ambient 0.6 1024.5 0",
-        "ambient 0.6 0 -1025",
-        "ambient 0x7ff8000000000001 0 0",
-    ]));
-    refused(9, at)
+    })
 }
 
-/// A strand that has a friend's place, and a potential out of range.
-pub fn potential_range(
+/// Here the potentials are not asked yet.
+pub fn kelvin_range(random: &mut Random, all: &mut [Statement]) -> Option<Expected> {
+    let at = ambient_line(random, all)?;
+    let kelvin = random.pick(&["199.99999999999997", "500.1", "-300", "0x7ff0000000000000"]);
+    all[at] = statement(&["kelvin", kelvin]);
+    refused_at(9, at, kelvin)
+}
+
+/// The first that is out is told, RT, strand excess, scaffold excess; half of the files have an unfit
+/// potential, too.
+pub fn ambient_range(
     random: &mut Random,
     design: &Design,
     all: &mut Vec<Statement>,
 ) -> Option<Expected> {
+    let at = ambient_line(random, all)?;
+    let (words, wrong) = random.pick(&[
+        (["0.12499999999999999", "0", "0"], 0),
+        (["8.000000000000002", "2000", "-3000"], 0),
+        (["0x7ff8000000000001", "0", "1e9"], 0),
+        (["0.6", "1024.5", "0"], 1),
+        (["0.6", "-1025", "0x7ff8000000000000"], 1),
+        (["0.6", "0", "-1025"], 2),
+        (["8", "-1024", "0xfff0000000000000"], 2),
+    ]);
+    all[at] = statement(&["ambient", words[0], words[1], words[2]]);
+    if random.once_in(2) {
+        rich(design, all, "1e300");
+    }
+    refused_at(16, at, words[wrong])
+}
+
+const UNFIT_POTENTIALS: [&str; 4] = [
+    "1024.1",
+    "-2000",
+    "0x7ff0000000000000",
+    "0x7ff8000000000000",
+];
+
+/// A strand that has a friend's place, with this potential: its statement.
+fn rich(design: &Design, all: &mut Vec<Statement>, potential: &str) -> Option<usize> {
     if design.strands.len() == 61 || design.scaffold.len() == 128 || design.known().len() > 30 {
         return None;
     }
-    let potential = random.pick(&[
-        "1024.1",
-        "-2000",
-        "0x7ff0000000000000",
-        "0x7ff8000000000000",
-    ]);
     all.push(statement(&[
         "strand", "rich", "-", "unlike*", "-", potential,
     ]));
     let at = all.len() - 1;
     all.push(split("energy unlike dg -20 ds 0"));
     all.push(split("scaffold unlike"));
-    refused(9, at)
+    Some(at)
+}
+
+pub fn potential_range(
+    random: &mut Random,
+    design: &Design,
+    all: &mut Vec<Statement>,
+) -> Option<Expected> {
+    let at = rich(design, all, random.pick(&UNFIT_POTENTIALS))?;
+    refused_at(17, at, "rich")
+}
+
+/// Of the quencher or the reporter, which copies such a strand.
+pub fn copied_potential_range(
+    random: &mut Random,
+    design: &Design,
+    all: &mut Vec<Statement>,
+) -> Option<Expected> {
+    rich(design, all, "-16")?;
+    let keyword = random.pick(&["quencher", "reporter"]);
+    all.retain(|words| !is(words, keyword.as_bytes()));
+    let potential = random.pick(&UNFIT_POTENTIALS);
+    all.push(statement(&[keyword, "rich", potential]));
+    refused_at(17, all.len() - 1, "rich")
 }
 
 pub fn no_such_strand(random: &mut Random, all: &mut Vec<Statement>) -> Option<Expected> {

@@ -159,6 +159,7 @@ pub fn no_ambient(all: &mut Vec<Statement>) -> Option<Expected> {
     Some(Expected {
         reply: None,
         statement: None,
+        word: None,
     })
 }
 

@@ -6,7 +6,7 @@ use crate::judge::design::{Lent, CELLS};
 use crate::kinds::Ask;
 
 /// Three positions and four strands: 1 and 2 are friends, 3 is nowhere one and has no potential.
-fn base() -> Lent {
+pub fn base() -> Lent {
     let mut lent = Lent {
         scaffold: vec![1, 2, 1],
         glues: vec![0, 0, 0, 3, 1, 4, 4, 2, 3, 0, 5, 0],
@@ -78,6 +78,24 @@ pub fn every_number(ask: &mut Ask) {
     }
     for x in odd(0.125).into_iter().chain([0.0, -0.0, 5e-324, 1.0]) {
         changed(ask, |lent| lent.rt = x);
+    }
+}
+
+/// The place of a cell that is out: each alone, and of two the lower.
+pub fn every_cell(ask: &mut Ask) {
+    for cell in 0..CELLS {
+        changed(ask, |lent| lent.dg[cell] = f64::NAN);
+        changed(ask, |lent| lent.ds[cell] = 8.0f64.next_up());
+    }
+    let chosen = [0, 1, 63, 64, 65, 2080, 4032, CELLS - 1];
+    for (index, high) in chosen.into_iter().enumerate() {
+        for low in chosen[..index].iter().copied() {
+            changed(ask, |lent| {
+                (lent.dg[low], lent.dg[high]) = (1025.0, f64::NAN)
+            });
+            changed(ask, |lent| (lent.ds[low], lent.ds[high]) = (f64::NAN, -9.0));
+            changed(ask, |lent| (lent.ds[low], lent.dg[high]) = (9.0, -1025.0));
+        }
     }
 }
 

@@ -3,6 +3,7 @@
 //! asked; the judge has refusals and figures.
 
 mod damage;
+mod faults;
 mod fixed;
 
 use super::design::WALKED;
@@ -30,15 +31,17 @@ impl Kind for RawDesigns {
     }
 
     fn replies(&self) -> &'static [u32] {
-        &[0, 1, 9, 10, 11, 12, 13]
+        &[0, 1, 9, 10, 11, 12, 13, 16, 17]
     }
 
     fn fixed(&self, ask: &mut Ask) {
         fixed::every_size(ask);
         fixed::every_number(ask);
+        fixed::every_cell(ask);
         fixed::every_null(ask);
         fixed::every_argument(ask);
         fixed::counts(ask);
+        faults::two_at_once(ask);
     }
 
     fn random(&self, random: &mut Random, ask: &mut Ask) {
