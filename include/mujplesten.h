@@ -35,7 +35,7 @@
  *    2 base     a byte other than a, c, g, t in either case
  *    3 short    a single sequence of fewer than 2 bases
  *    4 unequal  paired sequences of different length
- *    5 loop     a loop kind other than 0, 1, 2, or a loop length that the table lacks
+ *    5 loop     a loop kind other than 0, 1, 2, or a loop length outside 3 to 254
  *    6 unknown  a scaffold name that is neither the base of a strand glue nor that base with one star
  *    7 glues    the strands use more than 31 base names
  *    8 twice    two energy entries name the same unordered pair of known names
@@ -93,8 +93,9 @@ uint32_t mj_pair_reply(const uint8_t *a, size_t m, const uint8_t *b, size_t n);
 uint64_t mj_pair_dg(const uint8_t *a, size_t m, const uint8_t *b, size_t n);
 uint64_t mj_pair_ds(const uint8_t *a, size_t m, const uint8_t *b, size_t n);
 
-/* The free energy of a loop (loop_penalty). Kind: 0 internal, 1 bulge, 2 hairpin; lengths 3 to 10,
- * 12, 14, 16, 18, 20, 25, 30. Reply 5. */
+/* The free energy of a loop (loop_penalty). Kind: 0 internal, 1 bulge, 2 hairpin; lengths 3 to 254.
+ * At 3 to 10, 12, 14, 16, 18, 20, 25, 30 it is the table's, elsewhere within 2^-30 kcal/mol of the
+ * longest entry below and R x 310.15 x 2.44 times the logarithm of the ratio. Reply 5. */
 uint32_t mj_loop_penalty(size_t length, uint32_t kind, double *dg);
 
 /* The binding strength of one strand with its perfect match at an excess temperature over 37 C,

@@ -42,6 +42,16 @@ fn is_dg(answer: DgAnswer, dg: f64) -> bool {
     }
 }
 
+// Whether an energy lies within 2^-30 of this.
+fn is_near(answer: DgAnswer, dg: f64) -> bool {
+    match answer {
+        DgAnswer::Given(g) => {
+            g.0 - dg <= 0.0000000009313225746154785 && dg - g.0 <= 0.0000000009313225746154785
+        }
+        DgAnswer::Refused(_) => false,
+    }
+}
+
 // Whether the call was refused so.
 fn is_refused(answer: DgAnswer, refusal: Refusal) -> bool {
     match answer {
@@ -211,9 +221,14 @@ fn table() {
         b"internal loop of 30: 6.6",
         is_dg(utils::loop_penalty(30, 0), 6.6),
     );
+    // 6.6 and R × 310.15 × 2.44 × ln (31 / 30), with R as 0.00198720425864083.
     say(
-        b"internal loop of 31: refused, loop",
-        is_refused(utils::loop_penalty(31, 0), Refusal::NoSuchLoop),
+        b"internal loop of 31: 6.6493109297, within 2^-30",
+        is_near(utils::loop_penalty(31, 0), 6.649310929736642),
+    );
+    say(
+        b"internal loop of 255: refused, loop",
+        is_refused(utils::loop_penalty(255, 0), Refusal::NoSuchLoop),
     );
 }
 

@@ -6,14 +6,14 @@ use Prim.Native.Nat.{ℕ}
 use lib.IntN.{negsuc}
 use lib.Ieee.{fin, add}
 use Rattle.lists.specs.Build.{keep}
-use Rattle.lists.specs.Find.{any, firstIndex}
+use Rattle.lists.specs.Find.{any}
 use Rattle.lists.specs.Fold.{foldl}
 use Rattle.doubles.specs.Decimal.{plus, minus, nearest, zero}
 use Rattle.doubles.specs.Sum.{sumFrom}
 use Rattle.utils.specs.Answers.{DgDsFigures, refusedDgDs, givenDgDs}
 use Rattle.utils.specs.Bases.{isBase, baseOf, bases}
 use Rattle.utils.specs.Paper.{table1, find, stackOf, initiationDg, table2, mismatchOf, table4}
-use Rattle.utils.specs.Figures.{stackDg, entropyOf, stackDs, startDg, startDs, penalty, mismatchDg, loopRows, hasLength, loopEntry, loopDg}
+use Rattle.utils.specs.Figures.{stackDg, entropyOf, stackDs, startDg, startDs, penalty, mismatchDg, loopRows, rowUpTo, entryUpTo, energyFrom, loopEnergy}
 use Rattle.utils.specs.Single.{neighbours, stackSum, stringDnaDgDs}
 use Rattle.utils.specs.Pair.{windows, step, pairSums, neededAfter, lacksLoop, sequencePairDgDs}
 use Rattle.bench_table.specs.Letters.{A, C, G, T}
@@ -25,7 +25,7 @@ unfolding stringDnaDgDs any isBase baseOf bases sumFrom neighbours stackSum stac
 oneSequence s = stringDnaDgDs s
 
 unfoldable twoSequences : List ℕ → List ℕ → DgDsFigures
-unfolding oneSequence sequencePairDgDs pairSums lacksLoop neededAfter foldl windows step penalty mismatchDg mismatchOf table2 hasLength loopDg loopEntry loopRows keep firstIndex table4
+unfolding oneSequence sequencePairDgDs pairSums lacksLoop neededAfter foldl windows step penalty mismatchDg mismatchOf table2 loopEnergy energyFrom entryUpTo rowUpTo loopRows keep table4
 twoSequences a b = sequencePairDgDs a b
 
 pub a : stringDnaDgDs (A ∷ []) ≡ refusedDgDs 3

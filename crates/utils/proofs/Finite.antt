@@ -3,7 +3,8 @@ use mathlib.Core.Path.{_≡_, refl}
 use mathlib.Core.Bool.{Bool, true, false, cond, not, _&&_, _||_, true≢false}
 use mathlib.Core.List.{List, [], _∷_, _++_, map}
 use Prim.Native.Nat.{ℕ, suc, _+_, _-_, _*_, _≤_, _<_}
-use native.Mathlib.Nat.{le-trans, lt-of-le-of-lt}
+use native.Mathlib.Nat.{le-trans, lt-of-le-of-lt, lt-of-not-le}
+use native.Mathlib.Decide.{decLe}
 use native.Mathlib.Omega.{arith}
 use lib.Dec.{T, eqb, lit≤, lit<}
 use lib.ListN.{length, length-map}
@@ -27,7 +28,7 @@ use Rattle.reply.specs.declared.Reply.the-variants.{Admitted, Refused}
 use Rattle.reply.proofs.First.{passes}
 use Rattle.utils.specs.Answers.{DgDsFigures, refusedDgDs, DgFigures, refusedDg}
 use Rattle.utils.specs.Bases.{Base, bases, notABase}
-use Rattle.utils.specs.Figures.{stackDg, stackDs, startDg, startDs, hasLength, loopDg}
+use Rattle.utils.specs.Figures.{stackDg, stackDs, startDg, startDs, admittedLength, loopEnergy}
 use Rattle.utils.specs.Single.{Neighbours, neighbours, atNeighbours, stackSum, tooLong, tooShort, sequenceChecks, stringDnaDgDs}
 use Rattle.utils.specs.Pair.{Window, windows, good, Sums, endsLoop, withLoop, afterGood, afterBad, noSums, step, pairSums, lacksLoop, pairChecks, sequencePairDgDs}
 use Rattle.utils.specs.Strength.{strengthAt, excessInRange, excessChecks, sequenceStrength, pairStrength}
@@ -35,7 +36,8 @@ use Rattle.utils.specs.Finite.{SumsFinite, AnswersFinite}
 use Rattle.utils.specs.declared.tables.LoopKind.the-variants.{Internal}
 use Rattle.utils.proofs.Neighbours.{bases-length}
 use Rattle.utils.proofs.ThirtySeconds.{Parts, add-parts, weaken-parts, parts-within, zero-parts}
-use Rattle.utils.proofs.Small.{stack-energy, stack-entropy, start-energy, start-entropy, mismatch-energy, loop-energy}
+use Rattle.utils.proofs.Small.{stack-energy, stack-entropy, start-energy, start-entropy, mismatch-energy}
+use Rattle.utils.proofs.LoopEnergy.{admitted-ends, loop-low, loop-short}
 
 -- sums this small have room
 energy-sum : (j k : ℕ) (x y : Float) → j + k ≤ 1030 → Within binary64 j x → Within binary64 k y → Within binary64 (j + k) (add binary64 x y)
@@ -93,18 +95,23 @@ record Kept (n : ℕ) (s : Sums) : Type 0 where
   entropy : Parts binary64 n (s .ds)
 
 module _ (n : ℕ) (s : Sums) (below : n < 255) (kept : Kept n s) where
-  -- three bad windows or more have left 6 for the loop
-  after-loop : (dg : Float) → Within binary64 (kept .most + 3) dg → Within binary64 (4 * suc n) (withLoop (loopDg Internal) hasLength (s .bad) dg)
-  after-loop dg w = go (endsLoop (s .bad)) (hasLength (s .bad - 1)) (ltb-true 2 (s .bad))
+  -- three bad windows or more have left 6 for a loop of up to 10, and twelve or more 24 for a longer one
+  after-loop : (dg : Float) → Within binary64 (kept .most + 3) dg → Within binary64 (4 * suc n) (withLoop (loopEnergy Internal) admittedLength (s .bad) dg)
+  after-loop dg w = go (endsLoop (s .bad)) (admittedLength (s .bad - 1)) (ltb-true 2 (s .bad)) (admitted-ends (s .bad - 1))
     where
-      go : (ends has : Bool) → (ends ≡ true → 2 < s .bad) → Within binary64 (4 * suc n) (cond (ends && has) (add binary64 dg (loopDg Internal (s .bad - 1))) dg)
-      go true true h =
-          let k = h refl in
-          weaken (4 * suc n) (omega (arith, kept .left)) (energy-sum (kept .most + 3) 7 dg (loopDg Internal (s .bad - 1)) (omega (arith, kept .left)) w (loop-energy (s .bad - 1)))
-      go true false h = weaken (4 * suc n) (omega (arith, kept .left)) w
-      go false has h = weaken (4 * suc n) (omega (arith, kept .left)) w
+      short : 2 < s .bad → (3 ≤ s .bad - 1) × (s .bad - 1 ≤ 254) → s .bad - 1 ≤ 10 → Within binary64 (4 * suc n) (add binary64 dg (loopEnergy Internal (s .bad - 1)))
+      short h k few = weaken (4 * suc n) (omega (arith, kept .left)) (energy-sum (kept .most + 3) 7 dg (loopEnergy Internal (s .bad - 1)) (omega (arith, kept .left)) w (loop-short (s .bad - 1) (k .0) (k .1) few))
 
-  good-kept : (a1 a2 : Base) → Kept (suc n) (afterGood (loopDg Internal) hasLength s a1 a2)
+      long : (3 ≤ s .bad - 1) × (s .bad - 1 ≤ 254) → 10 < s .bad - 1 → Within binary64 (4 * suc n) (add binary64 dg (loopEnergy Internal (s .bad - 1)))
+      long k many = weaken (4 * suc n) (omega (arith, kept .left)) (energy-sum (kept .most + 3) 10 dg (loopEnergy Internal (s .bad - 1)) (omega (arith, kept .left)) w (loop-low (s .bad - 1) (k .0) (k .1)))
+
+      go : (ends has : Bool) → (ends ≡ true → 2 < s .bad) → (has ≡ true → (3 ≤ s .bad - 1) × (s .bad - 1 ≤ 254))
+          → Within binary64 (4 * suc n) (cond (ends && has) (add binary64 dg (loopEnergy Internal (s .bad - 1))) dg)
+      go true true h k = elim (decLe (s .bad - 1) 10) [ yes few ↦ short (h refl) (k refl) few | no many ↦ long (k refl) (lt-of-not-le many) ]
+      go true false h k = weaken (4 * suc n) (omega (arith, kept .left)) w
+      go false has h k = weaken (4 * suc n) (omega (arith, kept .left)) w
+
+  good-kept : (a1 a2 : Base) → Kept (suc n) (afterGood (loopEnergy Internal) admittedLength s a1 a2)
   good-kept a1 a2 =
       record {
         most = 4 * suc n;
@@ -113,7 +120,7 @@ module _ (n : ℕ) (s : Sums) (below : n < 255) (kept : Kept n s) where
         entropy = entropy-sum n (s .ds) (stackDs a1 a2) (omega arith) (kept .entropy) (stack-entropy a1 a2);
       }
 
-  bad-kept : (w : Window) → Kept (suc n) (afterBad (loopDg Internal) hasLength s w)
+  bad-kept : (w : Window) → Kept (suc n) (afterBad (loopEnergy Internal) admittedLength s w)
   bad-kept w =
       record {
         most = kept .most + 2;
@@ -126,7 +133,7 @@ module _ (n : ℕ) (s : Sums) (below : n < 255) (kept : Kept n s) where
   unfolding step
   step-kept w = go (good w)
     where
-      go : (t : Bool) → Kept (suc n) (cond t (afterGood (loopDg Internal) hasLength s (w .a1) (w .a2)) (afterBad (loopDg Internal) hasLength s w))
+      go : (t : Bool) → Kept (suc n) (cond t (afterGood (loopEnergy Internal) admittedLength s (w .a1) (w .a2)) (afterBad (loopEnergy Internal) admittedLength s w))
       go true = good-kept (w .a1) (w .a2)
       go false = bad-kept w
 

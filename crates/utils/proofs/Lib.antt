@@ -13,6 +13,9 @@ pub mod Replies
 pub mod SameSums
 pub mod ThirtySeconds
 pub mod Small
+pub mod LoopEnergy
+pub mod LoopCode
 pub mod Finite
+pub mod LoopsNear
 pub mod Exact
 pub mod PublishedTerms

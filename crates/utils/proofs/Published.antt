@@ -1,18 +1,18 @@
 -- The energies are the paper's where Published.antt says so: each entry is worked out and compared. Assumes nothing.
-use mathlib.Core.Path.{_≡_, refl, ap}
+use mathlib.Core.Path.{_≡_, refl, ap, sym}
 use mathlib.Core.Bool.{Bool, true, false, cond, not, _&&_, _||_, true≢false}
 use Prim.Native.Nat.{ℕ, zero, suc, _<_}
 use native.Mathlib.Nat.{le-of-suc-le-suc, not-suc-le-zero}
 use lib.Ieee.{neg}
 use lib.ListN.{getD, length}
 use Rattle.lists.specs.Build.{keep}
-use Rattle.lists.specs.Find.{firstIndex}
 use Rattle.doubles.specs.Decimal.{Decimal, minus, nearest}
 use Rattle.utils.specs.Bases.{Base, complement, same}
 use Rattle.utils.specs.Paper.{table1, isFor, absent, find, stackOf, kilo, initiationDg, initiationDs, table4, noLoop}
-use Rattle.utils.specs.Figures.{stackDg, stackDs, entropyOf, startDg, startDs, penalty, mismatchDg, loopRows, isLength, loopEntry, loopDg}
+use Rattle.utils.specs.Figures.{stackDg, stackDs, entropyOf, startDg, startDs, penalty, mismatchDg, loopRows, rowUpTo, entryUpTo}
 use Rattle.utils.specs.Published.{parts, AsPublished, agrees, Consistent}
 use Rattle.utils.specs.declared.bases.DnaNucleotideBase.the-variants.{A, T, G, C}
+use Rattle.utils.proofs.LoopEnergy.{own-entry}
 
 -- what holds for each base holds for every base
 every-base : (P : Base → Type 0) → P A → P T → P G → P C → (b : Base) → P b
@@ -62,15 +62,15 @@ entropy a b h =
     ap (λ (d : Decimal). nearest (kilo d))
     (last (same a T && same b A) (same a G && same b G) (same a C && same b C) (minus 213 1) (minus 199 1) (stackOf a b .ds) h)
 
--- each entry of the loop table is the first with its length
-first-of-length : (i : ℕ) → i < length loopRows → firstIndex (isLength (getD loopRows i noLoop .length)) loopRows ≡ i
-unfolding loopRows keep table4 firstIndex
-first-of-length =
-    below 15 (λ i. firstIndex (isLength (getD loopRows i noLoop .length)) loopRows ≡ i)
+-- each entry of the loop table is the longest up to its own length
+entry-of-length : (i : ℕ) → i < length loopRows → getD loopRows i noLoop ≡ entryUpTo (getD loopRows i noLoop .length)
+unfolding loopRows keep table4 entryUpTo rowUpTo
+entry-of-length =
+    below 15 (λ i. getD loopRows i noLoop ≡ entryUpTo (getD loopRows i noLoop .length))
     (refl, (refl, (refl, (refl, (refl, (refl, (refl, (refl, (refl, (refl, (refl, (refl, (refl, (refl, (refl, tt)))))))))))))))
 
 pub as-published : AsPublished
-unfolding stackDg stackDs entropyOf stackOf find table1 loopRows keep table4 startDg startDs initiationDg initiationDs nearest neg mismatchDg penalty loopDg loopEntry
+unfolding stackDg stackDs entropyOf stackOf find table1 loopRows keep table4 startDg startDs initiationDg initiationDs nearest neg mismatchDg penalty
 as-published =
     record {
       once = λ a b. once-row a b;
@@ -85,7 +85,7 @@ as-published =
       mismatchThenPair = λ a1 a2 b1 b2 h g. simp (h, g);
       initiationEnergy = refl;
       initiationEntropy = refl;
-      loops = λ kind i h. ap (loopEntry kind) (first-of-length i h);
+      loops = λ kind i h. sym (own-entry kind (getD loopRows i noLoop .length) (getD loopRows i noLoop) (entry-of-length i h) refl);
       shorter = refl;
     }
 

@@ -4,20 +4,15 @@ use Prim.Native.Nat.{ℕ, _*_, _^_, _<_}
 use native.Mathlib.Nat.{le-refl, lt-of-lt-of-le, pow-le-pow-left}
 use lib.Dec.{T, leb, leb→le, lit≤, lit<}
 use lib.Pow.{pow-pos}
-use lib.ListN.{getD}
 use lib.Ieee.{binary64, prec}
-use Rattle.lists.specs.Build.{keep}
-use Rattle.lists.specs.Find.{firstIndex}
-use Rattle.lists.proofs.Each.{each-getD}
 use Rattle.doubles.specs.Decimal.{Decimal, nearest, zero}
 use Rattle.doubles.specs.Size.{Within}
 use Rattle.doubles.proofs.Sums.{weaken}
 use Rattle.doubles.proofs.Bounds.{zero-within}
 use Rattle.utils.specs.Bases.{Base, complementary}
-use Rattle.utils.specs.Paper.{find, stackOf, table1, initiationDg, kilo, mismatchOf, table2, Loop, noLoop, table4, loopFigure}
-use Rattle.utils.specs.Figures.{stackDg, stackDs, entropyOf, startDg, startDs, penalty, mismatchDg, loopRows, isLength, loopEntry, loopDg}
+use Rattle.utils.specs.Paper.{find, stackOf, table1, initiationDg, kilo, mismatchOf, table2}
+use Rattle.utils.specs.Figures.{stackDg, stackDs, entropyOf, startDg, startDs, penalty, mismatchDg}
 use Rattle.utils.specs.declared.bases.DnaNucleotideBase.the-variants as base
-use Rattle.utils.specs.declared.tables.LoopKind.the-variants.{Internal}
 use Rattle.utils.proofs.ThirtySeconds.{Parts, round-parts, parts-within}
 
 -- at most n / 32 in size
@@ -84,11 +79,3 @@ mismatch-energy a1 a2 b1 b2 = go (complementary a1 b1) (complementary a2 b2)
     go true second = penalty-energy a1 a2 b2
     go false true = penalty-energy b2 b1 a1
     go false false = weaken 2 (lit≤ tt) zero-within
-
-pub loop-energy : (n : ℕ) → Within binary64 7 (loopDg Internal n)
-unfolding loopDg loopEntry loopRows keep table4
-loop-energy n =
-    let at = firstIndex (isLength n) loopRows in
-    nearest-within 7 (lit< tt) (loopFigure Internal (getD loopRows at noLoop))
-    (each-getD (λ (l : Loop). T (small 224 (loopFigure Internal l))) loopRows noLoop
-    (tt, (tt, (tt, (tt, (tt, (tt, (tt, (tt, (tt, (tt, (tt, (tt, (tt, (tt, (tt, tt))))))))))))))) tt at)

@@ -10,7 +10,7 @@ use lib.ListN.{length, getD, drop, length-drop}
 use Rattle.lists.specs.Find.{any}
 use Rattle.lists.specs.Fold.{foldl}
 use Rattle.utils.specs.Bases.{Base, baseOf, bases}
-use Rattle.utils.specs.Figures.{hasLength, loopDg}
+use Rattle.utils.specs.Figures.{admittedLength, loopEnergy}
 use Rattle.utils.specs.Pair.{Window, Sums, window, windows, good, endsLoop, afterGood, afterBad, step, neededAfter, lacking}
 use Rattle.utils.specs.inner.Code.{flagged, flagAfter}
 use Rattle.utils.specs.declared.tables.LoopKind.the-variants.{Internal}
@@ -99,11 +99,11 @@ lacks-done missing k a b i h = rw (windows-done a b i h) (or-false missing)
 
 module _ (s : Sums) (a1 a2 b1 b2 : Base) where
   -- a good window and a bad one are the two cases of a step
-  pub good-window : good (window a1 a2 b1 b2) ≡ true → afterGood (loopDg Internal) hasLength s a1 a2 ≡ step s (window a1 a2 b1 b2)
+  pub good-window : good (window a1 a2 b1 b2) ≡ true → afterGood (loopEnergy Internal) admittedLength s a1 a2 ≡ step s (window a1 a2 b1 b2)
   unfolding step
   good-window e = simp e
 
-  pub bad-window : good (window a1 a2 b1 b2) ≡ false → afterBad (loopDg Internal) hasLength s (window a1 a2 b1 b2) ≡ step s (window a1 a2 b1 b2)
+  pub bad-window : good (window a1 a2 b1 b2) ≡ false → afterBad (loopEnergy Internal) admittedLength s (window a1 a2 b1 b2) ≡ step s (window a1 a2 b1 b2)
   unfolding step
   bad-window e = simp e
 

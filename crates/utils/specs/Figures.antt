@@ -1,13 +1,14 @@
--- The doubles that the energies are made of: each the one nearest to the paper's decimal, but for the entropies that the Rust has otherwise.
+-- The doubles that the energies are made of: each the one nearest to the paper's decimal, but for the entropies that the Rust has otherwise and for loops
+-- between the paper's lengths.
 use mathlib.Core.Bool.{Bool, cond, _&&_, _||_}
-use mathlib.Core.List.{List}
-use Prim.Native.Nat.{ℕ}
+use mathlib.Core.List.{List, [], _∷_}
+use Prim.Native.Nat.{ℕ, _+_, _*_, _/_, _^_}
 use lib.Dec.{eqb, leb}
 use lib.Ieee.{Float}
 use lib.ListN.{getD}
-use Rattle.lists.specs.Find.{any, firstIndex}
 use Rattle.lists.specs.Build.{keep}
 use Rattle.doubles.specs.Decimal.{Decimal, plus, minus, nearest, zero}
+use Rattle.logarithm.specs.Figure.{mulUnits, lnWhole, fixed}
 use Rattle.utils.specs.Bases.{Base, same, complementary}
 use Rattle.utils.specs.Paper.{stackOf, initiationDg, initiationDs, terminalDg, terminalDs, symmetryDg, symmetryDs, kilo, mismatchOf, Loop, noLoop, table4, loopFigure}
 use Rattle.utils.specs.declared.bases.DnaNucleotideBase.the-variants.{A, T, G, C}
@@ -69,18 +70,39 @@ shortest = 3
 unfoldable pub loopRows : List Loop
 loopRows = keep (λ l. leb shortest (l .length)) table4
 
--- a row of this length
-abbrev pub isLength : ℕ → Loop → Bool
-isLength n l = eqb (l .length) n
-
--- LENGTHS has this length
-unfoldable pub hasLength : ℕ → Bool
-hasLength n = any (isLength n) loopRows
-
 -- dG of an entry of LOOP_TABLE
 unfoldable pub loopEntry : LoopKind → ℕ → Float
 loopEntry kind at = nearest (loopFigure kind (getD loopRows at noLoop))
 
--- dG of a loop whose length LENGTHS has
-unfoldable pub loopDg : LoopKind → ℕ → Float
-loopDg kind n = loopEntry kind (firstIndex (isLength n) loopRows)
+-- the last of these rows that is no longer than n, or else the one found before; they stand in rising order
+unfoldable pub rowUpTo : ℕ → Loop → List Loop → Loop
+rowUpTo n found [] = found
+rowUpTo n found (l ∷ ls) = cond (leb (l .length) n) (rowUpTo n l ls) found
+
+-- the longest entry at or below a length
+unfoldable pub entryUpTo : ℕ → Loop
+entryUpTo n = rowUpTo n noLoop loopRows
+
+-- R × 310.15 × 2.44 in units of 2^-53, cut to a whole number; specs/LoopsNear.antt has it as a fraction
+abbrev pub gainUnits : ℕ
+gainUnits = 13545464151244108
+
+-- tenths of a kcal/mol, and R × 310.15 × 2.44 × ln (n / base), added in units of 2^-46
+unfoldable pub betweenUnits : ℕ → ℕ → ℕ → ℕ
+betweenUnits tenths base n = tenths * 2 ^ 46 / 10 + 2 * mulUnits gainUnits (lnWhole n base)
+
+-- dG of a loop by the longest entry up to its length: the entry's where it has the length itself, and otherwise with what the ratio adds
+unfoldable pub energyFrom : LoopKind → Loop → ℕ → Float
+energyFrom kind entry n = cond (eqb (entry .length) n) (nearest (loopFigure kind entry)) (fixed (betweenUnits (loopFigure kind entry .digits) (entry .length) n))
+
+-- dG of a loop of any length that is admitted
+unfoldable pub loopEnergy : LoopKind → ℕ → Float
+loopEnergy kind n = energyFrom kind (entryUpTo n) n
+
+-- the longest loop: document 02's 254, as long as one can be between two strands of 256
+abbrev pub longest : ℕ
+longest = 254
+
+-- a length that has an energy
+abbrev pub admittedLength : ℕ → Bool
+admittedLength n = leb shortest n && leb n longest

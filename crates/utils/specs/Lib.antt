@@ -3,6 +3,7 @@ pub mod Paper
 pub mod Figures
 pub mod Answers
 pub mod Loops
+pub mod LoopsNear
 pub mod Single
 pub mod Terms
 pub mod Pair

@@ -13,7 +13,7 @@ use Rattle.reply.specs.First.{Check, _if_, firstOf, answer}
 use Rattle.reply.specs.declared.Refusal.the-variants.{WrongSize, NotABase, UnequalLengths, NoSuchLoop}
 use Rattle.utils.specs.Answers.{DgDsFigures, refusedDgDs, givenDgDs}
 use Rattle.utils.specs.Bases.{Base, bases, notABase, complementary}
-use Rattle.utils.specs.Figures.{stackDg, stackDs, mismatchDg, hasLength, loopDg}
+use Rattle.utils.specs.Figures.{stackDg, stackDs, mismatchDg, admittedLength, loopEnergy}
 use Rattle.utils.specs.Single.{tooLong}
 use Rattle.utils.specs.declared.bases.DnaNucleotideBase.the-variants.{A, T}
 use Rattle.utils.specs.declared.tables.LoopKind.the-variants.{Internal}
@@ -83,9 +83,9 @@ module _ (loopEnergy : ℕ → Float) (admitted : ℕ → Bool) where
 abbrev pub noSums : Sums
 noSums = record { dg = zero; ds = zero; bad = 0 }
 
--- internal loops, at the lengths of LENGTHS
+-- internal loops, of 3 to 254
 unfoldable pub step : Sums → Window → Sums
-step = afterWindow (loopDg Internal) hasLength
+step = afterWindow (loopEnergy Internal) admittedLength
 
 -- the sums over all windows of two strands
 unfoldable pub pairSums : List Base → List Base → Sums
@@ -104,11 +104,11 @@ neededAfter k (w ∷ ws) = cond (good w) (cond (endsLoop k) ((k - 1) ∷ neededA
 abbrev pub neededLoops : List Base → List Base → List ℕ
 neededLoops a b = neededAfter 0 (windows a b)
 
--- a length that LENGTHS lacks
+-- a length that has no energy
 abbrev pub lacking : ℕ → Bool
-lacking n = not (hasLength n)
+lacking n = not (admittedLength n)
 
--- a needed loop length is missing from LENGTHS
+-- a needed loop length has no energy
 unfoldable pub lacksLoop : List ℕ → List ℕ → Bool
 lacksLoop a b = any lacking (neededLoops (bases a) (bases b))
 

@@ -16,7 +16,7 @@ use Rattle.reply.specs.declared.Reply.the-variants.{Admitted}
 use Rattle.utils.specs.Answers.{givenDgDs}
 use Rattle.utils.specs.Bases.{Base, bases, complement, complementary, same}
 use Rattle.utils.specs.Paper.{Stack, table1, isFor, absent, stackOf, kilo, initiationDg, initiationDs, terminalDg, terminalDs, symmetryDg, symmetryDs, mismatchOf, table4, noLoop, loopFigure}
-use Rattle.utils.specs.Figures.{stackDg, entropyOf, stackDs, startDg, startDs, printedStartDs, endDg, endDs, symmetricDg, symmetricDs, mismatchDg, loopRows, loopDg}
+use Rattle.utils.specs.Figures.{stackDg, entropyOf, stackDs, startDg, startDs, printedStartDs, endDg, endDs, symmetricDg, symmetricDs, mismatchDg, loopRows, loopEnergy}
 use Rattle.utils.specs.Single.{stackSum, sequenceChecks}
 use Rattle.utils.specs.Terms.{reverseComplement, selfComplementary, termsAfter, publishedDnaDgDs}
 use Rattle.utils.specs.declared.bases.DnaNucleotideBase.the-variants.{A, T, G, C}
@@ -47,7 +47,7 @@ pub record AsPublished : Type 0 where
   pub initiationEnergy : startDg ≡ nearest initiationDg
   pub initiationEntropy : startDs ≡ neg (nearest (kilo initiationDs))
   -- each row of the loop table from length 3 on: all but the two that are for bulges alone
-  pub loops : (kind : LoopKind) (i : ℕ) → i < length loopRows → loopDg kind (getD loopRows i noLoop .length) ≡ nearest (loopFigure kind (getD loopRows i noLoop))
+  pub loops : (kind : LoopKind) (i : ℕ) → i < length loopRows → loopEnergy kind (getD loopRows i noLoop .length) ≡ nearest (loopFigure kind (getD loopRows i noLoop))
   pub shorter : length table4 ≡ 2 + length loopRows
 
 -- the size of a decimal of at most six places, in millionths

@@ -9,7 +9,7 @@ ghost use lib.ListN.{length};
 ghost use Rattle.lists.specs.Find.{any};
 ghost use Rattle.reply.specs.First.{firstOf};
 ghost use Rattle.utils.specs.Bases.{isBase, baseOf, notABase, bases};
-ghost use Rattle.utils.specs.Figures.{stackDg, stackDs, endDg, endDs, symmetricDg, symmetricDs, hasLength, loopDg};
+ghost use Rattle.utils.specs.Figures.{stackDg, stackDs, endDg, endDs, symmetricDg, symmetricDs, admittedLength, loopEnergy};
 ghost use Rattle.utils.specs.Answers.{dgFigures, dgDsFigures};
 ghost use Rattle.utils.specs.Loops.{kindOf, loopPenalty};
 ghost use Rattle.doubles.specs.Sum.{sumFrom};
@@ -35,8 +35,7 @@ use tables::NEIGHBOUR_DS;
 use tables::PENALTY_TABLE;
 use tables::calculate_single_mismatch_penalty;
 use tables::dg_ds;
-use tables::length_position;
-use tables::loop_entry;
+use tables::loop_energy;
 use units::KcalPerMol;
 use units::KcalPerMolKelvin;
 use units::Kelvin;
@@ -62,6 +61,11 @@ const SYMMETRY_DS: KcalPerMolKelvin = KcalPerMolKelvin(-0.0014);
 
 // The longest sequence.
 const LONGEST: usize = 256;
+
+// The shortest loop, and the longest.
+const SHORTEST_LOOP: usize = 3;
+
+const LONGEST_LOOP: usize = 254;
 
 // The lowest excess.
 const LOWEST_EXCESS: f64 = -1024.0;
@@ -100,18 +104,24 @@ fn loop_kind(kind: u32) -> LoopKind
     }
 }
 
-// The energy of a loop. Kinds are 0 (internal), 1 (bulge) and 2 (hairpin); the lengths are LENGTHS.
+// Whether a loop of this length has an energy.
+fn loop_admitted(length: usize) -> bool
+    ensures { λ r. ⌜ r ≡ admittedLength length ⌝ }
+{
+    SHORTEST_LOOP <= length && length <= LONGEST_LOOP
+}
+
+// The energy of a loop of 3 to 254. Kinds are 0 (internal), 1 (bulge) and 2 (hairpin).
 pub fn loop_penalty(length: usize, kind: u32) -> DgAnswer
     ensures { λ r. ⌜ dgFigures r ≡ loopPenalty length kind ⌝ }
 {
     if 2 < kind {
         return DgAnswer::Refused(Refusal::NoSuchLoop);
     }
-    let at = length_position(length);
-    if 15 <= at {
+    if !loop_admitted(length) {
         return DgAnswer::Refused(Refusal::NoSuchLoop);
     }
-    DgAnswer::Given(loop_entry(loop_kind(kind), at))
+    DgAnswer::Given(loop_energy(loop_kind(kind), length))
 }
 
 // Whether a single sequence is admitted.
@@ -243,7 +253,7 @@ fn after_good(
     a2: DnaNucleotideBase,
 ) -> Sums
     requires { ⌜ (now energies ≡ byTwo stackDg) × (now entropies ≡ byTwo stackDs) ⌝ }
-    ensures { λ r. ⌜ (sumsOf r ≡ afterGood (loopDg Internal) hasLength (sumsOf s) a1 a2) × (r .missing ≡ flagged (s .bad) (s .missing)) ⌝ }
+    ensures { λ r. ⌜ (sumsOf r ≡ afterGood (loopEnergy Internal) admittedLength (sumsOf s) a1 a2) × (r .missing ≡ flagged (s .bad) (s .missing)) ⌝ }
 {
     let stack = dg_ds(energies, entropies, a1.index(), a2.index());
     let dg = s.dg.add(stack.0);
@@ -258,8 +268,8 @@ fn after_good(
             missing,
         };
     }
-    let at = length_position(bad - 1);
-    if 15 <= at {
+    let length = bad - 1;
+    if !loop_admitted(length) {
         return Sums {
             dg,
             ds,
@@ -268,7 +278,7 @@ fn after_good(
         };
     }
     Sums {
-        dg: dg.add(loop_entry(LoopKind::Internal, at)),
+        dg: dg.add(loop_energy(LoopKind::Internal, length)),
         ds,
         bad: 0,
         missing,
@@ -297,7 +307,7 @@ fn after_bad(
     b2: DnaNucleotideBase,
 ) -> Sums
     requires { ⌜ (s .bad < 4096) × (now penalties ≡ byThree hundredths) ⌝ }
-    ensures { λ r. ⌜ (sumsOf r ≡ afterBad (loopDg Internal) hasLength (sumsOf s) (window a1 a2 b1 b2)) × (r .missing ≡ s .missing) ⌝ }
+    ensures { λ r. ⌜ (sumsOf r ≡ afterBad (loopEnergy Internal) admittedLength (sumsOf s) (window a1 a2 b1 b2)) × (r .missing ≡ s .missing) ⌝ }
 {
     let ds = s.ds;
     let dg = s.dg.add(calculate_single_mismatch_penalty(penalties, a1, a2, b1, b2));

@@ -1,11 +1,14 @@
 // The constant tables, and the energies that are read off them.
 ghost use mathlib.Core.Path.{_≡_};
-ghost use Prim.Native.Nat.{_<_};
-ghost use Rattle.lists.specs.Find.{firstIndex};
-ghost use Rattle.utils.specs.Figures.{stackDg, stackDs, penalty, mismatchDg, loopRows, isLength, loopEntry};
+ghost use Prim.Native.Nat.{_^_, _<_, _≤_};
+ghost use lib.ListN.{getD};
+ghost use Rattle.utils.specs.Paper.{noLoop, loopFigure};
+ghost use Rattle.utils.specs.Figures.{stackDg, stackDs, penalty, mismatchDg, loopRows, entryUpTo, loopEntry, betweenUnits, loopEnergy};
 ghost use Rattle.utils.specs.inner.Tables.{byTwo, byThree, StackAt, hundredths, kindIndex};
 use crate::bases::DnaNucleotideBase;
 use crate::bases::good_match;
+use logarithm::ln_whole;
+use logarithm::mul_units;
 use units::KcalPerMol;
 use units::KcalPerMolKelvin;
 
@@ -62,6 +65,9 @@ const LOOP_TABLE: [[i16; 15]; 3] = [
 
 // The lengths that LOOP_TABLE has.
 const LENGTHS: [usize; 15] = [3, 4, 5, 6, 7, 8, 9, 10, 12, 14, 16, 18, 20, 25, 30];
+
+// R × 310.15 × 2.44 with R in kcal/mol/K, in units of 2^-53.
+const GAIN: u64 = 13545464151244108;
 
 // The kinds of loop, in the order of LOOP_TABLE's rows.
 pub(crate) enum LoopKind {
@@ -134,25 +140,57 @@ pub(crate) fn calculate_single_mismatch_penalty(
     KcalPerMol(0.0)
 }
 
-// The place of a length among LENGTHS, or their number where it is none of them.
-pub(crate) fn length_position(length: usize) -> usize
-    ensures { λ r. ⌜ r ≡ firstIndex (isLength length) loopRows ⌝ }
+// The place among LENGTHS of the longest that is no longer than this one.
+fn entry_up_to(length: usize) -> usize
+    requires { ⌜ 3 ≤ length ⌝ }
+    ensures { λ r. ⌜ (r < 15) × (getD loopRows r noLoop ≡ entryUpTo length) ⌝ }
 {
-    let mut i = 0;
-    while i < 15 {
-        if LENGTHS[i] == length {
-            return i;
+    let mut at = 0;
+    while at < 14 {
+        if length < LENGTHS[at + 1] {
+            return at;
         }
-        i += 1;
+        at += 1;
     }
-    i
+    at
 }
 
-// The energy of a loop, by its kind and the place of its length. One division gives the double nearest to the decimal.
-pub(crate) fn loop_entry(kind: LoopKind, at: usize) -> KcalPerMol
+// The energy of an entry, by its kind and the place of its length. One division gives the double nearest to the decimal.
+fn loop_entry(kind: LoopKind, at: usize) -> KcalPerMol
     requires { ⌜ at < 15 ⌝ }
     ensures { λ r. ⌜ r .0 ≡ loopEntry kind at ⌝ }
 {
     let row = kind.index();
     KcalPerMol(LOOP_TABLE[row][at] as f64 / 10.0)
+}
+
+// An entry in tenths of kcal/mol, none of which is below zero.
+fn loop_tenths(kind: LoopKind, at: usize) -> u64
+    requires { ⌜ at < 15 ⌝ }
+    ensures { λ r. ⌜ (r ≡ loopFigure kind (getD loopRows at noLoop) .digits) × (r ≤ 100) ⌝ }
+{
+    let row = kind.index();
+    LOOP_TABLE[row][at] as u64
+}
+
+// The energy of a loop between two of LENGTHS, in units of 2^-46: the entry's, and GAIN times the logarithm of the ratio.
+fn loop_units(tenths: u64, base: u64, length: u64) -> u64
+    requires { ⌜ (tenths ≤ 100) × (10 ≤ base) × (base ≤ length) × (length ≤ 254) ⌝ }
+    ensures { λ r. ⌜ (r ≡ betweenUnits tenths base length) × (r < 2 ^ 53) ⌝ }
+{
+    tenths * 70368744177664 / 10 + 2 * mul_units(GAIN, ln_whole(length, base))
+}
+
+// The energy of a loop of 3 to 254: at an entry of LENGTHS the entry's, and elsewhere that of the longest below with what the ratio adds.
+pub(crate) fn loop_energy(kind: LoopKind, length: usize) -> KcalPerMol
+    requires { ⌜ (3 ≤ length) × (length ≤ 254) ⌝ }
+    ensures { λ r. ⌜ r .0 ≡ loopEnergy kind length ⌝ }
+{
+    let at = entry_up_to(length);
+    let base = LENGTHS[at];
+    if base == length {
+        return loop_entry(kind, at);
+    }
+    let tenths = loop_tenths(kind, at);
+    KcalPerMol(loop_units(tenths, base as u64, length as u64) as f64 / 70368744177664.0)
 }

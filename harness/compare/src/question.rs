@@ -22,6 +22,9 @@ pub enum Expected {
     Judged(Verdict),
     /// Figures that the judge works out, for a call that the Rust lacks.
     Figures(String),
+    /// A first figure whose bits are open, where the others are the Rust's: it lies within so much
+    /// of the judge's, if there is one, and within twice that of the Rust's.
+    Near { exact: Option<f64>, slack: f64 },
 }
 
 impl Question {
@@ -48,6 +51,14 @@ impl Question {
         }
     }
 
+    /// The question with an answer that lies near these figures, where it is not refused.
+    pub fn near(mut self, exact: Option<f64>, slack: f64) -> Self {
+        if self.expected_number() == 0 {
+            self.expected = Expected::Near { exact, slack };
+        }
+        self
+    }
+
     /// The port's lines, those that still hold included.
     pub fn lines(&self) -> String {
         format!("{}{}", self.about.as_deref().unwrap_or(""), self.port)
@@ -67,7 +78,7 @@ impl Question {
     pub fn expected_number(&self) -> u32 {
         match &self.expected {
             Expected::Judged(verdict) => verdict.number(),
-            Expected::Figures(_) => 0,
+            Expected::Figures(_) | Expected::Near { .. } => 0,
         }
     }
 
@@ -76,6 +87,7 @@ impl Question {
         match &self.expected {
             Expected::Judged(verdict) => verdict.to_string(),
             Expected::Figures(figures) => format!("ok {figures}"),
+            Expected::Near { exact, slack } => format!("ok, near {exact:?}, by {slack:e}"),
         }
     }
 
@@ -91,12 +103,45 @@ impl Question {
                 Reply::Ok(given) if given == figures => None,
                 _ => Some("the port does not give the figures"),
             },
+            Expected::Near { exact, slack } => match (oracle, port) {
+                (Some(Reply::Ok(oracle)), Reply::Ok(port)) => {
+                    near_difference(oracle, port, *exact, *slack)
+                }
+                (None, Reply::Ok(port)) => near_difference(port, port, *exact, *slack),
+                _ => Some("one does not answer"),
+            },
             Expected::Judged(verdict) => match verdict.refusal() {
                 Some(refusal) if *port != refusal => Some("the port does not refuse so"),
                 Some(_) => rust_contradicts(verdict.number(), oracle),
                 None => admitted_difference(kind, oracle, port),
             },
         }
+    }
+}
+
+/// The first figures of both as doubles, the judge's beside them; the port's other words are among
+/// the oracle's, which may add one.
+fn near_difference(
+    oracle: &str,
+    port: &str,
+    exact: Option<f64>,
+    slack: f64,
+) -> Option<&'static str> {
+    let (oracle, port): (Vec<_>, Vec<_>) = (oracle.split(' ').collect(), port.split(' ').collect());
+    let double = |word: &str| u64::from_str_radix(word, 16).map(f64::from_bits);
+    let (Ok(rust), Ok(given)) = (double(oracle[0]), double(port[0])) else {
+        return Some("no double");
+    };
+    if !given.is_finite() {
+        Some("a figure is not finite")
+    } else if exact.is_some_and(|exact| (given - exact).abs() > slack) {
+        Some("not near the judge's figure")
+    } else if (given - rust).abs() > 2.0 * slack {
+        Some("not near the Rust's figure")
+    } else if port.len() > oracle.len() || port[1..] != oracle[1..port.len()] {
+        Some("the other figures differ")
+    } else {
+        None
     }
 }
 

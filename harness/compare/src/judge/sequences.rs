@@ -20,8 +20,68 @@ pub fn pair(a: &[u8], b: &[u8]) -> Verdict {
 
 /// The length is of any size; docs/DECISIONS.md: "however large".
 pub fn loop_penalty(length: u64, kind: u32) -> Verdict {
-    let entry = LENGTHS.iter().any(|known| *known as u64 == length);
-    Verdict::lowest(&[(5, kind > 2 || !entry)])
+    let admitted = (SHORTEST_LOOP as u64..=LONGEST_LOOP as u64).contains(&length);
+    Verdict::lowest(&[(5, kind > 2 || !admitted)])
+}
+
+/// Document 02: "every length from 3 to 254".
+pub const SHORTEST_LOOP: usize = 3;
+pub const LONGEST_LOOP: usize = 254;
+
+/// The paper's loop initiation (Table 4) at LENGTHS, in tenths of kcal/mol: internal, bulge, hairpin.
+const LOOP_TENTHS: [[u32; 3]; 15] = [
+    [32, 31, 35],
+    [36, 32, 35],
+    [40, 33, 33],
+    [44, 35, 40],
+    [46, 37, 42],
+    [48, 39, 43],
+    [49, 41, 45],
+    [49, 43, 46],
+    [52, 45, 50],
+    [54, 48, 51],
+    [56, 50, 53],
+    [58, 52, 55],
+    [59, 53, 57],
+    [63, 56, 61],
+    [66, 59, 63],
+];
+
+/// "Elsewhere than at an entry it uses the longest entry below and adds R × 310.15 × 2.44 × the
+/// logarithm of the ratio", "every constant read as its exact decimal". The double next to it.
+pub fn loop_energy(length: usize, kind: u32) -> f64 {
+    let at = LENGTHS.iter().rposition(|entry| *entry <= length);
+    let at = at.expect("no loop is shorter than the first entry");
+    let tenths = f64::from(LOOP_TENTHS[at][kind as usize]) / 10.0;
+    let units = (1u128 << LN_BITS) as f64;
+    tenths + GAIN * (ln_ratio(length as u128, LENGTHS[at] as u128) as f64 / units)
+}
+
+/// 0.00198720425864083 × 310.15 × 2.44, which has 21 decimals.
+const GAIN: f64 = 1.503848617994586355780;
+
+const LN_BITS: u32 = 100;
+
+/// ln(n / base) of small whole numbers in units of 2⁻¹⁰⁰, by 2 (z + z³/3 + z⁵/5 + …) with
+/// z = (n − base) / (n + base), of which no term is longer than 128 bits.
+fn ln_ratio(n: u128, base: u128) -> u128 {
+    let (over, under) = (n - base, n + base);
+    let mut power = (over << LN_BITS) / under;
+    let (mut sum, mut odd) = (0, 1);
+    while power > 0 {
+        sum += 2 * power / odd;
+        power = power * over / under * over / under;
+        odd += 2;
+    }
+    sum
+}
+
+/// Whether some loop of two sequences that are not refused has a length between the entries, so
+/// that the Rust's bits are not copied; and how many such loops there are.
+pub fn loops_between(a: &[u8], b: &[u8]) -> usize {
+    let needed = needed_loops(a, b);
+    let is_between = |n: &&usize| **n >= SHORTEST_LOOP && !LENGTHS.contains(n);
+    needed.iter().filter(is_between).count()
 }
 
 pub fn sequence_strength(s: &[u8], excess: f64) -> Verdict {
@@ -123,22 +183,27 @@ fn has_other_byte(s: &[u8]) -> bool {
     s.iter().any(|byte| !b"aAcCgGtT".contains(byte))
 }
 
+fn needs_a_missing_loop(a: &[u8], b: &[u8]) -> bool {
+    let admitted = SHORTEST_LOOP..=LONGEST_LOOP;
+    needed_loops(a, b).iter().any(|n| !admitted.contains(n))
+}
+
 /// "At a good window after k > 2 bad ones, the internal loop energy for length k − 1 is added;
 /// any good window resets k. Bad windows at the end add no loop."
-fn needs_a_missing_loop(a: &[u8], b: &[u8]) -> bool {
+fn needed_loops(a: &[u8], b: &[u8]) -> Vec<usize> {
     let complementary: Vec<bool> = a.iter().zip(b).map(|(x, y)| are_partners(*x, *y)).collect();
-    let mut bad_windows = 0;
+    let (mut bad_windows, mut needed) = (0, vec![]);
     for window in complementary.windows(2) {
         if window[0] && window[1] {
-            if bad_windows > 2 && !LENGTHS.contains(&(bad_windows - 1)) {
-                return true;
+            if bad_windows > 2 {
+                needed.push(bad_windows - 1);
             }
             bad_windows = 0;
         } else {
             bad_windows += 1;
         }
     }
-    false
+    needed
 }
 
 fn are_partners(x: u8, y: u8) -> bool {
@@ -182,6 +247,16 @@ mod tests {
         }
     }
 
+    /// Values worked out apart from this file, to forty digits.
+    #[test]
+    fn loops_between_the_entries_as_worked_out() {
+        for (length, energy) in [(31, 6.649310929736642166), (11, 5.043332082179549475)] {
+            assert!((loop_energy(length, 0) - energy).abs() < 1e-14, "{length}");
+        }
+        assert_eq!(loop_energy(12, 1).to_bits(), 4.5f64.to_bits());
+        assert_eq!(loops_between(b"ccccccccccccccc", b"ggcccccccccccgg"), 1);
+    }
+
     #[test]
     fn two_sequences_as_the_bench_table_and_calls_say() {
         let number = |a: &str, b: &str| pair(a.as_bytes(), b.as_bytes()).number();
@@ -202,7 +277,7 @@ mod tests {
     #[test]
     fn runs_of_mismatches_need_the_loop_of_their_bad_windows() {
         for run in 0..=40 {
-            let needs = |bad: usize| bad > 2 && !LENGTHS.contains(&(bad - 1));
+            let needs = |bad: usize| bad == 3;
             let a = "c".repeat(run + 2);
             let b = format!("{}gg", "c".repeat(run));
             let start = pair(a.as_bytes(), b.as_bytes()).number();
@@ -219,12 +294,13 @@ mod tests {
     }
 
     #[test]
-    fn loops_are_admitted_at_fifteen_lengths_of_three_kinds() {
+    fn loops_are_admitted_at_252_lengths_of_three_kinds() {
         let admitted = |kind| (0..=1000).filter(move |n| loop_penalty(*n, kind).number() == 0);
         for kind in 0..=2 {
-            assert_eq!(admitted(kind).count(), 15);
-            assert_eq!(loop_penalty(30, kind).number(), 0);
-            assert_eq!(loop_penalty(31, kind).number(), 5);
+            assert_eq!(admitted(kind).count(), 252);
+            assert_eq!(loop_penalty(2, kind).number(), 5);
+            assert_eq!(loop_penalty(254, kind).number(), 0);
+            assert_eq!(loop_penalty(255, kind).number(), 5);
             assert_eq!(loop_penalty((1 << 32) + 3, kind).number(), 5);
         }
         assert_eq!(admitted(3).count(), 0);

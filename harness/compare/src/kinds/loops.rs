@@ -60,5 +60,14 @@ impl Kind for Loops {
 
 fn question(length: u64, kind: u32) -> Question {
     let line = format!("loop {length} {kind}");
-    Question::of_both(line, sequences::loop_penalty(length, kind))
+    let verdict = sequences::loop_penalty(length, kind);
+    let between = verdict.number() == 0 && !LENGTHS.contains(&(length as usize));
+    let question = Question::of_both(line, verdict);
+    if between {
+        return question.near(Some(sequences::loop_energy(length as usize, kind)), NEAR);
+    }
+    question
 }
+
+/// Document 02: "within 2 to the −30 kcal/mol of the exact value".
+pub const NEAR: f64 = 1.0 / (1u64 << 30) as f64;

@@ -1,5 +1,6 @@
 //! `pair A B`: dG and dS of two sequences, mismatches and loops.
 
+use super::loops::NEAR;
 use super::{Ask, Kind};
 use crate::bases::{all_sequences, beside, length, spoil, strand};
 use crate::judge::sequences::{self, LENGTHS};
@@ -52,6 +53,8 @@ impl Kind for Pairs {
             }
         }
         for _ in 0..IN_A_ROUND {
+            let pairs = long_runs(random);
+            ask(pair_of(random, &pairs));
             let pairs = admitted_runs(random);
             ask(damaged_pair(random, &pairs));
             let pairs = scattered(random);
@@ -62,13 +65,37 @@ impl Kind for Pairs {
 
 fn question(a: &[u8], b: &[u8]) -> Question {
     let line = format!("pair {} {}", sequence_word(a), sequence_word(b));
-    Question::of_sequences(line, &[a, b], sequences::pair(a, b))
+    let question = Question::of_sequences(line, &[a, b], sequences::pair(a, b));
+    between(question, a, b)
+}
+
+/// Where loops between the entries are summed, the sum lies near the Rust's: each loop by 2⁻³⁰, and
+/// the roundings of up to 255 windows less than that.
+pub fn between(question: Question, a: &[u8], b: &[u8]) -> Question {
+    match sequences::loops_between(a, b) {
+        0 => question,
+        loops => question.near(None, (loops + 1) as f64 * NEAR),
+    }
 }
 
 fn pair_of(random: &mut Random, pairs: &[bool]) -> Question {
     let a = strand(random, pairs.len());
     let b = beside(random, &a, pairs);
     question(&a, &b)
+}
+
+/// A long run of mismatches between partners, of up to 254 places, and a shorter one beside it where
+/// there is room.
+fn long_runs(random: &mut Random) -> Vec<bool> {
+    let run = random.within(2..=252);
+    let mut pairs = vec![true; 2];
+    pairs.resize(2 + run, false);
+    pairs.resize(4 + run, true);
+    if pairs.len() < 240 {
+        pairs.resize(pairs.len() + random.within(1..=12), false);
+        pairs.resize(pairs.len() + 2, true);
+    }
+    pairs
 }
 
 /// Runs of mismatches at the start, in the middle and at the end, with stretches of partners

@@ -1,6 +1,6 @@
 //! `strengthx E A [B]`: the strength of one sequence or of two at an excess temperature.
 
-use super::pair::admitted_runs;
+use super::pair::{admitted_runs, between};
 use super::{Ask, Kind};
 use crate::bases::{beside, length, spoil, strand};
 use crate::doubles::{around, extreme, not_finite, of_any_size};
@@ -92,7 +92,8 @@ fn of_one(excess: f64, s: &[u8]) -> Question {
 fn of_two(excess: f64, a: &[u8], b: &[u8]) -> Question {
     let words = [bits(excess), sequence_word(a), sequence_word(b)];
     let line = format!("strengthx {}", words.join(" "));
-    Question::of_sequences(line, &[a, b], sequences::pair_strength(a, b, excess))
+    let verdict = sequences::pair_strength(a, b, excess);
+    between(Question::of_sequences(line, &[a, b], verdict), a, b)
 }
 
 pub fn odd_excesses() -> Vec<f64> {

@@ -4,7 +4,7 @@
 use super::Line;
 use crate::bases::{all_sequences, beside, strand};
 use crate::doubles::{around, not_finite};
-use crate::judge::sequences::LENGTHS;
+use crate::judge::sequences::{loops_between, LENGTHS};
 use crate::random::Random;
 
 const SEED: u64 = 30;
@@ -23,7 +23,18 @@ pub fn lines() -> Vec<Line> {
     ambients(&mut random, &mut lines);
     names(&mut lines);
     lines.dedup();
+    lines.retain(|line| !is_between(line));
     lines
+}
+
+/// Whether a loop between the table's lengths is priced, where the Rust's bits are not copied.
+fn is_between(line: &Line) -> bool {
+    line.verdict().number() == 0
+        && match line {
+            Line::Pair(a, b) | Line::Strength2(_, a, b) => loops_between(a, b) > 0,
+            Line::Loop(length, _) => !LENGTHS.contains(&(*length as usize)),
+            _ => false,
+        }
 }
 
 fn sequences(random: &mut Random, lines: &mut Vec<Line>) {

@@ -1,0 +1,11 @@
+pub mod Sums
+pub mod Series
+pub mod Bounds
+pub mod Laws
+pub mod Steps
+pub mod Digits
+pub mod Near
+pub mod Double
+pub mod Right
+pub mod Doubled
+pub mod Parts
