@@ -44,7 +44,7 @@
  *   10 null     strand 0 has a glue, or row or column 0 of a table a nonzero cell
  *   11 stranger a configuration holds, at some position, neither 0 nor a friend
  *   12 many     a design of more than 1,048,576 states
- *   13 rank     a rank at or above the number of states
+ *   13 rank     a rank at or above the number of states, or of short sequences
  *   14 deck     a stored configuration that breaks the word rules
  *   16 ambient  RT or an excess temperature of a design not finite or outside its range
  *   17 potential  the potential of a strand that is a friend somewhere not finite or outside its range
@@ -92,6 +92,11 @@ uint32_t mj_pair(const uint8_t *a, size_t m, const uint8_t *b, size_t n, double 
 uint32_t mj_pair_reply(const uint8_t *a, size_t m, const uint8_t *b, size_t n);
 uint64_t mj_pair_dg(const uint8_t *a, size_t m, const uint8_t *b, size_t n);
 uint64_t mj_pair_ds(const uint8_t *a, size_t m, const uint8_t *b, size_t n);
+
+/* The sequence at a rank, counted from 0, among all 87,376 of 2 to 8 bases: shorter first, then
+ * alphabetically. It is written in lower case from the start of 8 lent bytes, the rest is kept, and the
+ * number of its bases told. Replies 1 (not 8 bytes), 13 (a rank past the last). */
+uint32_t mj_short_sequence(uint64_t rank, uint8_t *bytes, size_t lent, uint64_t *bases);
 
 /* The free energy of a loop (loop_penalty). Kind: 0 internal, 1 bulge, 2 hairpin; lengths 3 to 254.
  * At 3 to 10, 12, 14, 16, 18, 20, 25, 30 it is the table's, elsewhere within 2^-30 kcal/mol of the

@@ -8,3 +8,5 @@ pub mod Positions
 pub mod Lent
 pub mod Swept
 pub mod LastLeast
+pub mod Ringed
+pub mod FirstOccupants

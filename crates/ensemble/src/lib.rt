@@ -4,5 +4,6 @@ mod attach;
 mod bonds;
 pub mod energies;
 pub mod lowest;
+pub mod rings;
 pub mod states;
 mod sums;

@@ -8,6 +8,7 @@ pub mod names;
 pub mod params;
 mod place;
 pub mod search;
+pub mod short;
 pub mod stored;
 
 ghost use mathlib.Core.Path.{_≡_};

@@ -10,3 +10,5 @@ pub mod Walk
 pub mod Search
 pub mod Read
 pub mod TwoEnergies
+pub mod Ring
+pub mod RingCases

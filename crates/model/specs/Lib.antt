@@ -8,3 +8,5 @@ pub mod LowestConfiguration
 pub mod Read
 pub mod Bits
 pub mod TwoEnergies
+pub mod Ring
+pub mod RingCases

@@ -12,6 +12,7 @@ mod design;
 mod names;
 mod params;
 mod sequences;
+mod short;
 mod temperature;
 
 pub use deck::{deck_move, deck_read, deck_write};
@@ -24,6 +25,7 @@ pub use sequences::{
     loop_penalty, pair, pair_dg, pair_ds, pair_reply, pair_strength, published_dg, published_ds,
     published_reply, sequence, sequence_dg, sequence_ds, sequence_reply, sequence_strength,
 };
+pub use short::short_sequence;
 pub use temperature::ambient;
 
 /// The place that is written where there is none.

@@ -206,6 +206,24 @@ static void decks(void)
     count("its deck", memcmp(words, deck, sizeof deck) == 0 && words[4] == 0xa5a5a5a5);
 }
 
+/* The sequences of 2 to 8 bases: the fifth, the last, and past it. */
+static void short_sequences(void)
+{
+    uint8_t bytes[9];
+    uint64_t n = unread;
+    memset(bytes, 0xa5, sizeof bytes);
+    reply("the sequence at rank 4", mj_short_sequence(4, bytes, 8, &n), 0);
+    count("its bases", n == 2);
+    count("its letters", memcmp(bytes, "ca\xa5", 3) == 0);
+    reply("the last sequence", mj_short_sequence(87375, bytes, 8, &n), 0);
+    count("its bases", n == 8);
+    count("its letters", memcmp(bytes, "tttttttt\xa5", 9) == 0);
+    reply("a rank past the last", mj_short_sequence(87376, bytes, 8, &n), 13);
+    count("its bases", n == 0);
+    reply("nine bytes", mj_short_sequence(0, bytes, 9, &n), 1);
+    count("bytes are kept", memcmp(bytes, "tttttttt\xa5", 9) == 0);
+}
+
 /* The form with runs: a deck of it, the same deck in document 01's form, and back. */
 static void decks_with_runs(void)
 {
@@ -414,6 +432,7 @@ int main(void)
     loops();
     strengths();
     ambients();
+    short_sequences();
     decks();
     decks_with_runs();
     designs();

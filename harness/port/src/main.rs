@@ -6,6 +6,7 @@ mod design;
 mod names;
 mod params;
 mod sequences;
+mod short;
 mod slices;
 mod temperature;
 
@@ -23,6 +24,7 @@ fn main() -> std::io::Result<()> {
 fn answer(lent: &mut Lent, words: Words) -> Result<Option<Reply>, Complaint> {
     match words[0] {
         "seq" | "published" | "pair" | "loop" | "strengthx" => sequences::answer(words).map(Some),
+        "short" => short::answer(words).map(Some),
         "ambient" => temperature::answer(words).map(Some),
         "deck.read" | "deck.write" | "deck.move" => deck::answer(words).map(Some),
         "params" => params::answer(words).map(Some),

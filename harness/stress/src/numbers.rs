@@ -1,4 +1,4 @@
-//! Sequences, loops, strengths, temperatures and decks.
+//! Sequences, those by rank, loops, strengths, temperatures and decks.
 
 use crate::guarded::{Figure, Guarded};
 use crate::{near, Tally};
@@ -33,7 +33,7 @@ pub fn call(random: &mut Random, tally: &mut Tally) {
     let (a, b) = (any_sequence(random), any_sequence(random));
     let excess = any_double(random);
     let [mut x, mut y, mut z] = [Figure::double(), Figure::double(), Figure::double()];
-    match random.below(8) {
+    match random.below(9) {
         0 => {
             let number = mj::sequence(&a, x.lent(), y.lent());
             let one_by_one = (
@@ -89,8 +89,22 @@ pub fn call(random: &mut Random, tally: &mut Tally) {
             let none = figures.iter().all(|figure| *figure == 0);
             tally.call("published", number, number == 0 || none);
         }
+        7 => short(random, tally),
         _ => deck(random, tally),
     }
+}
+
+fn short(random: &mut Random, tally: &mut Tally) {
+    let rank = match random.below(3) {
+        0 => random.pick(&[0, 15, 16, 87_375, 87_376, u64::MAX]),
+        1 => random.below(90_000) as u64,
+        _ => random.bits(),
+    };
+    let mut bytes = Guarded::new(near(random, 8), 0xa5);
+    let mut bases = Figure::whole();
+    let number = mj::short_sequence(rank, bytes.lent(), bases.lent());
+    let fit = bytes.is_fit(number) && bases.is_fit(number);
+    tally.call("short_sequence", number, fit);
 }
 
 fn deck(random: &mut Random, tally: &mut Tally) {

@@ -51,6 +51,7 @@ fn main() -> ExitCode {
     loops(&mut checks);
     strengths(&mut checks);
     ambients(&mut checks);
+    short_sequences(&mut checks);
     decks(&mut checks);
     decks_with_runs(&mut checks);
     designs::designs(&mut checks);
@@ -237,6 +238,30 @@ fn decks(checks: &mut Checks) {
     checks.count("its count", count == 4, format!("{count}, not 4"));
     let written = words[..4] == deck && words[4] == u32::MAX;
     checks.count("its deck", written, format!("{:x?}", &words[..5]));
+}
+
+/// The sequences of 2 to 8 bases: the fifth, the last, and past it.
+fn short_sequences(checks: &mut Checks) {
+    let mut bytes = [0xa5; 8];
+    let mut bases = WHOLE;
+    let number = mj::short_sequence(4, &mut bytes, &mut bases);
+    checks.reply("the sequence at rank 4", number, 0);
+    checks.count("its bases", bases == 2, format!("{bases}, not 2"));
+    checks.count(
+        "its letters",
+        bytes[..3] == *b"ca\xa5",
+        format!("{bytes:x?}"),
+    );
+    let number = mj::short_sequence(87_375, &mut bytes, &mut bases);
+    checks.reply("the last sequence", number, 0);
+    checks.count("its bases", bases == 8, format!("{bases}, not 8"));
+    checks.count("its letters", bytes == *b"tttttttt", format!("{bytes:x?}"));
+    let number = mj::short_sequence(87_376, &mut bytes, &mut bases);
+    checks.reply("a rank past the last", number, 13);
+    checks.count("its bases", bases == 0, format!("{bases}, not 0"));
+    let number = mj::short_sequence(0, &mut bytes[..7], &mut bases);
+    checks.reply("seven bytes", number, 1);
+    checks.count("bytes", bytes == *b"tttttttt", "not kept".to_string());
 }
 
 /// The form with runs: a deck of it, the same deck in document 01's form, and back.

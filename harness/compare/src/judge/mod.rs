@@ -9,6 +9,7 @@ pub mod design;
 pub mod parameters;
 pub mod search;
 pub mod sequences;
+pub mod short;
 pub mod temperature;
 
 use protocol::Reply;

@@ -10,6 +10,7 @@ pub mod parameters;
 pub mod published;
 pub mod raw;
 pub mod sequence;
+pub mod short;
 pub mod strength;
 pub mod ties;
 
@@ -70,6 +71,7 @@ pub fn all() -> Vec<Box<dyn Kind>> {
     vec![
         Box::new(sequence::Sequences),
         Box::new(published::Published),
+        Box::new(short::ShortSequences),
         Box::new(pair::Pairs),
         Box::new(loops::Loops),
         Box::new(strength::Strengths),

@@ -2,7 +2,7 @@
 
 use super::{Ask, Kind};
 use crate::bases::{all_sequences, length, spoil, strand};
-use crate::judge::sequences;
+use crate::judge::{sequences, short};
 use crate::question::Question;
 use crate::random::Random;
 use protocol::sequence_word;
@@ -25,6 +25,9 @@ impl Kind for Published {
         for s in all_sequences(b"acgtn", 6) {
             ask(question(&s));
             ask(question(&s.to_ascii_uppercase()));
+        }
+        for s in short::all() {
+            ask(question(&s));
         }
         for first in 0..=255 {
             ask(question(&[first]));

@@ -2,7 +2,7 @@
 
 use super::{Ask, Kind};
 use crate::bases::{all_sequences, length, spoil, strand};
-use crate::judge::sequences;
+use crate::judge::{sequences, short};
 use crate::question::Question;
 use crate::random::Random;
 use protocol::sequence_word;
@@ -23,6 +23,9 @@ impl Kind for Sequences {
 
     fn fixed(&self, ask: &mut Ask) {
         for s in all_sequences(b"acgtn", 6) {
+            ask(question(&s));
+        }
+        for s in short::all() {
             ask(question(&s));
         }
         for first in 0..=255 {

@@ -7,11 +7,12 @@ use lib.ListN.{length, length-set}
 use borrow.Author.Count.{below-none}
 use borrow.Author.Needs.{needs}
 use Rattle.model.specs.Model.{Model, positions}
+use Rattle.model.specs.Search.{optionsAt}
 use Rattle.ensemble.specs.Layout.{OptionRows, BondCells}
 use Rattle.ensemble.specs.inner.Entries.{Known, choiceIn, LowTable, tracedBack}
 use Rattle.ensemble.proofs.Vector.{Left}
 use Rattle.ensemble.proofs.Lent.{part, bounds, known-friends, known-options, friends-length, friends-part, options-part, part-length, row-in, row-length, row-at, table-zeros, table-low, Wide, wide-zeros, wide-more}
-use Rattle.ensemble.proofs.Positions.{Table, left-more, table-more, found}
+use Rattle.ensemble.proofs.Positions.{Table, own-options, left-more, table-more, found}
 use Rattle.ensemble.proofs.lowest.lowest.Statement.{statement}
 use Rattle.ensemble.proofs.lowest.lowest.Tie as tie
 
@@ -28,7 +29,7 @@ Inv-loop rows counts strand-bonds scaffold-bonds potentials rt configuration str
     × Known (length potentials) (part rows start end)
     × LowTable choice empty
     × Wide choice
-    × ((m : Model) → OptionRows m rows counts → BondCells m (length potentials) strand-bonds scaffold-bonds potentials → Left m position (part rows start end) energies × Table m position choice empty)
+    × ((m : Model) → OptionRows m rows counts → BondCells m (length potentials) strand-bonds scaffold-bonds potentials → Left m (optionsAt m) position (part rows start end) energies × Table m (optionsAt m) position choice empty)
 
 abbrev μ-loop : tie.MeasureT-loop
 μ-loop rows counts strand-bonds scaffold-bonds potentials rt configuration strands choice₀ empty₀ energies₀ best₀ start₀ end₀ position₀ choice empty energies best start end position = length counts - position
@@ -46,7 +47,7 @@ loop-holds c = (
   below-none _,
   table-zeros 128 64 128,
   wide-zeros 128,
-  λ m o b. (record { options = refl; entries = below-none _ }, λ i h. absurd (not-suc-le-zero h)),
+  λ m o b. (record { are = refl; entries = below-none _ }, λ i h. absurd (not-suc-le-zero h)),
 )
 
 mul-first : tie.Need-mul-first Inv-loop μ-loop
@@ -301,10 +302,10 @@ loop-again c =
           let in-model : i < positions m = rw (sym (o .positions)) here in
           let are = friends-part z i here count is o in-model in
           let known = known-friends z i here count is in (
-            left-more b i in-model friends are known (part (a .rows .now) (l .start) (l .end)) (l .energies) (old .0) best row att (none .result) (none .ensures .0) sites
+            left-more (own-options m) b i in-model friends are refl known (part (a .rows .now) (l .start) (l .end)) (l .energies) (old .0) best row att (none .result) (none .ensures .0) sites
                 (row-at (length (a .potentials .now)) (length (a .counts .now)) (a .scaffold-bonds .now) i here (c .before .before .before .before .before .before .before .before .before .before .before .before .before .before .before .before .before .before .before .before .before .before .before .before .before .before .pre .1 .1 .0)) next in-next (c .before .mfe-next-vector .ensures .1)
                 (part (a .rows .now) (64 * i) (64 * i + count - 1 + 1)) (64 * i + count - 1 - 64 * i) (options-part z i here count is o in-model) number,
-            table-more b i in-model friends are known (part (a .rows .now) (l .start) (l .end)) (l .energies) (old .0) best row att (none .result) (none .ensures .0) (l .choice) (l .empty) in-choice in-empty (old .1),
+            table-more (own-options m) b i in-model friends are refl known (part (a .rows .now) (l .start) (l .end)) (l .energies) (old .0) best row att (none .result) (none .ensures .0) (l .choice) (l .empty) in-choice in-empty (old .1),
           ),
     )
 

@@ -1,0 +1,4 @@
+pub mod Order
+pub mod Lengths
+pub mod Listed
+pub mod Cases

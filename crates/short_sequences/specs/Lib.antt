@@ -1,0 +1,4 @@
+pub mod Sequences
+pub mod Listed
+pub mod Answers
+pub mod Cases
