@@ -14,6 +14,8 @@ pub const MOST_STATES: u128 = 1_048_576;
 #[derive(Debug, Clone, Default)]
 pub struct Lent {
     pub scaffold: Vec<u8>,
+    /// Of each position: 0 open, 1 blocked.
+    pub marks: Vec<u8>,
     /// West, bottom, east of each strand.
     pub glues: Vec<u8>,
     pub dg: Vec<f64>,
@@ -22,6 +24,29 @@ pub struct Lent {
     pub rt: f64,
     pub strand_excess: f64,
     pub scaffold_excess: f64,
+}
+
+impl Lent {
+    /// With another scaffold, all of it open.
+    pub fn open(&mut self, scaffold: Vec<u8>) {
+        self.marks = vec![0; scaffold.len()];
+        self.scaffold = scaffold;
+    }
+
+    /// The design whose blocked positions have no glue. A position without a glue has no friends
+    /// where 10 does not hold, so it answers as the design does in all but scaffold bonds.
+    pub fn without_blocked(&self) -> Self {
+        let mut copy = self.clone();
+        for (glue, mark) in copy.scaffold.iter_mut().zip(&self.marks) {
+            *glue *= 1 - mark;
+        }
+        copy.marks.fill(0);
+        copy
+    }
+
+    pub fn has_blocked(&self) -> bool {
+        self.marks.contains(&1)
+    }
 }
 
 /// Refusals. Each call has conditions of its own beside those of the design.
@@ -93,6 +118,8 @@ impl Lent {
             || self.dg.len() != CELLS
             || self.ds.len() != CELLS
             || self.scaffold.iter().any(high)
+            || self.marks.len() != self.positions()
+            || self.marks.iter().any(|mark| *mark > 1)
             || self.glues.iter().any(high)
     }
 
@@ -148,8 +175,10 @@ impl Lent {
         self.dg[cell] != 0.0 || self.ds[cell] != 0.0
     }
 
+    /// "A blocked position has no friends."
     fn is_friend(&self, position: usize, strand: usize) -> bool {
-        self.binds(usize::from(self.scaffold[position]), self.side(strand, 1))
+        let glue = usize::from(self.scaffold[position]);
+        self.marks[position] == 0 && self.binds(glue, self.side(strand, 1))
     }
 
     pub fn is_somewhere_friend(&self, strand: usize) -> bool {
@@ -241,12 +270,14 @@ fn occupied(configuration: &[u8]) -> impl Iterator<Item = (usize, usize)> + '_ {
 #[cfg(test)]
 pub(crate) mod tests {
     use super::*;
+    use crate::judge::search::Reading;
 
     /// Positions with these scaffold glues; strand k has the bottom glue k, dG[k][k] is given and
     /// every potential is −1; RT 0.5.
     pub(crate) fn bench(scaffold: &[u8], dg: &[f64]) -> Lent {
         let mut lent = Lent {
             scaffold: scaffold.to_vec(),
+            marks: vec![0; scaffold.len()],
             glues: vec![0; 3],
             dg: vec![0.0; CELLS],
             ds: vec![0.0; CELLS],
@@ -366,6 +397,57 @@ pub(crate) mod tests {
         assert_eq!(empty.count_verdict(), refused(16, Some(0)));
         empty.rt = 8.0;
         assert_eq!(empty.count_verdict(), Verdict::Admitted);
+    }
+
+    /// Document 02's blocked positions on the bench table's two positions.
+    #[test]
+    fn a_blocked_position_is_empty_in_every_state() {
+        let marked = |marks: [u8; 2]| {
+            let mut lent = bench(&[1, 2], &[-0.5, -2.0]);
+            lent.marks = marks.to_vec();
+            lent
+        };
+        let states = |lent: &Lent| -> Vec<Vec<u8>> {
+            (0..lent.count() as u64)
+                .map(|rank| lent.state(rank))
+                .collect()
+        };
+        assert_eq!(marked([0, 0]).count(), 4);
+        let first = marked([1, 0]);
+        assert_eq!(states(&first), [[0, 2], [0, 0]]);
+        assert_eq!(first.search(Reading::Document), (-1.5, vec![0, 2]));
+        assert_eq!(first.energy_verdict(&[1, 2]), refused(11, None));
+        assert_eq!(first.scaffold_bond(0, 1), -1.0);
+        let last = marked([0, 1]);
+        assert_eq!(states(&last), [[1, 0], [0, 0]]);
+        assert_eq!(last.search(Reading::Document), (0.0, vec![0, 0]));
+        let mut both = marked([1, 1]);
+        (both.potentials[1], both.potentials[2]) = (f64::NAN, 1025.0);
+        assert_eq!(both.search_verdict(2), Verdict::Admitted);
+        assert_eq!(states(&both), [[0, 0]]);
+        assert_eq!(both.search(Reading::Document), (0.0, vec![0, 0]));
+        both.marks = vec![1, 0];
+        assert_eq!(both.search_verdict(2), refused(17, Some(2)));
+        for marks in [vec![], vec![0], vec![0, 0, 0], vec![0, 2], vec![255, 0]] {
+            both.marks = marks;
+            assert_eq!(both.search_verdict(2), refused(1, None));
+        }
+    }
+
+    #[test]
+    fn a_position_without_a_glue_stands_for_a_blocked_one() {
+        let mut lent = bench(&[1, 2, 1], &[-0.5, -2.0]);
+        lent.marks = vec![0, 1, 1];
+        let copy = lent.without_blocked();
+        assert_eq!(
+            (copy.scaffold.clone(), copy.has_blocked()),
+            (vec![1, 0, 0], false)
+        );
+        assert_eq!(copy.count(), lent.count());
+        assert_eq!(
+            copy.search(Reading::Document),
+            lent.search(Reading::Document)
+        );
     }
 
     /// Where strand 0 is a friend, its bottom glue or a cell of column 0 is null's: 10, whatever its

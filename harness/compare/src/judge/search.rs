@@ -145,7 +145,7 @@ mod tests {
             (energy.to_bits(), configuration),
             ((-0.0f64).to_bits(), vec![1])
         );
-        lent.scaffold = vec![1, 1];
+        lent.open(vec![1, 1]);
         assert_eq!(lent.search(Reading::Document).0, 0.0);
     }
 }
