@@ -1,4 +1,4 @@
-// The documents' trade words for their refusals.
+// The documents' trade words for the refusals.
 use crate::print::print;
 use reply::Refusal;
 
