@@ -54,7 +54,11 @@ impl Lent {
     /// "Every call that takes a design checks all of it." Nothing else can be looked up while a
     /// size is wrong, and 1 is the lowest number. Of all other conditions each is asked by itself,
     /// whatever the others say: the lowest that holds gives number and place.
-    fn verdict(&self, own_size: bool, own: impl FnOnce() -> Vec<(u32, bool)>) -> Verdict {
+    pub(super) fn verdict(
+        &self,
+        own_size: bool,
+        own: impl FnOnce() -> Vec<(u32, bool)>,
+    ) -> Verdict {
         if own_size || self.wrong_sizes() {
             return Verdict::lowest(&[(1, true)]);
         }
@@ -102,11 +106,16 @@ impl Lent {
     /// Of the state energy and of the chain energy.
     pub fn energy_verdict(&self, configuration: &[u8]) -> Verdict {
         self.verdict(configuration.len() != self.positions(), || {
-            let stranger = |(position, occupant): (usize, &u8)| {
-                *occupant != 0 && !self.friends(position).contains(occupant)
-            };
-            vec![(11, configuration.iter().enumerate().any(stranger))]
+            vec![(11, self.has_stranger(configuration))]
         })
+    }
+
+    /// Neither 0 nor a friend at some position.
+    pub(super) fn has_stranger(&self, configuration: &[u8]) -> bool {
+        let stranger = |(position, occupant): (usize, &u8)| {
+            *occupant != 0 && !self.friends(position).contains(occupant)
+        };
+        configuration.iter().enumerate().any(stranger)
     }
 
     fn wrong_sizes(&self) -> bool {
@@ -225,11 +234,15 @@ impl Lent {
     }
 
     pub fn state_energy(&self, configuration: &[u8]) -> f64 {
+        self.state_energy_over(self, configuration)
+    }
+
+    pub fn state_energy_over(&self, bonds: &dyn Bonds, configuration: &[u8]) -> f64 {
         let mut sum = 0.0;
         for (position, strand) in occupied(configuration) {
-            sum += self.scaffold_bond(position, strand);
+            sum += bonds.site(position, strand);
             if let Some(right) = configuration.get(position + 1) {
-                sum += self.strand_bond(strand, usize::from(*right));
+                sum += bonds.pair(strand, usize::from(*right));
             }
             sum -= self.potentials[strand];
         }
@@ -238,12 +251,16 @@ impl Lent {
 
     /// The bare sum.
     pub fn chain_energy(&self, configuration: &[u8]) -> f64 {
+        self.chain_energy_over(self, configuration)
+    }
+
+    pub fn chain_energy_over(&self, bonds: &dyn Bonds, configuration: &[u8]) -> f64 {
         let mut sum = 0.0;
         for (position, strand) in occupied(configuration) {
             if position > 0 {
-                sum += self.strand_bond(usize::from(configuration[position - 1]), strand);
+                sum += bonds.pair(usize::from(configuration[position - 1]), strand);
             }
-            sum += self.scaffold_bond(position, strand);
+            sum += bonds.site(position, strand);
             sum -= self.potentials[strand];
         }
         sum
@@ -252,12 +269,39 @@ impl Lent {
     /// "It starts at the state of rank 0, with RT times its chain energy as the least"; a product
     /// that is smaller becomes the least.
     pub fn walk(&self) -> f64 {
-        let product = |rank| self.chain_energy(&self.state(rank)) * self.rt;
-        let rest = (1..self.count() as u64).map(product);
+        self.walk_over(self)
+    }
+
+    pub fn walk_over(&self, bonds: &dyn Bonds) -> f64 {
+        self.least(|state| self.chain_energy_over(bonds, state) * self.rt)
+    }
+
+    /// The least figure of all states.
+    pub(super) fn least(&self, figure: impl Fn(&[u8]) -> f64) -> f64 {
+        let of_rank = |rank| figure(&self.state(rank));
+        let rest = (1..self.count() as u64).map(of_rank);
         rest.fold(
-            product(0),
+            of_rank(0),
             |least, next| if next < least { next } else { least },
         )
+    }
+}
+
+/// The bonds that energies are summed over: a design's own, or those of tables beside it.
+pub trait Bonds {
+    /// From a strand to the one at its east.
+    fn pair(&self, x: usize, y: usize) -> f64;
+    /// From the scaffold at a position to a strand.
+    fn site(&self, position: usize, strand: usize) -> f64;
+}
+
+impl Bonds for Lent {
+    fn pair(&self, x: usize, y: usize) -> f64 {
+        self.strand_bond(x, y)
+    }
+
+    fn site(&self, position: usize, strand: usize) -> f64 {
+        self.scaffold_bond(position, strand)
     }
 }
 
