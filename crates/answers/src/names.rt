@@ -33,12 +33,7 @@ pub(crate) fn occupant_of(number: usize, users: usize) -> Occupant {
 }
 
 // At position i. Where the position is blocked, nobody can sit.
-pub(crate) fn occupant_at(
-    configuration: &[u8],
-    marks: &[u8],
-    users: usize,
-    i: usize,
-) -> Occupant {
+pub(crate) fn occupant_at(configuration: &[u8], marks: &[u8], users: usize, i: usize) -> Occupant {
     if byte_at(marks, i) == 1 {
         return Occupant::Blocked;
     }
