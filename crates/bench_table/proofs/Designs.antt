@@ -15,7 +15,7 @@ use Rattle.model.specs.States.{eachBefore, listing, choices, choiceAt, states, 
 use Rattle.model.specs.Energy.{stateTerms, stateEnergy, chainTerms, chainEnergy, chainProduct, walk}
 use Rattle.model.specs.Search.{leastLeft, leftChoice, traced, searchOver, search}
 use Rattle.design.specs.Design.{strandBond, scaffoldBond, befriends, friendsTo, modelOf}
-use Rattle.design.specs.Checks.{wrongSizes, cellsOut, ambientOut, somewhere, potentialsOut, nullBinds}
+use Rattle.design.specs.Checks.{wrongSizes, cellsOut, badCell, ambientOut, badAmbient, somewhere, potentialsOut, badPotential, nullBinds}
 use Rattle.reply.specs.Figures.{given, refused}
 use Rattle.design.specs.Answers.{countAnswer, rankAnswer, rankEntries}
 use Rattle.mfe.specs.Answers.{searchAnswer, searchEntries}
@@ -24,7 +24,7 @@ use Rattle.bench_table.specs.Readings.{tiny, TwoZeros, close, OneProduct
 
 -- What a line unfolds: the checks of a design, and the model that it gives.
 unfoldable checked : ℕ
-unfolding bare onePosition twoPositions tiny modelOf friendsTo befriends scaffoldBond strandBond tabulate keep any nearest wrongSizes cellsOut ambientOut somewhere potentialsOut nullBinds le lt eq ne
+unfolding bare onePosition twoPositions tiny modelOf friendsTo befriends scaffoldBond strandBond tabulate keep any nearest wrongSizes cellsOut badCell ambientOut badAmbient somewhere potentialsOut badPotential nullBinds le lt eq ne
 checked = 0
 
 -- and with it the search

@@ -2,3 +2,4 @@ pub mod Sequences
 pub mod Designs
 pub mod Decks
 pub mod Table
+pub mod Faults

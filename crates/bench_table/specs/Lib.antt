@@ -2,3 +2,4 @@ pub mod Letters
 pub mod Designs
 pub mod Table
 pub mod Readings
+pub mod Faults

@@ -1,7 +1,7 @@
 -- What `from_params` writes passes a design's size, cell and null checks, and its tables are symmetric. Assumes nothing.
 use mathlib.Core.Path.{_≡_, refl, sym, subst, _∙_}
 use mathlib.Core.Bool.{Bool, true, false, _||_}
-use mathlib.Core.List.{List}
+use mathlib.Core.List.{List, _++_}
 use Prim.Native.Nat.{ℕ, _+_, _*_, _≤_}
 use native.Mathlib.Omega.{arith}
 use lib.ListN.{length}
@@ -13,26 +13,25 @@ use Rattle.lists.proofs.Any.{all-below}
 use Rattle.lists.proofs.Each.{each-none}
 use Rattle.reply.specs.First.{firstOf, refusedIf}
 use Rattle.reply.specs.declared.Refusal.the-variants.{WrongSize, OutOfRange, NullBinds}
-use Rattle.reply.specs.declared.Place.the-variants.{Nowhere}
+use Rattle.reply.specs.declared.Place.the-variants.{Nowhere, At}
 use Rattle.reply.specs.declared.Reply.{Reply}
 use Rattle.units.specs.declared.Ambient.{Ambient}
 use Rattle.sdc1d_params.specs.Params.{Params, Outcome, writesOf, strandGluesOf, builtFrom}
 use Rattle.design.specs.Design as Design
 use Rattle.design.specs.Design.{Design}
-use Rattle.design.specs.Checks.{highGlue, beyond, wrongSizes, sizesOut, cellsOut, ambientOut, potentialsOut, nullGlued, nullCells, nullBinds}
+use Rattle.design.specs.Checks.{highGlue, beyond, wrongSizes, sizesOut, cellsOut, badCell, nullGlued, nullCells, nullBinds, numberChecks}
 use Rattle.built.specs.Fits.{Fits, designOf, WrittenFits, Symmetric, WrittenSymmetric}
 use Rattle.built.proofs.Passed.{Passed, answered-as, few-users, strand-marks, scaffold-short, writes-small}
 use Rattle.built.proofs.Written.{strand-glues-many, scaffold-many, strand-glues-low, scaffold-low, dg-mirrored, ds-mirrored, NullZero, dg-null, ds-null, dg-ranged, ds-ranged}
 
 left-of :
-    (own sizes cells ambient potentials null : Bool) (rest : Reply)
+    (own sizes cells null : Bool) (cell : ℕ) (rest : Reply)
     → sizes ≡ false
     → cells ≡ false
     → null ≡ false
-    → refusedIf (own || sizes) WrongSize Nowhere (refusedIf cells OutOfRange Nowhere (refusedIf ambient OutOfRange Nowhere (refusedIf potentials OutOfRange Nowhere (refusedIf null NullBinds Nowhere rest))))
-    ≡ refusedIf own WrongSize Nowhere (refusedIf ambient OutOfRange Nowhere (refusedIf potentials OutOfRange Nowhere rest))
-left-of true sizes cells ambient potentials null rest s c n = refl
-left-of false sizes cells ambient potentials null rest s c n = rw (s, c, n)
+    → refusedIf (own || sizes) WrongSize Nowhere (refusedIf cells OutOfRange (At cell) (refusedIf null NullBinds Nowhere rest)) ≡ refusedIf own WrongSize Nowhere rest
+left-of true sizes cells null cell rest s c n = refl
+left-of false sizes cells null cell rest s c n = rw (s, c, n)
 
 -- where the three checks pass, the rest follows
 fits : (d : Design) → sizesOut d ≡ false → cellsOut (d .dg) (d .ds) ≡ false → nullBinds (d .glues) (d .dg) (d .ds) ≡ false → Fits d
@@ -41,7 +40,7 @@ fits d s c n =
       sizes = s;
       cells = c;
       null = n;
-      left = λ ownSize own. left-of ownSize (sizesOut d) (cellsOut (d .dg) (d .ds)) (ambientOut (d .ambient)) (potentialsOut d) (nullBinds (d .glues) (d .dg) (d .ds)) (firstOf own) s c n;
+      left = λ ownSize between after. left-of ownSize (sizesOut d) (cellsOut (d .dg) (d .ds)) (nullBinds (d .glues) (d .dg) (d .ds)) (badCell (d .dg) (d .ds)) (firstOf (between ++ (numberChecks d ++ after))) s c n;
       admitted = λ a q. record { sizes = s; cells = c; ambient = a; potentials = q; null = n };
     }
 

@@ -1,20 +1,20 @@
 -- What `from_params` writes, as a design takes it. proofs/ shows all of this of every parameter set, and of everything that may be lent.
 use mathlib.Core.Path.{_≡_}
 use mathlib.Core.Bool.{Bool, false}
-use mathlib.Core.List.{List, _∷_}
+use mathlib.Core.List.{List, _∷_, _++_}
 use Prim.Native.Nat.{ℕ, _+_, _<_}
 use lib.ListN.{length}
 use lib.Dec.{T}
 use lib.Ieee.{Float, binary64, fits}
 use Rattle.reply.specs.Number.{answered}
 use Rattle.reply.specs.First.{Check, _if_, firstOf}
-use Rattle.reply.specs.declared.Refusal.the-variants.{WrongSize, OutOfRange}
+use Rattle.reply.specs.declared.Refusal.the-variants.{WrongSize}
 use Rattle.units.specs.Ambient.{ambientFigures, ambientAt}
 use Rattle.units.specs.declared.Ambient.{Ambient}
 use Rattle.units.specs.declared.AmbientAnswer.the-variants.{Given}
 use Rattle.sdc1d_params.specs.Params.{Params, Outcome, fromParams}
 use Rattle.design.specs.Design.{Design, design, cell}
-use Rattle.design.specs.Checks.{sizesOut, cellsOut, ambientOut, potentialsOut, nullBinds, designChecks, Admitted}
+use Rattle.design.specs.Checks.{sizesOut, cellsOut, ambientOut, potentialsOut, nullBinds, numberChecks, designChecks, Admitted}
 
 -- the design that is made of what was written
 abbrev pub designOf : Outcome → List Float → Ambient → Design
@@ -28,10 +28,10 @@ pub record Fits (d : Design) : Type 0 where
   pub cells : cellsOut (d .dg) (d .ds) ≡ false
   -- Strand 0 has no glue, and rows and columns 0 hold no nonzero cell.
   pub null : nullBinds (d .glues) (d .dg) (d .ds) ≡ false
-  -- So what is left of the checks of any call that takes the design is the ambient, the potentials and what is the call's own,
+  -- So what is left of the checks of any call that takes the design is the call's own, the ambient and the potentials,
   pub left :
-      (ownSize : Bool) (own : List Check)
-      → firstOf (designChecks ownSize d own) ≡ firstOf (WrongSize if ownSize ∷ OutOfRange if ambientOut (d .ambient) ∷ OutOfRange if potentialsOut d ∷ own)
+      (ownSize : Bool) (between after : List Check)
+      → firstOf (designChecks ownSize d between after) ≡ firstOf (WrongSize if ownSize ∷ (between ++ (numberChecks d ++ after)))
   -- and with these two in range the design is admitted.
   pub admitted : ambientOut (d .ambient) ≡ false → potentialsOut d ≡ false → Admitted d
 

@@ -1,7 +1,6 @@
 -- What the fillers leave is what a search over the model of an admitted design reads. Assumes nothing.
 use mathlib.Core.Path.{_≡_, refl, sym, _∙_}
 use mathlib.Core.Logic.{_⊎_, inl, inr}
-use mathlib.Core.Bool.{Bool, true, false}
 use mathlib.Core.List.{List, [], _∷_, List·Memᴰ, List·Memᴰ·not-nil, List·Memᴰ·cases-cons}
 use Prim.Native.Nat.{ℕ, suc, _+_, _-_, _<_}
 use native.Mathlib.Omega.{arith}
@@ -14,11 +13,10 @@ use Rattle.model.specs.Model.{Model, Friend, friendsAt}
 use Rattle.model.specs.Search.{optionsAt}
 use Rattle.ensemble.specs.Layout.{OptionRows, BondCells, optionIn}
 use Rattle.ensemble.proofs.Options.{count-is, option-is}
-use Rattle.design.specs.Design.{Design, positions, strands, strandBondIn, scaffoldBondIn, isFriend, modelOf}
-use Rattle.design.specs.Checks.{Admitted}
+use Rattle.design.specs.Design.{Design, positions, strands, strandBondIn, scaffoldBondIn, modelOf}
+use Rattle.design.specs.Checks.{Admitted, TablesPass}
 use Rattle.design.specs.Filling.{NullNowhere, PairsHeld, SitesHeld}
-use Rattle.design.proofs.Sizes.{sized}
-use Rattle.design.proofs.FriendLaws.{friends-right, friend-tested, tested-friend}
+use Rattle.design.proofs.FriendLaws.{friends-right, friend-tested, null-no-friend}
 
 -- where a member stands
 place-of : {x : ℕ} {xs : List ℕ} → List·Memᴰ x xs → (k : ℕ) × (k < length xs) × (getD xs k 0 ≡ x)
@@ -44,14 +42,10 @@ module _ {m : Model} {rows counts : List ℕ} (o : OptionRows m rows counts) (i 
       let earlier : w .0 < getD counts i 0 = omega arith in
       (w .0, inside, option-is o i (w .0) h earlier ∙ List·getD-append (friendsAt m i) (0 ∷ []) 0 (w .0) (w .1) ∙ w .2)
 
-module _ (d : Design) (a : Admitted d) where
-  pub null-nowhere : NullNowhere (d .scaffold) (d .glues) (d .dg) (d .ds)
-  null-nowhere i h = go (isFriend d i 0) refl
-    where
-      go : (t : Bool) → isFriend d i 0 ≡ t → isFriend d i 0 ≡ false
-      go true e = absurd (friends-right d .not-null a i (tested-friend d i 0 h (sized d (a .sizes) .null) e))
-      go false e = e
+pub null-nowhere : (d : Design) → TablesPass d → NullNowhere (d .scaffold) (d .glues) (d .dg) (d .ds)
+null-nowhere d t i h = null-no-friend d t i h
 
+module _ (d : Design) (a : Admitted d) where
   pub bond-cells : {rows counts : List ℕ} {strandBonds scaffoldBonds : List Float} → OptionRows (modelOf d) rows counts → PairsHeld (strandBondIn d) (strands d) strandBonds rows counts (length counts - 1)
       → SitesHeld (scaffoldBondIn d) (strands d) scaffoldBonds rows counts (length counts) → BondCells (modelOf d) (strands d) strandBonds scaffoldBonds (d .potentials)
   unfolding modelOf

@@ -22,7 +22,7 @@ use Rattle.model.specs.Model.{State}
 use Rattle.model.specs.Energy.{stateEnergy, chainEnergy, chainProduct}
 use Rattle.model.proofs.Bounds.{state-energy-within, chain-energy-within, chain-product-within}
 use Rattle.design.specs.Design.{Design, positions, strands, strandBondIn, scaffoldBondIn, modelOf}
-use Rattle.design.specs.Checks.{Admitted, noStrand, noPosition, strangers, strandBondChecks, scaffoldBondChecks, energyChecks}
+use Rattle.design.specs.Checks.{Admitted, noStrand, noPosition, strangers, strandBondChecks, scaffoldBondChecks, ownEnergyChecks, energyChecks}
 use Rattle.design.specs.Answers.{Chain, noChain, strandBondAnswer, scaffoldBondAnswer}
 use Rattle.design.specs.Laws.{Doubles}
 use Rattle.design.specs.Finite.{DesignFinite}
@@ -38,9 +38,9 @@ pub record Taken (d : Design) (s : List ℕ) : Type 0 where
 
 pub taken : (d : Design) (s : List ℕ) → firstOf (energyChecks d s) ≡ Reply.Admitted → Taken d s
 taken d s e =
-    let p = passed (not (eqb (length s) (positions d))) d (NotAFriend if strangers d s ∷ []) e in
+    let p = passed (not (eqb (length s) (positions d))) d (ownEnergyChecks d s) [] e in
     let sized : length s ≡ positions d = eqb-true _ _ (not-false _ (p .size)) in
-    record { admitted = p .design; state = friends-right d .states s sized .0 (passes (NotAFriend if strangers d s) [] (p .call) .0) }
+    record { admitted = p .design; state = friends-right d .states s sized .0 (passes (NotAFriend if strangers d s) [] (p .own) .0) }
 
 pub zero-in : (most : ℕ) → Within binary64 most zero
 zero-in most = weaken most (omega arith) zero-within
@@ -49,14 +49,14 @@ module _ (d : Design) (doubles : Doubles d) where
   strand-bonds : (x y : ℕ) → Within binary64 80000 (strandBondAnswer d x y .figure)
   strand-bonds x y =
       by-reply (firstOf (strandBondChecks d x y)) (Within binary64 80000) zero (strandBondIn d x y) (zero-in 80000)
-      (λ e. let p = passed (noStrand d x || noStrand d y) d [] e in
+      (λ e. let p = passed (noStrand d x || noStrand d y) d [] [] e in
       let q = neither (noStrand d x) (noStrand d y) (p .size) in
       strand-bond-within d doubles (p .design) x y (leb-false _ _ (q .0)) (leb-false _ _ (q .1)))
 
   scaffold-bonds : (i x : ℕ) → Within binary64 80000 (scaffoldBondAnswer d i x .figure)
   scaffold-bonds i x =
       by-reply (firstOf (scaffoldBondChecks d i x)) (Within binary64 80000) zero (scaffoldBondIn d i x) (zero-in 80000)
-      (λ e. let p = passed (noPosition d i || noStrand d x) d [] e in
+      (λ e. let p = passed (noPosition d i || noStrand d x) d [] [] e in
       let q = neither (noPosition d i) (noStrand d x) (p .size) in
       scaffold-bond-within d doubles (p .design) i x (leb-false _ _ (q .0)) (leb-false _ _ (q .1)))
 

@@ -21,7 +21,7 @@ use Rattle.lists.proofs.Any.{none-below, all-below}
 use Rattle.lists.proofs.Keep.{kept, kept-below, kept-passes, kept-rise}
 use Rattle.model.specs.Model.{Friend, State, friendsAt}
 use Rattle.design.specs.Design.{Design, positions, strands, scaffoldGlue, west, bottom, east, cell, binding, befriends, friendsTo, isFriend, friendsOf, modelOf}
-use Rattle.design.specs.Checks.{Admitted, nullGlued, nullCells, nullBinds, noFriend, stranger, strangers}
+use Rattle.design.specs.Checks.{Admitted, TablesPass, nullGlued, nullCells, nullBinds, noFriend, stranger, strangers}
 use Rattle.design.specs.Laws.{Bound, FriendsRight}
 use Rattle.design.proofs.Sizes.{sized}
 
@@ -79,18 +79,21 @@ module _ (d : Design) where
       go (no h) = subst Rising (sym (friends-past i (omega arith))) (λ a b k l. absurd (not-suc-le-zero l))
 
   -- strand 0 has the bottom glue 0, and column 0 has no nonzero cell
-  not-null : Admitted d → (i : ℕ) → Friend (modelOf d) i 0 → ⊥
+  pub null-no-friend : TablesPass d → (i : ℕ) → i < positions d → isFriend d i 0 ≡ false
   unfolding befriends nullBinds
-  not-null a i f =
-      let w = friend-tested i 0 f in
-      let n = neither (nullGlued (d .glues)) (any (nullCells (d .dg) (d .ds)) (upTo 64)) (a .null) in
+  null-no-friend t i h =
+      let n = neither (nullGlued (d .glues)) (any (nullCells (d .dg) (d .ds)) (upTo 64)) (t .null) in
       let g = neither (not (eqb (west (d .glues) 0) 0)) (not (eqb (bottom (d .glues) 0) 0) || not (eqb (east (d .glues) 0) 0)) (n .0) in
       let b = neither (not (eqb (bottom (d .glues) 0) 0)) (not (eqb (east (d .glues) 0) 0)) (g .1) in
       let bottom-null : bottom (d .glues) 0 ≡ 0 = eqb-true (bottom (d .glues) 0) 0 (not-false _ (b .0)) in
-      let cells = none-below (nullCells (d .dg) (d .ds)) 64 (n .1) (scaffoldGlue d i) (sized d (a .sizes) .scaffold-low i (w .0)) in
+      let cells = none-below (nullCells (d .dg) (d .ds)) 64 (n .1) (scaffoldGlue d i) (sized d (t .sizes) .scaffold-low i h) in
       let column = neither (binding (d .dg) (d .ds) 0 (scaffoldGlue d i)) (binding (d .dg) (d .ds) (scaffoldGlue d i) 0) cells .1 in
-      let bound : binding (d .dg) (d .ds) (scaffoldGlue d i) 0 ≡ true = subst (λ (k : ℕ). binding (d .dg) (d .ds) (scaffoldGlue d i) k ≡ true) bottom-null (w .2) in
-      clash column bound
+      subst (λ (k : ℕ). binding (d .dg) (d .ds) (scaffoldGlue d i) k ≡ false) (sym bottom-null) column
+
+  not-null : Admitted d → (i : ℕ) → Friend (modelOf d) i 0 → ⊥
+  not-null a i f =
+      let w = friend-tested i 0 f in
+      clash (null-no-friend (record { sizes = a .sizes; cells = a .cells; null = a .null }) i (w .0)) (w .2)
 
   -- ---- states
 

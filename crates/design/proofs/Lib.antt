@@ -7,6 +7,7 @@ pub mod Cells
 pub mod BoundLaws
 pub mod Lowest
 pub mod Replies
+pub mod Places
 pub mod Finite
 pub mod Unread
 pub mod NullBonds

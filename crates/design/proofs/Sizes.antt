@@ -1,10 +1,12 @@
 -- What a design whose sizes are not wrong is. Assumes nothing.
 use mathlib.Core.Path.{_≡_}
 use mathlib.Core.Bool.{false, not, _||_}
+use mathlib.Core.List.{List}
 use Prim.Native.Nat.{ℕ, _*_, _<_, _≤_}
 use native.Mathlib.Omega.{arith}
 use lib.Dec.{ltb, eqb}
 use lib.ListN.{length, getD}
+use lib.Ieee.{Float}
 use borrow.Author.Tests.{ltb-false, eqb-true, not-false}
 use Rattle.lists.specs.Find.{any}
 use Rattle.lists.proofs.Tests.{neither}
@@ -43,3 +45,13 @@ sized d e =
       scaffold-low = λ i h. omega (arith, ltb-false 63 (getD (d .scaffold) i 0) (none-passes highGlue 0 (d .scaffold) (glues .0) i h));
       glues-low = λ k h. omega (arith, ltb-false 63 (getD (d .glues) k 0) (none-passes highGlue 0 (d .glues) (glues .1) k (rw three h)));
     }
+
+-- the tables alone, whatever the ambient
+pub tables-sized : (scaffold glues : List ℕ) (dg ds potentials : List Float) → wrongSizes scaffold glues dg ds potentials ≡ false → (length dg ≡ 4096) × (length ds ≡ 4096)
+unfolding wrongSizes
+tables-sized scaffold glues dg ds potentials e =
+    let lengths = neither (wrongCounts scaffold potentials) (wrongLengths glues dg ds potentials || (any highGlue scaffold || any highGlue glues)) e .1 in
+    let l = neither (wrongLengths glues dg ds potentials) (any highGlue scaffold || any highGlue glues) lengths .0 in
+    let t = neither (not (eqb (length glues) (3 * length potentials))) (not (eqb (length dg) 4096) || not (eqb (length ds) 4096)) l .1 in
+    let each = neither (not (eqb (length dg) 4096)) (not (eqb (length ds) 4096)) t in
+    (eqb-true _ _ (not-false _ (each .0)), eqb-true _ _ (not-false _ (each .1)))

@@ -1,26 +1,30 @@
 -- Designs that differ only in potentials of strands that are nowhere friends are checked alike, and their models differ in nothing that is read.
 -- Assumes nothing.
 use mathlib.Core.Path.{_≡_, refl, sym, ap, ap₂, _∙_}
-use mathlib.Core.Bool.{Bool, true, false, _&&_}
-use mathlib.Core.List.{List, _++_}
-use Prim.Native.Nat.{ℕ, _<_}
+use mathlib.Core.Bool.{Bool, true, false, not, _&&_, _||_}
+use mathlib.Core.List.{List, [], _∷_, _++_}
+use Prim.Native.Nat as Nat
+use Prim.Native.Nat.{ℕ, suc, _<_}
+use native.Mathlib.Omega.{arith}
+use lib.Dec.{leb, ltb, eqb}
 use lib.ListN.{length, getD, drop}
 use lib.Ieee.{Float}
 use borrow.Author.Tests.{ltb-true}
-use Rattle.lists.specs.Build.{upTo}
+use Rattle.lists.specs.Build.{tabulate, upTo}
 use Rattle.lists.specs.Find.{any, firstIndex}
 use Rattle.lists.proofs.Build.{length-tabulate, getD-tabulate}
 use Rattle.lists.proofs.Find.{first-any, passes-first}
 use Rattle.lists.proofs.Any.{none-below, all-below}
 use Rattle.doubles.specs.Decimal.{zero}
-use Rattle.reply.specs.First.{Check, firstOf}
+use Rattle.reply.specs.First.{Check, _if_, firstOf}
 use Rattle.reply.specs.Figures.{figuresOf, entriesOf}
+use Rattle.reply.specs.declared.Refusal.the-variants.{NotAFriend, TooManyStates, RankTooHigh}
 use Rattle.reply.specs.declared.Reply.the-variants as Reply
 use Rattle.reply.proofs.Figures.{same-figures, same-entries}
 use Rattle.model.specs.Read.{SameRead, Alike}
 use Rattle.model.proofs.Read.{only-friends-read}
 use Rattle.design.specs.Design.{Design, positions, strands, potential, friendsOf, modelOf}
-use Rattle.design.specs.Checks.{beyond, friendAt, somewhere, unfit, wrongSizes, sizesOut, potentialsOut, strangers, designChecks, strandBondChecks, scaffoldBondChecks, friendsChecks, countChecks, rankChecks, energyChecks}
+use Rattle.design.specs.Checks.{beyond, friendAt, somewhere, unfit, wrongSizes, sizesOut, potentialsOut, badPotential, strangers, noStrand, noPosition, tableChecks, numberChecks, designChecks, ownCountChecks, ownRankChecks, ownEnergyChecks, strandBondChecks, scaffoldBondChecks, friendsChecks, countChecks, rankChecks, energyChecks}
 use Rattle.design.specs.Answers.{Chain, noChain}
 use Rattle.design.specs.Unread.{withPotentials, ReadAlike, AnswersAlike, UnreadPotentials}
 use Rattle.design.proofs.FriendLaws.{tested-friend}
@@ -37,6 +41,11 @@ same-false false false f g = refl
 any-agree : (p q : ℕ → Bool) (n : ℕ) → ((k : ℕ) → k < n → p k ≡ q k) → any p (upTo n) ≡ any q (upTo n)
 any-agree p q n h =
     same-false (any p (upTo n)) (any q (upTo n)) (λ e. all-below q n (λ k l. sym (h k l) ∙ none-below p n e k l)) (λ e. all-below p n (λ k l. h k l ∙ none-below q n e k l))
+
+first-agree : (p q : ℕ → Bool) (n : ℕ) (f : ℕ → ℕ) → ((k : ℕ) → k < n → p (f k) ≡ q (f k)) → firstIndex p (tabulate n f) ≡ firstIndex q (tabulate n f)
+unfolding firstIndex tabulate
+first-agree p q Nat.zero f h = refl
+first-agree p q (suc n) f h = rw (h 0 (omega arith), first-agree p q n (λ k. f (suc k)) (λ k l. h (suc k) (omega arith)))
 
 -- the first number below n that passes
 record Below (p : ℕ → Bool) (n : ℕ) : Type 0 where
@@ -78,6 +87,10 @@ module _ (d : Design) (potentials : List Float) (r : ReadAlike d potentials) whe
   unfolding potentialsOut
   potentials-same = rw (r .many) (any-agree (unfit (d .scaffold) (d .glues) (d .dg) (d .ds) potentials) (unfit (d .scaffold) (d .glues) (d .dg) (d .ds) (d .potentials)) (strands d) unfit-same)
 
+  place-same : badPotential other ≡ badPotential d
+  unfolding badPotential
+  place-same = rw (r .many) (first-agree (unfit (d .scaffold) (d .glues) (d .dg) (d .ds) potentials) (unfit (d .scaffold) (d .glues) (d .dg) (d .ds) (d .potentials)) (strands d) (λ k. k) unfit-same)
+
   -- ---- the models
 
   same-read : SameRead (modelOf d) (modelOf other)
@@ -96,27 +109,38 @@ module _ (d : Design) (potentials : List Float) (r : ReadAlike d potentials) whe
 
   -- ---- the replies
 
+  tables-same : (ownSize : Bool) → tableChecks ownSize (d .scaffold) (d .glues) (d .dg) (d .ds) potentials ≡ tableChecks ownSize (d .scaffold) (d .glues) (d .dg) (d .ds) (d .potentials)
+  tables-same ownSize = rw sizes-same refl
+
+  numbers-same : numberChecks other ≡ numberChecks d
+  numbers-same = rw (potentials-same, place-same) refl
+
   -- of a call that asks nothing else of the potentials
-  pub same-design-reply : (ownSize : Bool) (own : List Check) → designChecks ownSize other own ≡ designChecks ownSize d own
-  same-design-reply ownSize own = rw (sizes-same, potentials-same) refl
+  pub same-design-reply : (ownSize : Bool) (between after : List Check) → designChecks ownSize other between after ≡ designChecks ownSize d between after
+  same-design-reply ownSize between after = ap₂ (λ (t n : List Check). t ++ (between ++ (n ++ after))) (tables-same ownSize) numbers-same
 
   strand-bond-reply : (x y : ℕ) → strandBondChecks other x y ≡ strandBondChecks d x y
-  strand-bond-reply x y = rw (sizes-same, potentials-same, r .many) refl
+  strand-bond-reply x y = ap (λ (n : ℕ). designChecks (leb n x || leb n y) other [] []) (r .many) ∙ same-design-reply (noStrand d x || noStrand d y) [] []
 
   scaffold-bond-reply : (i x : ℕ) → scaffoldBondChecks other i x ≡ scaffoldBondChecks d i x
-  scaffold-bond-reply i x = rw (sizes-same, potentials-same, r .many) refl
+  scaffold-bond-reply i x = ap (λ (n : ℕ). designChecks (noPosition d i || leb n x) other [] []) (r .many) ∙ same-design-reply (noPosition d i || noStrand d x) [] []
 
   friends-reply : (i : ℕ) (entries : List ℕ) → friendsChecks other i entries ≡ friendsChecks d i entries
-  friends-reply i entries = rw (sizes-same, potentials-same) refl
+  friends-reply i entries = same-design-reply (noPosition d i || not (eqb (length entries) 64)) [] []
 
   count-reply : countChecks other ≡ countChecks d
-  count-reply = rw (sizes-same, potentials-same, ← same-models .counted) refl
+  count-reply = ap (λ (n : ℕ). designChecks false other (TooManyStates if ltb 1048576 n ∷ []) []) (sym (same-models .counted)) ∙ same-design-reply false (ownCountChecks d) []
 
   rank-reply : (rank : ℕ) (entries : List ℕ) → rankChecks other rank entries ≡ rankChecks d rank entries
-  rank-reply rank entries = rw (sizes-same, potentials-same, ← same-models .counted) refl
+  rank-reply rank entries =
+      let size = not (eqb (length entries) (positions d)) in
+      ap (λ (n : ℕ). designChecks size other (TooManyStates if ltb 1048576 n ∷ RankTooHigh if leb n rank ∷ []) []) (sym (same-models .counted))
+      ∙ same-design-reply size (ownRankChecks d rank) []
 
   energy-reply : (s : List ℕ) → energyChecks other s ≡ energyChecks d s
-  energy-reply s = rw (sizes-same, potentials-same, strangers-same s) refl
+  energy-reply s =
+      let size = not (eqb (length s) (positions d)) in
+      ap (λ (t : Bool). designChecks size other (NotAFriend if t ∷ []) []) (strangers-same s) ∙ same-design-reply size (ownEnergyChecks d s) []
 
   -- ---- the answers
 

@@ -1,18 +1,18 @@
 -- The conditions on which a design, or what is asked of it, is refused, and each call's checks.
 use mathlib.Core.Path.{_≡_}
-use mathlib.Core.Bool.{Bool, not, false, _&&_, _||_}
-use mathlib.Core.List.{List, [], _∷_}
-use Prim.Native.Nat.{ℕ, _*_}
+use mathlib.Core.Bool.{Bool, not, false, cond, _&&_, _||_}
+use mathlib.Core.List.{List, [], _∷_, _++_}
+use Prim.Native.Nat.{ℕ, _+_, _-_, _*_}
 use lib.Dec.{leb, ltb, eqb}
 use lib.ListN.{length, getD}
 use lib.Ieee.{Float}
 use Rattle.lists.specs.Build.{upTo, tabulate}
-use Rattle.lists.specs.Find.{any}
+use Rattle.lists.specs.Find.{any, firstIndex}
 use Rattle.doubles.specs.Decimal.{plus, minus, nearest, zero}
 use Rattle.doubles.specs.Range.{within}
-use Rattle.reply.specs.First.{Check, _if_}
+use Rattle.reply.specs.First.{Check, _if_, _if_at_}
 use Rattle.reply.specs.Limits.{mostPositions, mostStrands, lastGlue, glueCount, cellCount, mostStates, mostDg, mostDs, mostExcess, mostPotential, leastRtThousandths, mostRt}
-use Rattle.reply.specs.declared.Refusal.the-variants.{WrongSize, OutOfRange, NullBinds, NotAFriend, TooManyStates, RankTooHigh}
+use Rattle.reply.specs.declared.Refusal.the-variants.{WrongSize, OutOfRange, NullBinds, NotAFriend, TooManyStates, RankTooHigh, AmbientOut, PotentialOut}
 use Rattle.units.specs.declared.Ambient.{Ambient}
 use Rattle.model.specs.States.{count}
 use Rattle.design.specs.Design.{Design, positions, strands, west, bottom, east, binding, befriends, modelOf}
@@ -65,12 +65,32 @@ unfoldable pub cellsOut : List Float → List Float → Bool
 unfolding any nearest
 cellsOut dg ds = any (beyond mostDg) dg || any (beyond mostDs) ds
 
--- RT 1/8 to 8; excess temperatures ±1,024
+-- The number of the lowest cell that is out: a dG cell's is 64 × row + column, a dS cell's 4,096 more.
+unfoldable pub badCell : List Float → List Float → ℕ
+unfolding any firstIndex nearest
+badCell dg ds = cond (any (beyond mostDg) dg) (firstIndex (beyond mostDg) dg) (cellCount + firstIndex (beyond mostDs) ds)
+
+-- RT 1/8 to 8
+abbrev pub rtOut : Ambient → Bool
+rtOut ambient = outside (nearest (plus leastRtThousandths 3)) (nearest (plus mostRt 0)) (ambient .rt .0)
+
+-- the strand excess ±1,024
+abbrev pub strandExcessOut : Ambient → Bool
+strandExcessOut ambient = beyond mostExcess (ambient .«strand_excess» .0)
+
+-- the scaffold excess ±1,024
+abbrev pub scaffoldExcessOut : Ambient → Bool
+scaffoldExcessOut ambient = beyond mostExcess (ambient .«scaffold_excess» .0)
+
+-- a number of the ambient is out of its range
 unfoldable pub ambientOut : Ambient → Bool
 unfolding nearest
-ambientOut ambient =
-    outside (nearest (plus leastRtThousandths 3)) (nearest (plus mostRt 0)) (ambient .rt .0)
-    || (beyond mostExcess (ambient .«strand_excess» .0) || beyond mostExcess (ambient .«scaffold_excess» .0))
+ambientOut ambient = rtOut ambient || (strandExcessOut ambient || scaffoldExcessOut ambient)
+
+-- Which number of the ambient is the first that is out: 0 RT, 1 the strand excess, 2 the scaffold excess.
+unfoldable pub badAmbient : Ambient → ℕ
+unfolding nearest
+badAmbient ambient = cond (rtOut ambient) 0 (cond (strandExcessOut ambient) 1 2)
 
 -- the strand is a friend at a position
 abbrev pub friendAt : List ℕ → List ℕ → List Float → List Float → ℕ → ℕ → Bool
@@ -89,6 +109,11 @@ unfit scaffold glues dg ds potentials strand = somewhere scaffold glues dg ds st
 unfoldable pub potentialsOut : Design → Bool
 unfolding any tabulate somewhere nearest
 potentialsOut d = any (unfit (d .scaffold) (d .glues) (d .dg) (d .ds) (d .potentials)) (upTo (strands d))
+
+-- the lowest strand whose potential is read and out of its range
+unfoldable pub badPotential : Design → ℕ
+unfolding firstIndex tabulate somewhere nearest
+badPotential d = firstIndex (unfit (d .scaffold) (d .glues) (d .dg) (d .ds) (d .potentials)) (upTo (strands d))
 
 -- ---- null: strand 0 has a nonzero glue, or row or column 0 of a glue table has a nonzero cell
 
@@ -140,40 +165,64 @@ pub record Admitted (d : Design) : Type 0 where
   pub potentials : potentialsOut d ≡ false
   pub null : nullBinds (d .glues) (d .dg) (d .ds) ≡ false
 
+-- What friends, states and their number read of a design is in order: its sizes, its cells, and nothing binds to null.
+pub record TablesPass (d : Design) : Type 0 where
+  pub sizes : sizesOut d ≡ false
+  pub cells : cellsOut (d .dg) (d .ds) ≡ false
+  pub null : nullBinds (d .glues) (d .dg) (d .ds) ≡ false
+
 -- ---- the checks of each call, sorted by number
 
--- What every call that takes a design checks: its sizes, with the call's own; the cells; the ambient; the potentials; what binds to
--- null; then the call's own of higher numbers.
-abbrev pub designChecks : Bool → Design → List Check → List Check
-designChecks ownSize d own =
-    WrongSize if (ownSize || sizesOut d)
-    ∷ OutOfRange if cellsOut (d .dg) (d .ds)
-    ∷ OutOfRange if ambientOut (d .ambient)
-    ∷ OutOfRange if potentialsOut d
-    ∷ NullBinds if nullBinds (d .glues) (d .dg) (d .ds)
-    ∷ own
+-- the sizes, with the call's own; the cells; what binds to null
+abbrev pub tableChecks : Bool → List ℕ → List ℕ → List Float → List Float → List Float → List Check
+tableChecks ownSize scaffold glues dg ds potentials =
+    WrongSize if (ownSize || wrongSizes scaffold glues dg ds potentials)
+    ∷ OutOfRange if cellsOut dg ds at badCell dg ds
+    ∷ NullBinds if nullBinds glues dg ds
+    ∷ []
+
+-- the ambient, and the potentials that are read
+abbrev pub numberChecks : Design → List Check
+numberChecks d = AmbientOut if ambientOut (d .ambient) at badAmbient (d .ambient) ∷ PotentialOut if potentialsOut d at badPotential d ∷ []
+
+-- What every call that takes a design checks: its tables; then the call's own of 11 to 15, which read these alone; then its numbers; then the
+-- call's own from 18 on.
+abbrev pub designChecks : Bool → Design → List Check → List Check → List Check
+designChecks ownSize d between after =
+    tableChecks ownSize (d .scaffold) (d .glues) (d .dg) (d .ds) (d .potentials) ++ (between ++ (numberChecks d ++ after))
 
 -- what is refused of a strand bond
 abbrev pub strandBondChecks : Design → ℕ → ℕ → List Check
-strandBondChecks d x y = designChecks (noStrand d x || noStrand d y) d []
+strandBondChecks d x y = designChecks (noStrand d x || noStrand d y) d [] []
 
 -- what is refused of a scaffold bond
 abbrev pub scaffoldBondChecks : Design → ℕ → ℕ → List Check
-scaffoldBondChecks d i strand = designChecks (noPosition d i || noStrand d strand) d []
+scaffoldBondChecks d i strand = designChecks (noPosition d i || noStrand d strand) d [] []
 
 -- the friends are written into 64 lent entries
 abbrev pub friendsChecks : Design → ℕ → List ℕ → List Check
-friendsChecks d i entries = designChecks (noPosition d i || not (eqb (length entries) mostStrands)) d []
+friendsChecks d i entries = designChecks (noPosition d i || not (eqb (length entries) mostStrands)) d [] []
+
+-- what the count itself is refused for
+abbrev pub ownCountChecks : Design → List Check
+ownCountChecks d = TooManyStates if tooManyStates d ∷ []
 
 -- what is refused of the count
 abbrev pub countChecks : Design → List Check
-countChecks d = designChecks false d (TooManyStates if tooManyStates d ∷ [])
+countChecks d = designChecks false d (ownCountChecks d) []
+
+-- what a rank itself is refused for
+abbrev pub ownRankChecks : Design → ℕ → List Check
+ownRankChecks d rank = TooManyStates if tooManyStates d ∷ RankTooHigh if rankTooHigh d rank ∷ []
 
 -- a state is written into one lent entry for each position
 abbrev pub rankChecks : Design → ℕ → List ℕ → List Check
-rankChecks d rank entries =
-    designChecks (not (eqb (length entries) (positions d))) d (TooManyStates if tooManyStates d ∷ RankTooHigh if rankTooHigh d rank ∷ [])
+rankChecks d rank entries = designChecks (not (eqb (length entries) (positions d))) d (ownRankChecks d rank) []
+
+-- what a configuration itself is refused for
+abbrev pub ownEnergyChecks : Design → List ℕ → List Check
+ownEnergyChecks d s = NotAFriend if strangers d s ∷ []
 
 -- a configuration has one entry for each position
 abbrev pub energyChecks : Design → List ℕ → List Check
-energyChecks d s = designChecks (not (eqb (length s) (positions d))) d (NotAFriend if strangers d s ∷ [])
+energyChecks d s = designChecks (not (eqb (length s) (positions d))) d (ownEnergyChecks d s) []

@@ -19,16 +19,20 @@ use reply::limits::POSITIONS;
 use reply::limits::POTENTIAL;
 use reply::limits::SIDES;
 use reply::limits::STRANDS;
+use reply::refused_at;
 use reply::refused_if;
 use units::Ambient;
 ghost use mathlib.Core.Path.{_≡_};
-ghost use mathlib.Core.List.{[]};
+ghost use mathlib.Core.List.{[], _∷_};
+ghost use Prim.Native.Nat.{_≤_};
 ghost use lib.ListN.{length};
+ghost use lib.Ieee.{neg};
 ghost use Rattle.lists.specs.Build.{upTo};
 ghost use Rattle.lists.specs.Find.{any, firstIndex};
-ghost use Rattle.reply.specs.First.{firstOf};
+ghost use Rattle.reply.specs.First.{firstOf, _if_at_};
+ghost use Rattle.reply.specs.declared.Refusal.the-variants.{OutOfRange, AmbientOut};
 ghost use Rattle.design.specs.Design.{lent};
-ghost use Rattle.design.specs.Checks.{highGlue, wrongSizes, cellsOut, ambientOut, unfit, nullCells, nullBinds, designChecks};
+ghost use Rattle.design.specs.Checks.{highGlue, wrongSizes, outside, cellsOut, badCell, ambientOut, badAmbient, unfit, nullCells, nullBinds, tableChecks, numberChecks, designChecks};
 
 // Where the first glue above 63 stands; the number of glues where there is none.
 fn first_high_glue(glues: &[u8]) -> usize
@@ -96,17 +100,57 @@ fn cells_out(dg: &[f64], ds: &[f64]) -> bool
     0 < ds_out
 }
 
-// Whether RT or an excess is out of its range.
-fn ambient_out(ambient: Ambient) -> bool
-    ensures { λ r. ⌜ r ≡ ambientOut ambient ⌝ }
+// Where the first number beyond ±most stands; how many there are where none is.
+fn first_beyond(most: f64, numbers: &[f64]) -> usize
+    ensures { λ r. ⌜ r ≡ firstIndex (outside (neg most) most) (now (numbers .entry)) ⌝ }
+{
+    let mut i = 0;
+    while i < numbers.len() {
+        if !doubles::in_range(-most, most, numbers[i]) {
+            return i;
+        }
+        i += 1;
+    }
+    i
+}
+
+// The lowest cell that is out of its range, dS's counted on from dG's.
+fn bad_cell(dg: &[f64], ds: &[f64]) -> usize
+    requires { ⌜ length (now dg) ≡ 4096 ⌝ }
+    requires { ⌜ length (now ds) ≡ 4096 ⌝ }
+    ensures { λ r. ⌜ r ≡ badCell (now (dg .entry)) (now (ds .entry)) ⌝ }
+{
+    let place = first_beyond(DG, dg);
+    if place < CELLS {
+        return place;
+    }
+    CELLS + first_beyond(DS, ds)
+}
+
+// Whether a cell is out of its range, and which: it is looked for only where one is.
+fn cells_reply(dg: &[f64], ds: &[f64]) -> Reply
+    requires { ⌜ length (now dg) ≡ 4096 ⌝ }
+    requires { ⌜ length (now ds) ≡ 4096 ⌝ }
+    ensures { λ r. ⌜ r ≡ firstOf (OutOfRange if cellsOut (now (dg .entry)) (now (ds .entry)) at badCell (now (dg .entry)) (now (ds .entry)) ∷ []) ⌝ }
+{
+    if cells_out(dg, ds) {
+        return Reply::Refused(Refusal::OutOfRange, Place::At(bad_cell(dg, ds)));
+    }
+    Reply::Admitted
+}
+
+// Whether RT or an excess is out of its range, and which.
+fn ambient_reply(ambient: Ambient) -> Reply
+    ensures { λ r. ⌜ r ≡ firstOf (AmbientOut if ambientOut ambient at badAmbient ambient ∷ []) ⌝ }
 {
     if !doubles::in_range(LEAST_RT, MOST_RT, ambient.rt.0) {
-        return true;
+        return Reply::Refused(Refusal::AmbientOut, Place::At(0));
     }
     if !doubles::in_range(-EXCESS, EXCESS, ambient.strand_excess.0) {
-        return true;
+        return Reply::Refused(Refusal::AmbientOut, Place::At(1));
     }
-    !doubles::in_range(-EXCESS, EXCESS, ambient.scaffold_excess.0)
+    let scaffold_in = doubles::in_range(-EXCESS, EXCESS, ambient.scaffold_excess.0);
+    refused_at(Refusal::AmbientOut, !scaffold_in, 2)
 }
 
 // The first strand that is somewhere a friend and whose potential is out of range; the number of strands where there is none.
@@ -166,7 +210,44 @@ fn null_binds(glues: &[u8], dg: &[f64], ds: &[f64]) -> bool
     null_cells(dg, ds)
 }
 
-// The first check of a design that holds, with what the call itself finds wrong with a size.
+// The first of the checks of a design's tables that holds: their sizes, with what the call itself finds wrong with one, their cells, and null.
+pub fn tables_reply(
+    own_size: bool,
+    scaffold: &[u8],
+    glues: &[u8],
+    dg: &[f64],
+    ds: &[f64],
+    potentials: &[f64],
+) -> Reply
+    ensures { λ r. ⌜ r ≡ firstOf (tableChecks «own_size» (now (scaffold .entry)) (now (glues .entry)) (now (dg .entry)) (now (ds .entry)) (now (potentials .entry))) ⌝ }
+{
+    if own_size {
+        return Reply::Refused(Refusal::WrongSize, Place::Nowhere);
+    }
+    if wrong_sizes(scaffold, glues, dg, ds, potentials) {
+        return Reply::Refused(Refusal::WrongSize, Place::Nowhere);
+    }
+    cells_reply(dg, ds).or(refused_if(Refusal::NullBinds, null_binds(glues, dg, ds)))
+}
+
+// The first of the checks of a design's numbers that holds: its ambient, and the potentials that are read.
+pub fn numbers_reply(
+    scaffold: &[u8],
+    glues: &[u8],
+    dg: &[f64],
+    ds: &[f64],
+    potentials: &[f64],
+    ambient: Ambient,
+) -> Reply
+    requires { ⌜ length (now potentials) ≤ 64 ⌝ }
+    ensures { λ r. ⌜ r ≡ firstOf (numberChecks (lent (scaffold .entry) (glues .entry) (dg .entry) (ds .entry) (potentials .entry) ambient)) ⌝ }
+{
+    let strands = potentials.len() as u8;
+    let strand = first_unfit(scaffold, glues, dg, ds, potentials, strands);
+    ambient_reply(ambient).or(refused_at(Refusal::PotentialOut, strand < strands, strand as usize))
+}
+
+// The first check of a design that holds, of a call that has none of its own but of a size.
 pub fn design_reply(
     own_size: bool,
     scaffold: &[u8],
@@ -176,18 +257,10 @@ pub fn design_reply(
     potentials: &[f64],
     ambient: Ambient,
 ) -> Reply
-    ensures { λ r. ⌜ r ≡ firstOf (designChecks «own_size» (lent (scaffold .entry) (glues .entry) (dg .entry) (ds .entry) (potentials .entry) ambient) []) ⌝ }
+    ensures { λ r. ⌜ r ≡ firstOf (designChecks «own_size» (lent (scaffold .entry) (glues .entry) (dg .entry) (ds .entry) (potentials .entry) ambient) [] []) ⌝ }
 {
-    if own_size {
-        return Reply::Refused(Refusal::WrongSize, Place::Nowhere);
+    match tables_reply(own_size, scaffold, glues, dg, ds, potentials) {
+        Reply::Refused(refusal, place) => Reply::Refused(refusal, place),
+        Reply::Admitted => numbers_reply(scaffold, glues, dg, ds, potentials, ambient),
     }
-    if wrong_sizes(scaffold, glues, dg, ds, potentials) {
-        return Reply::Refused(Refusal::WrongSize, Place::Nowhere);
-    }
-    let strands = potentials.len() as u8;
-    let unfit = first_unfit(scaffold, glues, dg, ds, potentials, strands);
-    refused_if(Refusal::OutOfRange, cells_out(dg, ds))
-        .or(refused_if(Refusal::OutOfRange, ambient_out(ambient)))
-        .or(refused_if(Refusal::OutOfRange, unfit < strands))
-        .or(refused_if(Refusal::NullBinds, null_binds(glues, dg, ds)))
 }

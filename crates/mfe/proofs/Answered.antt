@@ -33,16 +33,16 @@ module _ (d : Design) (entries : List ℕ) where
   ownSize = not (eqb (length entries) (positions d))
 
   -- number 0 is that of a call that no check refuses
-  pub number-passed : searchAnswer d entries .number ≡ 0 → Passed ownSize d []
+  pub number-passed : searchAnswer d entries .number ≡ 0 → Passed ownSize d [] []
   number-passed e =
-      passed ownSize d [] (number-admitted (firstOf (searchChecks d entries)) zero (Search.search (modelOf d) .energy) e)
+      passed ownSize d [] [] (number-admitted (firstOf (searchChecks d entries)) zero (Search.search (modelOf d) .energy) e)
 
-  pub lent-right : Passed ownSize d [] → length entries ≡ positions d
+  pub lent-right : Passed ownSize d [] [] → length entries ≡ positions d
   lent-right p = eqb-true _ _ (not-false _ (p .size))
 
   module _ (a : Admitted d) (l : length entries ≡ positions d) where
     pub reply : firstOf (searchChecks d entries) ≡ Reply.Admitted
-    reply = own-decide ownSize d [] (ap not (eq-eqb _ _ l)) a
+    reply = own-decide ownSize d [] [] (ap not (eq-eqb _ _ l)) a refl
 
     number : searchAnswer d entries .number ≡ 0
     number = rw reply refl
@@ -53,7 +53,7 @@ module _ (d : Design) (entries : List ℕ) where
   energy-within : Doubles d → Within binary64 245760000 (searchAnswer d entries .figure)
   energy-within doubles =
       by-reply (firstOf (searchChecks d entries)) (Within binary64 245760000) zero (Search.search (modelOf d) .energy) (zero-in 245760000)
-      (λ e. let b = bounds-right d doubles (passed ownSize d [] e .design) in
+      (λ e. let b = bounds-right d doubles (passed ownSize d [] [] e .design) in
       let l = search-lowest (modelOf d) (strands d) b in
       rw (l .energy) (chain-product-within (modelOf d) (strands d) b (Search.search (modelOf d) .configuration) (l .places)))
 
@@ -69,7 +69,7 @@ search-answered d entries doubles = record {
 pub unread-by-search : UnreadBySearch
 unread-by-search d potentials entries r =
     let other = withPotentials d potentials in
-    let checks : searchChecks other entries ≡ searchChecks d entries = same-design-reply d potentials r (ownSize d entries) [] in
+    let checks : searchChecks other entries ≡ searchChecks d entries = same-design-reply d potentials r (ownSize d entries) [] [] in
     let found : Search.search (modelOf d) ≡ Search.search (modelOf other) = same-models d potentials r .searched in
     record {
       answer = ap₂ (λ (cs : List Check) (r : Search.SearchResult). figuresOf (firstOf cs) zero (r .energy)) (sym checks) found;

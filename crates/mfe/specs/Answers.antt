@@ -16,9 +16,9 @@ use Rattle.design.specs.Checks.{Admitted, designChecks}
 use Rattle.design.specs.Answers.{energyFigures}
 use Rattle.design.specs.declared.answers.EnergyAnswer.{EnergyAnswer}
 
--- the configuration is written into one lent entry for each position; no check has a number above 10
+-- the configuration is written into one lent entry for each position; the search has no other check of its own
 abbrev pub searchChecks : Design → List ℕ → List Check
-searchChecks d entries = designChecks (not (eqb (length entries) (positions d))) d []
+searchChecks d entries = designChecks (not (eqb (length entries) (positions d))) d [] []
 
 -- the answer of `mfe_configuration`
 abbrev pub searchAnswer : Design → List ℕ → Figures Float

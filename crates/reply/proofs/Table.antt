@@ -1,4 +1,4 @@
--- The numbers of the definitions are those of document 01's table. Assumes nothing.
+-- The numbers of the definitions are those of the documents' table. Assumes nothing.
 use mathlib.Core.Path.{refl}
 use Rattle.reply.specs.Table.{ReplyTable}
 
@@ -20,4 +20,6 @@ reply-table =
       many = refl;
       rank = refl;
       deck = refl;
+      ambient = refl;
+      potential = refl;
     }

@@ -13,6 +13,7 @@ use Rattle.reply.specs.declared.Reply.{Reply}
 use Rattle.reply.specs.declared.Reply.the-variants.{Admitted, Refused}
 
 infix 68 _if_
+infix 68 _if_at_
 infixr 40 _orElse_
 -- a refusal, whether its condition holds, and where the fault lies then
 pub record Check : Type 0 where
@@ -23,6 +24,10 @@ pub record Check : Type 0 where
 -- `refusal if condition`, as the lists of checks are written: a check without a place
 abbrev pub _if_ : Refusal → Bool → Check
 refusal if holds = record { refusal = refusal; holds = holds; place = Nowhere }
+
+-- `refusal if condition at place`: a check that says where the fault lies
+abbrev pub _if_at_ : Refusal → Bool → ℕ → Check
+refusal if holds at place = record { refusal = refusal; holds = holds; place = At place }
 
 -- the refusal where its condition holds, and otherwise the reply of the checks after it
 abbrev pub refusedIf : Bool → Refusal → Place → Reply → Reply

@@ -1,11 +1,11 @@
--- Document 01's table of replies: the number of each refusal, and 0 for an answer.
+-- The table of replies of documents 01 and 02: the number of each refusal, and 0 for an answer.
 use Prim.Native.Nat.{ℕ}
 use Rattle.reply.specs.declared.Refusal.{Refusal}
-use Rattle.reply.specs.declared.Refusal.the-variants.{WrongSize, NotABase, TooShort, UnequalLengths, NoSuchLoop, UnknownName, TooManyGlues, DuplicatePair, OutOfRange, NullBinds, NotAFriend, TooManyStates, RankTooHigh, BadDeck}
+use Rattle.reply.specs.declared.Refusal.the-variants.{WrongSize, NotABase, TooShort, UnequalLengths, NoSuchLoop, UnknownName, TooManyGlues, DuplicatePair, OutOfRange, NullBinds, NotAFriend, TooManyStates, RankTooHigh, BadDeck, AmbientOut, PotentialOut}
 use Rattle.reply.specs.declared.Reply.{Reply}
 use Rattle.reply.specs.declared.Reply.the-variants.{Admitted, Refused}
 
--- document 01's number of a refusal; src/lib.rt has its trade word beside each
+-- the number of a refusal; 1 to 14 are document 01's, higher ones document 02's; src/lib.rt has its trade word beside each
 abbrev pub numberOf : Refusal → ℕ
 numberOf WrongSize = 1
 numberOf NotABase = 2
@@ -21,6 +21,8 @@ numberOf NotAFriend = 11
 numberOf TooManyStates = 12
 numberOf RankTooHigh = 13
 numberOf BadDeck = 14
+numberOf AmbientOut = 16
+numberOf PotentialOut = 17
 
 -- the number of a call that is answered
 abbrev pub answered : ℕ

@@ -1,12 +1,12 @@
-// Refusals: why a call is not answered, under document 01's numbers, which stand nowhere else.
+// Refusals: why a call is not answered, under the numbers of documents 01 and 02, which stand nowhere else.
 pub mod limits;
 
 ghost use mathlib.Core.Path.{_≡_};
 ghost use mathlib.Core.List.{[], _∷_};
 ghost use Rattle.reply.specs.Number.{numberOf, replyNumber};
-ghost use Rattle.reply.specs.First.{firstOf, _if_, _orElse_};
+ghost use Rattle.reply.specs.First.{firstOf, _if_, _if_at_, _orElse_};
 
-// Each with document 01's trade word.
+// Each with its trade word.
 pub enum Refusal {
     // size: a count, a length, a number or a glue outside its limits
     WrongSize,
@@ -24,7 +24,7 @@ pub enum Refusal {
     TooManyGlues,
     // twice: two energy entries for one pair of names
     DuplicatePair,
-    // range: a number not finite or outside its range
+    // range: a number not finite or outside its range; of a design, a cell of its glue tables
     OutOfRange,
     // null: strand 0 or glue 0 takes part in a bond
     NullBinds,
@@ -36,6 +36,10 @@ pub enum Refusal {
     RankTooHigh,
     // deck: a stored configuration that breaks the word rules
     BadDeck,
+    // ambient: RT or an excess of a design's ambient is out of range
+    AmbientOut,
+    // potential: a potential that a design reads is out of range
+    PotentialOut,
 }
 
 // Where a refusal lies, for those that say so.
@@ -51,7 +55,7 @@ pub enum Reply {
 }
 
 impl Refusal {
-    // Document 01's number.
+    // The number in the documents' table.
     pub fn number(self) -> u32
         ensures { λ r. ⌜ r ≡ numberOf self ⌝ }
     {
@@ -70,12 +74,14 @@ impl Refusal {
             Refusal::TooManyStates => 12,
             Refusal::RankTooHigh => 13,
             Refusal::BadDeck => 14,
+            Refusal::AmbientOut => 16,
+            Refusal::PotentialOut => 17,
         }
     }
 }
 
 impl Reply {
-    // Document 01's number, 0 where the call is answered.
+    // Its number, 0 where the call is answered.
     pub fn number(self) -> u32
         ensures { λ r. ⌜ r ≡ replyNumber self ⌝ }
     {
@@ -102,6 +108,16 @@ pub fn refused_if(refusal: Refusal, holds: bool) -> Reply
 {
     if holds {
         return Reply::Refused(refusal, Place::Nowhere);
+    }
+    Reply::Admitted
+}
+
+// A refusal where its condition holds, and its place.
+pub fn refused_at(refusal: Refusal, holds: bool, place: usize) -> Reply
+    ensures { λ r. ⌜ r ≡ firstOf (refusal if holds at place ∷ []) ⌝ }
+{
+    if holds {
+        return Reply::Refused(refusal, Place::At(place));
     }
     Reply::Admitted
 }

@@ -11,6 +11,8 @@ use design::answers::EnergyAnswer;
 use design::bonds::scaffold_bond;
 use design::bonds::strand_bond;
 use design::checks::design_reply;
+use design::checks::numbers_reply;
+use design::checks::tables_reply;
 use design::options::fill_options;
 use design::options::write_friends;
 use design::reads::byte_at;
@@ -20,7 +22,6 @@ use ensemble::energies::state_sum;
 use ensemble::states::MOST_STATES;
 use ensemble::states::state_count;
 use ensemble::states::write_state;
-use reply::Place;
 use reply::Refusal;
 use reply::Reply;
 use reply::limits::POSITIONS;
@@ -37,7 +38,7 @@ ghost use Rattle.reply.specs.Figures.{replyFigures};
 ghost use Rattle.model.specs.States.{count};
 ghost use Rattle.ensemble.specs.Layout.{OptionRows};
 ghost use Rattle.design.specs.Design.{lent, modelOf};
-ghost use Rattle.design.specs.Checks.{Admitted, energyChecks};
+ghost use Rattle.design.specs.Checks.{TablesPass, energyChecks};
 ghost use Rattle.design.specs.Answers.{bondFigures, countFigures, energyFigures, chainFigures, strandBondAnswer, scaffoldBondAnswer, friendsAnswer, friendsEntries, countAnswer, rankAnswer, rankEntries, stateEnergyAnswer, chainEnergyAnswer};
 
 // The options of all positions, a row of 64 for each.
@@ -50,7 +51,7 @@ fn either(a: bool, b: bool) -> bool
     a || b
 }
 
-// The options of an admitted design, a row of 64 for each position, and how many states they give; one past the limit where these are more.
+// The options of a design whose tables pass, a row of 64 for each position, and how many states they give; one past the limit where these are more.
 fn count_options(
     scaffold: &[u8],
     glues: &[u8],
@@ -61,7 +62,7 @@ fn count_options(
     rows: &mut [u8],
     counts: &mut [u8],
 ) -> u64
-    requires { ⌜ Admitted (lent scaffold glues dg ds potentials ambient) ⌝ }
+    requires { ⌜ TablesPass (lent scaffold glues dg ds potentials ambient) ⌝ }
     requires { ⌜ 64 * length (now scaffold) ≤ length (now rows) ⌝ }
     requires { ⌜ length (now counts) ≡ length (now scaffold) ⌝ }
     ensures { λ r. ⌜ r ≡ min (count (modelOf (lent (scaffold .entry) (glues .entry) (dg .entry) (ds .entry) (potentials .entry) ambient))) 1048577 ⌝ }
@@ -162,7 +163,7 @@ pub fn number_of_states(
 ) -> CountAnswer
     ensures { λ r. ⌜ countFigures r ≡ countAnswer (lent (scaffold .entry) (glues .entry) (dg .entry) (ds .entry) (potentials .entry) ambient) ⌝ }
 {
-    match design_reply(false, scaffold, glues, dg, ds, potentials, ambient) {
+    match tables_reply(false, scaffold, glues, dg, ds, potentials) {
         Reply::Refused(refusal, place) => CountAnswer::Refused(refusal, place),
         Reply::Admitted => {
             let mut rows = [0u8; OPTIONS];
@@ -178,10 +179,12 @@ pub fn number_of_states(
                 &mut rows,
                 &mut counts[0..positions],
             );
-            if MOST_STATES < number {
-                return CountAnswer::Refused(Refusal::TooManyStates, Place::Nowhere);
+            let many = refused_if(Refusal::TooManyStates, MOST_STATES < number);
+            let numbers = numbers_reply(scaffold, glues, dg, ds, potentials, ambient);
+            match many.or(numbers) {
+                Reply::Refused(refusal, place) => CountAnswer::Refused(refusal, place),
+                Reply::Admitted => CountAnswer::Count(number),
             }
-            CountAnswer::Count(number)
         }
     }
 }
@@ -201,7 +204,7 @@ pub fn state_at_rank(
     ensures { λ r. ⌜ now (entries .exit) ≡ rankEntries (lent (scaffold .entry) (glues .entry) (dg .entry) (ds .entry) (potentials .entry) ambient) rank (now (entries .entry)) ⌝ }
 {
     let wrong_size = entries.len() != scaffold.len();
-    match design_reply(wrong_size, scaffold, glues, dg, ds, potentials, ambient) {
+    match tables_reply(wrong_size, scaffold, glues, dg, ds, potentials) {
         Reply::Refused(refusal, place) => Reply::Refused(refusal, place),
         Reply::Admitted => {
             let mut rows = [0u8; OPTIONS];
@@ -217,14 +220,16 @@ pub fn state_at_rank(
                 &mut rows,
                 &mut counts[0..positions],
             );
-            if MOST_STATES < states {
-                return Reply::Refused(Refusal::TooManyStates, Place::Nowhere);
+            let many = refused_if(Refusal::TooManyStates, MOST_STATES < states);
+            let high = refused_if(Refusal::RankTooHigh, states <= rank);
+            let numbers = numbers_reply(scaffold, glues, dg, ds, potentials, ambient);
+            match many.or(high).or(numbers) {
+                Reply::Refused(refusal, place) => Reply::Refused(refusal, place),
+                Reply::Admitted => {
+                    write_state(&rows, &counts[0..positions], states, rank, entries);
+                    Reply::Admitted
+                }
             }
-            if states <= rank {
-                return Reply::Refused(Refusal::RankTooHigh, Place::Nowhere);
-            }
-            write_state(&rows, &counts[0..positions], states, rank, entries);
-            Reply::Admitted
         }
     }
 }
@@ -242,11 +247,16 @@ fn energy_reply(
     ensures { λ r. ⌜ r ≡ firstOf (energyChecks (lent (scaffold .entry) (glues .entry) (dg .entry) (ds .entry) (potentials .entry) ambient) (now (configuration .entry))) ⌝ }
 {
     let wrong_size = configuration.len() != scaffold.len();
-    let stranger = first_stranger(scaffold, glues, dg, ds, potentials.len(), configuration);
-    design_reply(wrong_size, scaffold, glues, dg, ds, potentials, ambient).or(refused_if(
-        Refusal::NotAFriend,
-        stranger < scaffold.len(),
-    ))
+    match tables_reply(wrong_size, scaffold, glues, dg, ds, potentials) {
+        Reply::Refused(refusal, place) => Reply::Refused(refusal, place),
+        Reply::Admitted => {
+            let strands = potentials.len();
+            let place = first_stranger(scaffold, glues, dg, ds, strands, configuration);
+            let stranger = refused_if(Refusal::NotAFriend, place < scaffold.len());
+            let numbers = numbers_reply(scaffold, glues, dg, ds, potentials, ambient);
+            stranger.or(numbers)
+        }
+    }
 }
 
 // The state energy of a configuration: one occupant for each position, 0 for an empty place.

@@ -1,4 +1,4 @@
-// Where a design that was built is unfit to be searched: its ambient, or the potential of a strand. The refusal's place says which number.
+// Where a design that was built is unfit to be searched: its ambient, or the potential of a strand.
 use crate::place::Found;
 use crate::place::at_row;
 use crate::place::nowhere;
@@ -20,11 +20,21 @@ pub(crate) fn of_kelvin(text: &[u8], kinds: &[u8], lines: &[usize]) -> Found {
     on_line(text, line, 2, Why::KelvinRange)
 }
 
-// A number of `ambient`: RT, strand excess and scaffold excess stand behind the keyword in this order.
-fn of_ambient(text: &[u8], kinds: &[u8], lines: &[usize], number: usize) -> Found {
-    let line = place_at(lines, row_of(kinds, AMBIENT));
-    let word = std::num::wrapping_add_usize(number, 2);
-    on_line(text, line, word, Why::AmbientRange)
+// The index that a place names.
+fn index_of(place: Place) -> usize {
+    match place {
+        Place::At(index) => index,
+        Place::Nowhere => 0,
+    }
+}
+
+// The word of the ambient's line that holds one of its numbers: RT, then the two excesses.
+fn ambient_word(number: usize) -> usize {
+    match number {
+        0 => 2,
+        1 => 3,
+        _ => 4,
+    }
 }
 
 // The row of a strand by its number: the user strands, the quencher, the reporter.
@@ -41,19 +51,7 @@ fn row_of_strand(kinds: &[u8], strand_rows: &[usize], strand: usize) -> usize {
     row_of(kinds, REPORTER)
 }
 
-// The potential of a strand.
-fn of_potential(
-    kinds: &[u8],
-    lines: &[usize],
-    words: &[usize],
-    strand_rows: &[usize],
-    strand: usize,
-) -> Found {
-    let row = row_of_strand(kinds, strand_rows, strand);
-    at_row(lines, row, word_of(words, row, 0), Why::PotentialRange)
-}
-
-// Where a design that was built is refused. It has no other fault, since `from_params` writes tables that are in order.
+// Where a design that was built is refused: a number of its ambient, or the potential of a strand.
 pub(crate) fn of_design(
     refusal: Refusal,
     place: Place,
@@ -63,12 +61,15 @@ pub(crate) fn of_design(
     words: &[usize],
     strand_rows: &[usize],
 ) -> Found {
-    let Place::At(number) = place else {
-        return nowhere(Why::Refused);
-    };
     match refusal {
-        Refusal::AmbientOut => of_ambient(text, kinds, lines, number),
-        Refusal::PotentialOut => of_potential(kinds, lines, words, strand_rows, number),
+        Refusal::AmbientOut => {
+            let line = place_at(lines, row_of(kinds, AMBIENT));
+            on_line(text, line, ambient_word(index_of(place)), Why::AmbientRange)
+        }
+        Refusal::PotentialOut => {
+            let row = row_of_strand(kinds, strand_rows, index_of(place));
+            at_row(lines, row, word_of(words, row, 0), Why::PotentialRange)
+        }
         _ => nowhere(Why::Refused),
     }
 }

@@ -1,6 +1,6 @@
 -- `mfe_configuration` meets its contract: its reply is that of the first check that holds, only an admitted call writes, and what it writes and
 -- answers is the lowest configuration with its energy. Assumes nothing.
-use mathlib.Core.Path.{_≡_, sym, ap, _∙_}
+use mathlib.Core.Path.{_≡_, refl, sym, ap, _∙_}
 use mathlib.Core.Bool.{Bool, true, not}
 use mathlib.Core.List.{List, []}
 use Prim.Native.Nat.{ℕ}
@@ -37,7 +37,7 @@ searched-requires : tie.Need-searched-requires
 searched-requires c κs =
     let d : Design = lent (c .before .before .before .before .before .before .before .before .before .before .args .scaffold) (c .before .before .before .before .before .before .before .before .before .before .args .glues) (c .before .before .before .before .before .before .before .before .before .before .args .dg) (c .before .before .before .before .before .before .before .before .before .before .args .ds) (c .before .before .before .before .before .before .before .before .before .before .args .potentials) (c .before .before .before .before .before .before .before .before .before .before .args .ambient) in
     let e = c .before .before .before .before .before .before .before .before .before .before .args .configuration .now in
-    let w = passed (ownSize d e) d [] (sym (c .before .before .before .design-reply .ensures) ∙ c .before .enum-told .given .1) in
+    let w = passed (ownSize d e) d [] [] (sym (c .before .before .before .design-reply .ensures) ∙ c .before .enum-told .given .1) in
     (w .design, eqb-true _ _ (not-false _ (w .size)))
 
 returns : tie.Need-returns
@@ -46,7 +46,7 @@ returns c =
     let e = c .before .before .before .before .before .before .before .before .before .before .args .configuration .now in
     let refused = sym (c .before .before .before .design-reply .ensures) ∙ c .before .refusal .given .1 in (
       refused-by zero (Search.search (modelOf d) .energy) refused,
-      (kept-by e (Search.search (modelOf d) .configuration) refused, λ w l. no-admission (sym refused ∙ own-decide (ownSize d e) d [] (ap not (eq-eqb _ _ l)) w)),
+      (kept-by e (Search.search (modelOf d) .configuration) refused, λ w l. no-admission (sym refused ∙ own-decide (ownSize d e) d [] [] (ap not (eq-eqb _ _ l)) w refl)),
     )
 
 same-length : tie.Need-same-length

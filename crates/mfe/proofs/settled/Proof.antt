@@ -7,6 +7,7 @@ use lib.Seq.{take-at}
 use borrow.Author.Needs.{needs}
 use Rattle.design.specs.Design.{Design, lent, positions, modelOf}
 use Rattle.design.proofs.Sizes.{sized}
+use Rattle.design.proofs.Replies.{tables-of}
 use Rattle.design.proofs.Cells.{null-nowhere, bond-cells}
 use Rattle.mfe.proofs.Shown.{placed}
 use Rattle.mfe.proofs.settled.Statement.{statement}
@@ -37,7 +38,7 @@ fill-options-requires : tie.Need-fill-options-requires
 fill-options-requires c κs =
     let d : Design = lent (c .before .before .before .before .before .before .before .before .before .before .args .scaffold) (c .before .before .before .before .before .before .before .before .before .before .args .glues) (c .before .before .before .before .before .before .before .before .before .before .args .dg) (c .before .before .before .before .before .before .before .before .before .before .args .ds) (c .before .before .before .before .before .before .before .before .before .before .args .potentials) (c .before .before .before .before .before .before .before .before .before .before .args .ambient) in
     let z = sized d (c .before .before .before .before .before .before .before .before .before .before .pre .0 .sizes) in
-    (omega arith, (omega arith, (z .short, (omega arith, (omega (arith, length-take (positions d - 0) (replicate {A = ℕ} 128 0)), null-nowhere d (c .before .before .before .before .before .before .before .before .before .before .pre .0))))))
+    (omega arith, (omega arith, (z .short, (omega arith, (omega (arith, length-take (positions d - 0) (replicate {A = ℕ} 128 0)), null-nowhere d (tables-of d (c .before .before .before .before .before .before .before .before .before .before .pre .0)))))))
 
 slice-aggregate-fill-read-strand-bonds : tie.Need-slice-aggregate-fill-read-strand-bonds
 slice-aggregate-fill-read-strand-bonds c = search needs

@@ -23,7 +23,7 @@ cast-strands c =
     let a = c .before .before .before .before .before .before .before .before .before .before .before .args in
     let d : Design = lent (a .scaffold) (a .glues) (a .dg) (a .ds) (a .potentials) (a .ambient) in
     let size : Bool = leb (positions d) (a .position) || not (eqb (length (a .entries .now)) 64) in
-    let p = passed size d [] (replied d (c .before .before .before .design-reply .ensures) (c .before .before .before .before .either .ensures) (c .before .enum-told .given .1)) in
+    let p = passed size d [] [] (replied d (c .before .before .before .design-reply .ensures) (c .before .before .before .before .either .ensures) (c .before .enum-told .given .1)) in
     let few = sized d (p .design .sizes) .few in
     omega arith
 
@@ -32,7 +32,7 @@ write-friends-requires c κs =
     let a = c .before .before .before .before .before .before .before .before .before .before .before .before .args in
     let d : Design = lent (a .scaffold) (a .glues) (a .dg) (a .ds) (a .potentials) (a .ambient) in
     let size : Bool = leb (positions d) (a .position) || not (eqb (length (a .entries .now)) 64) in
-    let p = passed size d [] (replied d (c .before .before .before .before .design-reply .ensures) (c .before .before .before .before .before .either .ensures) (c .before .before .enum-told .given .1)) in
+    let p = passed size d [] [] (replied d (c .before .before .before .before .design-reply .ensures) (c .before .before .before .before .before .either .ensures) (c .before .before .enum-told .given .1)) in
     let few = sized d (p .design .sizes) .few in
     let room : length (a .entries .now) ≡ 64 = eqb-true _ _ (not-false _ (neither (leb (positions d) (a .position)) (not (eqb (length (a .entries .now)) 64)) (p .size) .1)) in
     omega arith
