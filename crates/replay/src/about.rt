@@ -15,7 +15,6 @@ ghost use Prim.Native.Nat.{_≤_};
 // Its numbers from the start of each array, and how many of them are its own.
 pub(crate) struct Design {
     scaffold: [u8; 128],
-    marks: [u8; 128],
     glues: [u8; 192],
     dg: [f64; 4096],
     ds: [f64; 4096],
@@ -62,7 +61,6 @@ pub(crate) fn begun(words: &[u8]) -> Design {
     let fourth = past(third, b' ');
     Design {
         scaffold: [0; 128],
-        marks: [0; 128],
         glues: [0; 192],
         dg: [0.0; 4096],
         ds: [0.0; 4096],
@@ -115,12 +113,6 @@ pub(crate) fn set(mut design: Design, word: &[u8], words: &[u8]) -> Step {
         design.scaffold = scaffold;
         return Step { design, done };
     }
-    if check::same(word, b"mark") {
-        let mut marks = design.marks;
-        let done = set_byte(words, &mut marks);
-        design.marks = marks;
-        return Step { design, done };
-    }
     if check::same(word, b"glue") {
         let mut glues = design.glues;
         let done = set_byte(words, &mut glues);
@@ -135,7 +127,6 @@ fn of_states(
     kind: Kind,
     words: &[u8],
     scaffold: &[u8],
-    marks: &[u8],
     glues: &[u8],
     dg: &[f64],
     ds: &[f64],
@@ -149,7 +140,6 @@ fn of_states(
         Kind::StrandBond => designs::strand_bond(
             words,
             scaffold,
-            marks,
             glues,
             dg,
             ds,
@@ -161,7 +151,6 @@ fn of_states(
         Kind::ScaffoldBond => designs::scaffold_bond(
             words,
             scaffold,
-            marks,
             glues,
             dg,
             ds,
@@ -173,7 +162,6 @@ fn of_states(
         Kind::Friends => designs::friends(
             words,
             scaffold,
-            marks,
             glues,
             dg,
             ds,
@@ -186,7 +174,6 @@ fn of_states(
         Kind::Count => designs::count(
             words,
             scaffold,
-            marks,
             glues,
             dg,
             ds,
@@ -204,7 +191,6 @@ fn of_places(
     kind: Kind,
     words: &[u8],
     scaffold: &[u8],
-    marks: &[u8],
     glues: &[u8],
     dg: &[f64],
     ds: &[f64],
@@ -222,7 +208,6 @@ fn of_places(
         Kind::State => designs::state(
             words,
             scaffold,
-            marks,
             glues,
             dg,
             ds,
@@ -235,7 +220,6 @@ fn of_places(
         Kind::Search => designs::search(
             words,
             scaffold,
-            marks,
             glues,
             dg,
             ds,
@@ -248,7 +232,6 @@ fn of_places(
         Kind::Settled => designs::settled(
             words,
             scaffold,
-            marks,
             glues,
             dg,
             ds,
@@ -262,7 +245,6 @@ fn of_places(
             kind,
             words,
             scaffold,
-            marks,
             glues,
             dg,
             ds,
@@ -279,7 +261,6 @@ fn says_of(
     kind: Kind,
     words: &[u8],
     scaffold: &[u8],
-    marks: &[u8],
     glues: &[u8],
     dg: &[f64],
     ds: &[f64],
@@ -294,7 +275,6 @@ fn says_of(
         Kind::StateEnergy => designs::state_energy(
             words,
             scaffold,
-            marks,
             glues,
             dg,
             ds,
@@ -307,7 +287,6 @@ fn says_of(
         Kind::ChainEnergy => designs::chain_energy(
             words,
             scaffold,
-            marks,
             glues,
             dg,
             ds,
@@ -321,7 +300,6 @@ fn says_of(
             kind,
             words,
             scaffold,
-            marks,
             glues,
             dg,
             ds,
@@ -338,7 +316,6 @@ fn of_own(
     kind: Kind,
     words: &[u8],
     scaffold: [u8; 128],
-    marks: [u8; 128],
     glues: [u8; 192],
     dg: [f64; 4096],
     ds: [f64; 4096],
@@ -360,7 +337,6 @@ fn of_own(
         kind,
         words,
         &scaffold[..positions],
-        &marks[..positions],
         &glues[..sides],
         &dg,
         &ds,
@@ -374,7 +350,6 @@ fn of_own(
 // Whether a line about the design says what is answered.
 pub(crate) fn agrees(kind: Kind, words: &[u8], design: Design) -> bool {
     let scaffold = design.scaffold;
-    let marks = design.marks;
     let glues = design.glues;
     let dg = design.dg;
     let ds = design.ds;
@@ -383,7 +358,6 @@ pub(crate) fn agrees(kind: Kind, words: &[u8], design: Design) -> bool {
         kind,
         words,
         scaffold,
-        marks,
         glues,
         dg,
         ds,

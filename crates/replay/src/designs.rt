@@ -20,7 +20,6 @@ use doubles::bits;
 pub(crate) fn strand_bond(
     words: &[u8],
     scaffold: &[u8],
-    marks: &[u8],
     glues: &[u8],
     dg: &[f64],
     ds: &[f64],
@@ -29,7 +28,7 @@ pub(crate) fn strand_bond(
     strand_excess: f64,
     scaffold_excess: f64,
 ) -> bool
-    ensures { λ r. ⌜ (r ≡ true → StrandBondLine (lentAt (scaffold .entry) (marks .entry) (glues .entry) (dg .entry) (ds .entry) (potentials .entry) rt «strand_excess» «scaffold_excess») (now (words .entry))) ⌝ }
+    ensures { λ r. ⌜ (r ≡ true → StrandBondLine (lentAt (scaffold .entry) (glues .entry) (dg .entry) (ds .entry) (potentials .entry) rt «strand_excess» «scaffold_excess») (now (words .entry))) ⌝ }
 {
     let rest = past(words, b' ');
     let Byte::Is(x) = small(up_to(words, b' ')) else {
@@ -42,7 +41,6 @@ pub(crate) fn strand_bond(
     let mut bond = 0.0;
     let reply = exports::designs::mj_strand_bond(
         scaffold,
-        marks,
         glues,
         dg,
         ds,
@@ -63,7 +61,6 @@ pub(crate) fn strand_bond(
 pub(crate) fn scaffold_bond(
     words: &[u8],
     scaffold: &[u8],
-    marks: &[u8],
     glues: &[u8],
     dg: &[f64],
     ds: &[f64],
@@ -72,7 +69,7 @@ pub(crate) fn scaffold_bond(
     strand_excess: f64,
     scaffold_excess: f64,
 ) -> bool
-    ensures { λ r. ⌜ (r ≡ true → ScaffoldBondLine (lentAt (scaffold .entry) (marks .entry) (glues .entry) (dg .entry) (ds .entry) (potentials .entry) rt «strand_excess» «scaffold_excess») (now (words .entry))) ⌝ }
+    ensures { λ r. ⌜ (r ≡ true → ScaffoldBondLine (lentAt (scaffold .entry) (glues .entry) (dg .entry) (ds .entry) (potentials .entry) rt «strand_excess» «scaffold_excess») (now (words .entry))) ⌝ }
 {
     let rest = past(words, b' ');
     let Number::Is(position) = decimal(up_to(words, b' ')) else {
@@ -85,7 +82,6 @@ pub(crate) fn scaffold_bond(
     let mut bond = 0.0;
     let reply = exports::designs::mj_scaffold_bond(
         scaffold,
-        marks,
         glues,
         dg,
         ds,
@@ -106,7 +102,6 @@ pub(crate) fn scaffold_bond(
 pub(crate) fn friends(
     words: &[u8],
     scaffold: &[u8],
-    marks: &[u8],
     glues: &[u8],
     dg: &[f64],
     ds: &[f64],
@@ -116,7 +111,7 @@ pub(crate) fn friends(
     scaffold_excess: f64,
     entries: &mut [u8],
 ) -> bool
-    ensures { λ r. ⌜ (r ≡ true → FriendsLine (lentAt (scaffold .entry) (marks .entry) (glues .entry) (dg .entry) (ds .entry) (potentials .entry) rt «strand_excess» «scaffold_excess») (now (words .entry)) (now (entries .entry))) ⌝ }
+    ensures { λ r. ⌜ (r ≡ true → FriendsLine (lentAt (scaffold .entry) (glues .entry) (dg .entry) (ds .entry) (potentials .entry) rt «strand_excess» «scaffold_excess») (now (words .entry)) (now (entries .entry))) ⌝ }
 {
     let Number::Is(position) = decimal(up_to(words, b' ')) else {
         return false;
@@ -125,7 +120,6 @@ pub(crate) fn friends(
     let mut count: u64 = 0;
     let reply = exports::designs::mj_friends(
         scaffold,
-        marks,
         glues,
         dg,
         ds,
@@ -145,7 +139,6 @@ pub(crate) fn friends(
 pub(crate) fn count(
     words: &[u8],
     scaffold: &[u8],
-    marks: &[u8],
     glues: &[u8],
     dg: &[f64],
     ds: &[f64],
@@ -154,13 +147,12 @@ pub(crate) fn count(
     strand_excess: f64,
     scaffold_excess: f64,
 ) -> bool
-    ensures { λ r. ⌜ (r ≡ true → CountLine (lentAt (scaffold .entry) (marks .entry) (glues .entry) (dg .entry) (ds .entry) (potentials .entry) rt «strand_excess» «scaffold_excess») (now (words .entry))) ⌝ }
+    ensures { λ r. ⌜ (r ≡ true → CountLine (lentAt (scaffold .entry) (glues .entry) (dg .entry) (ds .entry) (potentials .entry) rt «strand_excess» «scaffold_excess») (now (words .entry))) ⌝ }
 {
     let mut place: u64 = 0;
     let mut count: u64 = 0;
     let reply = exports::designs::mj_states(
         scaffold,
-        marks,
         glues,
         dg,
         ds,
@@ -179,7 +171,6 @@ pub(crate) fn count(
 pub(crate) fn state(
     words: &[u8],
     scaffold: &[u8],
-    marks: &[u8],
     glues: &[u8],
     dg: &[f64],
     ds: &[f64],
@@ -189,7 +180,7 @@ pub(crate) fn state(
     scaffold_excess: f64,
     places: &mut [u8],
 ) -> bool
-    ensures { λ r. ⌜ (r ≡ true → StateLine (lentAt (scaffold .entry) (marks .entry) (glues .entry) (dg .entry) (ds .entry) (potentials .entry) rt «strand_excess» «scaffold_excess») (now (words .entry)) (now (places .entry))) ⌝ }
+    ensures { λ r. ⌜ (r ≡ true → StateLine (lentAt (scaffold .entry) (glues .entry) (dg .entry) (ds .entry) (potentials .entry) rt «strand_excess» «scaffold_excess») (now (words .entry)) (now (places .entry))) ⌝ }
 {
     let Number::Is(rank) = decimal(up_to(words, b' ')) else {
         return false;
@@ -197,7 +188,6 @@ pub(crate) fn state(
     let mut place: u64 = 0;
     let reply = exports::designs::mj_state(
         scaffold,
-        marks,
         glues,
         dg,
         ds,
@@ -216,7 +206,6 @@ pub(crate) fn state(
 pub(crate) fn state_energy(
     words: &[u8],
     scaffold: &[u8],
-    marks: &[u8],
     glues: &[u8],
     dg: &[f64],
     ds: &[f64],
@@ -226,7 +215,7 @@ pub(crate) fn state_energy(
     scaffold_excess: f64,
     configuration: &[u8],
 ) -> bool
-    ensures { λ r. ⌜ (r ≡ true → StateEnergyLine (lentAt (scaffold .entry) (marks .entry) (glues .entry) (dg .entry) (ds .entry) (potentials .entry) rt «strand_excess» «scaffold_excess») (now (words .entry)) (now (configuration .entry))) ⌝ }
+    ensures { λ r. ⌜ (r ≡ true → StateEnergyLine (lentAt (scaffold .entry) (glues .entry) (dg .entry) (ds .entry) (potentials .entry) rt «strand_excess» «scaffold_excess») (now (words .entry)) (now (configuration .entry))) ⌝ }
 {
     if !is_places(up_to(words, b' '), configuration) {
         return false;
@@ -235,7 +224,6 @@ pub(crate) fn state_energy(
     let mut energy = 0.0;
     let reply = exports::designs::mj_state_energy(
         scaffold,
-        marks,
         glues,
         dg,
         ds,
@@ -255,7 +243,6 @@ pub(crate) fn state_energy(
 pub(crate) fn chain_energy(
     words: &[u8],
     scaffold: &[u8],
-    marks: &[u8],
     glues: &[u8],
     dg: &[f64],
     ds: &[f64],
@@ -265,7 +252,7 @@ pub(crate) fn chain_energy(
     scaffold_excess: f64,
     configuration: &[u8],
 ) -> bool
-    ensures { λ r. ⌜ (r ≡ true → ChainEnergyLine (lentAt (scaffold .entry) (marks .entry) (glues .entry) (dg .entry) (ds .entry) (potentials .entry) rt «strand_excess» «scaffold_excess») (now (words .entry)) (now (configuration .entry))) ⌝ }
+    ensures { λ r. ⌜ (r ≡ true → ChainEnergyLine (lentAt (scaffold .entry) (glues .entry) (dg .entry) (ds .entry) (potentials .entry) rt «strand_excess» «scaffold_excess») (now (words .entry)) (now (configuration .entry))) ⌝ }
 {
     if !is_places(up_to(words, b' '), configuration) {
         return false;
@@ -275,7 +262,6 @@ pub(crate) fn chain_energy(
     let mut energy = 0.0;
     let reply = exports::designs::mj_chain_energy(
         scaffold,
-        marks,
         glues,
         dg,
         ds,
@@ -296,7 +282,6 @@ pub(crate) fn chain_energy(
 pub(crate) fn search(
     words: &[u8],
     scaffold: &[u8],
-    marks: &[u8],
     glues: &[u8],
     dg: &[f64],
     ds: &[f64],
@@ -306,13 +291,12 @@ pub(crate) fn search(
     scaffold_excess: f64,
     places: &mut [u8],
 ) -> bool
-    ensures { λ r. ⌜ (r ≡ true → SearchLine (lentAt (scaffold .entry) (marks .entry) (glues .entry) (dg .entry) (ds .entry) (potentials .entry) rt «strand_excess» «scaffold_excess») (now (words .entry)) (now (places .entry))) ⌝ }
+    ensures { λ r. ⌜ (r ≡ true → SearchLine (lentAt (scaffold .entry) (glues .entry) (dg .entry) (ds .entry) (potentials .entry) rt «strand_excess» «scaffold_excess») (now (words .entry)) (now (places .entry))) ⌝ }
 {
     let mut place: u64 = 0;
     let mut energy = 0.0;
     let reply = exports::search::mj_search(
         scaffold,
-        marks,
         glues,
         dg,
         ds,
@@ -332,7 +316,6 @@ pub(crate) fn search(
 pub(crate) fn settled(
     words: &[u8],
     scaffold: &[u8],
-    marks: &[u8],
     glues: &[u8],
     dg: &[f64],
     ds: &[f64],
@@ -342,13 +325,12 @@ pub(crate) fn settled(
     scaffold_excess: f64,
     places: &mut [u8],
 ) -> bool
-    ensures { λ r. ⌜ (r ≡ true → SettledLine (lentAt (scaffold .entry) (marks .entry) (glues .entry) (dg .entry) (ds .entry) (potentials .entry) rt «strand_excess» «scaffold_excess») (now (words .entry)) (now (places .entry))) ⌝ }
+    ensures { λ r. ⌜ (r ≡ true → SettledLine (lentAt (scaffold .entry) (glues .entry) (dg .entry) (ds .entry) (potentials .entry) rt «strand_excess» «scaffold_excess») (now (words .entry)) (now (places .entry))) ⌝ }
 {
     let mut place: u64 = 0;
     let mut energy = 0.0;
     let reply = exports::search::mj_search(
         scaffold,
-        marks,
         glues,
         dg,
         ds,

@@ -69,11 +69,7 @@ pub fn setting(lent: &Lent) -> Vec<Answered> {
     let (positions, strands) = (lent.positions(), lent.strands());
     let begun = format!("design {positions} {strands} {}", ambient.join(" "));
     let mut lines = vec![Answered::setter(begun)];
-    for (name, bytes) in [
-        ("scaffold", &lent.scaffold),
-        ("mark", &lent.marks),
-        ("glue", &lent.glues),
-    ] {
+    for (name, bytes) in [("scaffold", &lent.scaffold), ("glue", &lent.glues)] {
         let set = bytes.iter().enumerate().filter(|(_, byte)| **byte != 0);
         lines.extend(set.map(|(index, byte)| Answered::setter(format!("{name} {index} {byte}"))));
     }

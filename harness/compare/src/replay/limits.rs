@@ -290,29 +290,6 @@ fn asked(lent: &Lent) -> Vec<Answered> {
     lines
 }
 
-/// Each choice of marks on two positions whose bonds tie, and marks of other values.
-fn blocked() -> Vec<Lent> {
-    let two = |marks: [u8; 2]| {
-        with(|lent| {
-            lent.scaffold = vec![1, 2];
-            lent.marks = marks.to_vec();
-            lent.glues.extend([0, 2, 0]);
-            lent.dg[cell(1, 1)] = -0.5;
-            lent.dg[cell(2, 2)] = -2.0;
-            lent.potentials.push(-1.0);
-        })
-    };
-    let mut designs: Vec<Lent> = [[0, 0], [1, 0], [0, 1], [1, 1], [2, 0], [0, 255]]
-        .into_iter()
-        .map(two)
-        .collect();
-    // A potential that only a blocked place would read.
-    let mut unread = two([1, 0]);
-    unread.potentials[1] = f64::NAN;
-    designs.push(unread);
-    designs
-}
-
 fn designs() -> Vec<Lent> {
     let random = &mut Random::new(SEED);
     let mut designs = [
@@ -320,7 +297,6 @@ fn designs() -> Vec<Lent> {
         at_the_sizes(),
         nulls(),
         friends_without_a_bond(),
-        blocked(),
     ]
     .concat();
     let mut ordered = 0;

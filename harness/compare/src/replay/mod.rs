@@ -23,7 +23,7 @@ pub const HEADER: &str = "\
 #   name N                           ok LENGTH IS_BASE: of its base; 1 where the name stands for the base. In 16 hex digits
 # A design is set by lines that are no questions, one number each, and holds for the questions that follow:
 #   design POSITIONS STRANDS RT STRAND_EXCESS SCAFFOLD_EXCESS   begins one whose other numbers are all 0
-#   scaffold I GLUE, mark I MARK, glue I GLUE, potential I X, dg I X, ds I X   set entry I of a slice
+#   scaffold I GLUE, glue I GLUE, potential I X, dg I X, ds I X   set entry I of a slice
 #   sbond X Y, cbond POSITION STRAND ok BOND
 #   friends POSITION, state RANK     ok PLACES
 #   nstates                          ok COUNT, in 16 hex digits

@@ -20,29 +20,23 @@ array-share-prefix-scaffold c = search needs
 slice-aggregate-says-of : tie.Need-slice-aggregate-says-of
 slice-aggregate-says-of c = sym (length-take-le _ _ (search needs))
 
-array-share-prefix-marks : tie.Need-array-share-prefix-marks
-array-share-prefix-marks c = search needs
+array-share-prefix-glues : tie.Need-array-share-prefix-glues
+array-share-prefix-glues c = search needs
 
 slice-aggregate-says-of-2 : tie.Need-slice-aggregate-says-of-2
 slice-aggregate-says-of-2 c = sym (length-take-le _ _ (search needs))
 
-array-share-prefix-glues : tie.Need-array-share-prefix-glues
-array-share-prefix-glues c = search needs
-
 slice-aggregate-says-of-3 : tie.Need-slice-aggregate-says-of-3
-slice-aggregate-says-of-3 c = sym (length-take-le _ _ (search needs))
+slice-aggregate-says-of-3 c = search needs
 
 slice-aggregate-says-of-4 : tie.Need-slice-aggregate-says-of-4
 slice-aggregate-says-of-4 c = search needs
 
-slice-aggregate-says-of-5 : tie.Need-slice-aggregate-says-of-5
-slice-aggregate-says-of-5 c = search needs
-
 array-share-prefix-potentials : tie.Need-array-share-prefix-potentials
 array-share-prefix-potentials c = search needs
 
-slice-aggregate-says-of-6 : tie.Need-slice-aggregate-says-of-6
-slice-aggregate-says-of-6 c = sym (length-take-le _ _ (search needs))
+slice-aggregate-says-of-5 : tie.Need-slice-aggregate-says-of-5
+slice-aggregate-says-of-5 c = sym (length-take-le _ _ (search needs))
 
 says-of-requires : tie.Need-says-of-requires
 says-of-requires c κs = search needs
@@ -59,13 +53,11 @@ of-own-spec =
     mul-sides
     array-share-prefix-scaffold
     slice-aggregate-says-of
-    array-share-prefix-marks
-    slice-aggregate-says-of-2
     array-share-prefix-glues
+    slice-aggregate-says-of-2
     slice-aggregate-says-of-3
     slice-aggregate-says-of-4
-    slice-aggregate-says-of-5
     array-share-prefix-potentials
-    slice-aggregate-says-of-6
+    slice-aggregate-says-of-5
     says-of-requires
     returns-3)
