@@ -342,9 +342,12 @@ fn search(
         reads::numbers(&mut room, strands),
     );
     let potentials = first_numbers(&room, strands);
+    let none_blocked = [0u8; 128];
+    let marks = first_bytes(&none_blocked, positions);
     let mut configuration = [0u8; 128];
     match mfe_configuration(
         scaffold,
+        marks,
         glues,
         dg,
         ds,
@@ -360,7 +363,7 @@ fn search(
             unfit::of_design(refusal, place, text, kinds, lines, words, strand_rows),
         ),
         EnergyAnswer::Energy(energy) => {
-            let states = number_of_states(scaffold, glues, dg, ds, potentials, ambient);
+            let states = number_of_states(scaffold, marks, glues, dg, ds, potentials, ambient);
             report(
                 style,
                 path,
