@@ -31,7 +31,7 @@
  *               entries or positions; not 1 to 64 strands; a glue above 63; a strand or a position
  *               that the design lacks; more than 61 user strands or 1,024 energy entries; a name of
  *               more than 64 bytes; a name or a sequence that leaves the text; a mark or a form of
- *               another value; a quencher or reporter that is no user strand
+ *               another value; marks that are not one for each position; a quencher or reporter that is no user strand
  *    2 base     a byte other than a, c, g, t in either case
  *    3 short    a single sequence of fewer than 2 bases
  *    4 unequal  paired sequences of different length
@@ -178,23 +178,26 @@ uint32_t mj_params(
     uint8_t *strand_glues, size_t strand_glues_lent, uint8_t *scaffold_glues,
     size_t scaffold_glues_lent, double *dg, size_t dg_lent, double *ds, size_t ds_lent);
 
-/* Designs. A design is five slices, each a pointer and a length, and the ambient:
+/* Designs. A design is six slices, each a pointer and a length, and the ambient:
  *
  *   scaffold     a glue for each position, 0 to 128 of them
+ *   marks        one for each position: 0 open, 1 blocked
  *   glues        three for each strand: west, bottom, east; strand 0 is empty and has none (0, 0, 0)
  *   dg, ds       4,096 cells each, row first: 64 rows of 64; dg within 1024, ds within 8 of 0
  *   potentials   one for each strand, 1 to 64 of them, strand 0 included: the logarithm of its
  *                concentration, within 1024 of 0; looked at only where the strand is a friend
  *   rt           1/8 to 8; strand_excess, scaffold_excess within 1024 of 0
  *
- * Every call checks all of the design. A strand is a friend at a position if dG or dS is nonzero at
- * the cell of the position's glue and the strand's bottom glue. A configuration has an occupant for
+ * Every call checks all of the design. A strand is a friend at a position if the position is open and
+ * dG or dS is nonzero at the cell of the position's glue and the strand's bottom glue: a blocked
+ * position has no friends, and is empty in every state. Bonds are those of the glues, whatever the
+ * marks. A configuration has an occupant for
  * each position, 0 for an empty place; a state is one that has 0 or a friend at each position. */
 #define MJ_DESIGN                                                                              \
-    const uint8_t *scaffold, size_t positions, const uint8_t *glues, size_t glue_count,        \
-        const double *dg, size_t dg_cells, const double *ds, size_t ds_cells,                  \
-        const double *potentials, size_t strands, double rt, double strand_excess,             \
-        double scaffold_excess
+    const uint8_t *scaffold, size_t positions, const uint8_t *marks, size_t mark_count,        \
+        const uint8_t *glues, size_t glue_count, const double *dg, size_t dg_cells,            \
+        const double *ds, size_t ds_cells, const double *potentials, size_t strands,           \
+        double rt, double strand_excess, double scaffold_excess
 
 /* The bond between strand x and strand y to the east of it: an energy over RT
  * (bond_between_strands). Replies 1, 9, 10, 16, 17. */

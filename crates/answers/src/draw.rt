@@ -1,5 +1,5 @@
 // The settled configuration as people see it: the strands over the positions on which they sit, in as many stretches as lines are wide.
-use crate::names::occupant_of;
+use crate::names::occupant_at;
 use crate::names::occupant_width;
 use crate::names::print_occupant;
 use crate::print::Style;
@@ -9,7 +9,6 @@ use crate::print::print_bytes;
 use crate::print::print_count;
 use crate::print::width;
 use crate::reads::part;
-use design::reads::byte_at;
 use statements::words::place_at;
 
 // What a line of a stretch holds beside its head.
@@ -48,9 +47,10 @@ fn column(
     name_starts: &[usize],
     name_sizes: &[usize],
     configuration: &[u8],
+    marks: &[u8],
     i: usize,
 ) -> usize {
-    let occupant = occupant_of(byte_at(configuration, i) as usize, name_starts.len());
+    let occupant = occupant_at(configuration, marks, name_starts.len(), i);
     larger(
         occupant_width(occupant, text, name_starts, name_sizes),
         glue_width(text, place_at(glue_starts, i), place_at(glue_sizes, i)),
@@ -65,6 +65,7 @@ fn stretch_end(
     name_starts: &[usize],
     name_sizes: &[usize],
     configuration: &[u8],
+    marks: &[u8],
     from: usize,
 ) -> usize {
     let mut used = 0;
@@ -76,6 +77,7 @@ fn stretch_end(
             name_starts,
             name_sizes,
             configuration,
+            marks,
             i,
         );
         used = std::num::wrapping_add_usize(used, std::num::wrapping_add_usize(wide, 2));
@@ -102,12 +104,13 @@ fn print_strands(
     name_starts: &[usize],
     name_sizes: &[usize],
     configuration: &[u8],
+    marks: &[u8],
     from: usize,
     end: usize,
 ) {
     print(b"    strands   ");
     for i in from..end {
-        let occupant = occupant_of(byte_at(configuration, i) as usize, name_starts.len());
+        let occupant = occupant_at(configuration, marks, name_starts.len(), i);
         print_occupant(occupant, text, name_starts, name_sizes, Style::People);
         if i + 1 < end {
             let wide = occupant_width(occupant, text, name_starts, name_sizes);
@@ -119,6 +122,7 @@ fn print_strands(
                     name_starts,
                     name_sizes,
                     configuration,
+                    marks,
                     i,
                 ),
                 wide,
@@ -136,6 +140,7 @@ fn print_glues(
     name_starts: &[usize],
     name_sizes: &[usize],
     configuration: &[u8],
+    marks: &[u8],
     from: usize,
     end: usize,
 ) {
@@ -154,6 +159,7 @@ fn print_glues(
                     name_starts,
                     name_sizes,
                     configuration,
+                    marks,
                     i,
                 ),
                 wide,
@@ -184,6 +190,7 @@ fn print_stretch(
     name_starts: &[usize],
     name_sizes: &[usize],
     configuration: &[u8],
+    marks: &[u8],
     from: usize,
 ) -> usize {
     let end = stretch_end(
@@ -193,6 +200,7 @@ fn print_stretch(
         name_starts,
         name_sizes,
         configuration,
+        marks,
         from,
     );
     print_range(std::num::wrapping_add_usize(from, 1), end);
@@ -203,6 +211,7 @@ fn print_stretch(
         name_starts,
         name_sizes,
         configuration,
+        marks,
         from,
         end,
     );
@@ -213,6 +222,7 @@ fn print_stretch(
         name_starts,
         name_sizes,
         configuration,
+        marks,
         from,
         end,
     );
@@ -227,6 +237,7 @@ pub(crate) fn draw(
     name_starts: &[usize],
     name_sizes: &[usize],
     configuration: &[u8],
+    marks: &[u8],
 ) {
     let mut from = 0;
     for turn in 0..configuration.len() {
@@ -238,6 +249,7 @@ pub(crate) fn draw(
                 name_starts,
                 name_sizes,
                 configuration,
+                marks,
                 from,
             );
         }

@@ -214,11 +214,11 @@ fn print_comma(i: usize) {
     }
 }
 
-// The strands' numbers, as the items of a list.
-fn print_json_numbers(configuration: &[u8]) {
-    for i in 0..configuration.len() {
+// Numbers, one for each position, as the items of a list.
+fn print_json_numbers(numbers: &[u8]) {
+    for i in 0..numbers.len() {
         print_comma(i);
-        print_count(byte_at(configuration, i) as usize);
+        print_count(byte_at(numbers, i) as usize);
     }
 }
 
@@ -242,7 +242,8 @@ fn print_json_names(
     }
 }
 
-// For people. The name of each user strand is a start and a size in the text, and so is the glue of each position.
+// For people. The name of each user strand is a start and a size in the text, and so is the glue of each position; a mark of 1 is that of a
+// blocked one.
 fn settled_for_people(
     path: &[u8],
     text: &[u8],
@@ -253,6 +254,7 @@ fn settled_for_people(
     entries: usize,
     states: States,
     configuration: &[u8],
+    marks: &[u8],
     energy: f64,
     deck: &[u32],
 ) {
@@ -269,6 +271,7 @@ fn settled_for_people(
         name_starts,
         name_sizes,
         configuration,
+        marks,
     );
     print(b"  energy ");
     print_fixed(energy);
@@ -287,6 +290,7 @@ fn settled_as_json(
     entries: usize,
     states: States,
     configuration: &[u8],
+    marks: &[u8],
     energy: f64,
     deck: &[u32],
 ) {
@@ -301,6 +305,8 @@ fn settled_as_json(
     print_json_states(states);
     print(b",\"configuration\":[");
     print_json_numbers(configuration);
+    print(b"],\"blocked\":[");
+    print_json_numbers(marks);
     print(b"],\"names\":[");
     print_json_names(text, name_starts, name_sizes, configuration);
     print(b"],\"energy\":");
@@ -324,6 +330,7 @@ pub fn settled(
     entries: usize,
     states: States,
     configuration: &[u8],
+    marks: &[u8],
     energy: f64,
     deck: &[u32],
 ) {
@@ -338,6 +345,7 @@ pub fn settled(
             entries,
             states,
             configuration,
+            marks,
             energy,
             deck,
         ),
@@ -349,6 +357,7 @@ pub fn settled(
             entries,
             states,
             configuration,
+            marks,
             energy,
             deck,
         ),

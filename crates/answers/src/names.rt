@@ -4,6 +4,7 @@ use crate::print::print;
 use crate::print::print_bytes;
 use crate::print::width;
 use crate::reads::part;
+use design::reads::byte_at;
 use statements::words::place_at;
 
 // Who sits at a place.
@@ -13,6 +14,8 @@ pub(crate) enum Occupant {
     Strand(usize),
     Quencher,
     Reporter,
+    // The position is blocked.
+    Blocked,
 }
 
 // By the number in a configuration: 0, the user strands, the quencher, the reporter.
@@ -29,6 +32,14 @@ pub(crate) fn occupant_of(number: usize, users: usize) -> Occupant {
     Occupant::Reporter
 }
 
+// At position i. Where the position is blocked, nobody can sit.
+pub(crate) fn occupant_at(configuration: &[u8], marks: &[u8], users: usize, i: usize) -> Occupant {
+    if byte_at(marks, i) == 1 {
+        return Occupant::Blocked;
+    }
+    occupant_of(byte_at(configuration, i) as usize, users)
+}
+
 // The names of the user strands stand in the text: a start and a size for each.
 pub(crate) fn occupant_width(
     occupant: Occupant,
@@ -40,6 +51,7 @@ pub(crate) fn occupant_width(
         Occupant::Nobody => 1,
         Occupant::Strand(i) => width(part(text, place_at(starts, i), place_at(sizes, i))),
         Occupant::Quencher | Occupant::Reporter => 8,
+        Occupant::Blocked => 7,
     }
 }
 
@@ -58,5 +70,6 @@ pub(crate) fn print_occupant(
         }
         Occupant::Quencher => print(b"quencher"),
         Occupant::Reporter => print(b"reporter"),
+        Occupant::Blocked => print(b"blocked"),
     }
 }

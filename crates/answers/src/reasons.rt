@@ -44,7 +44,7 @@ pub enum Why {
 fn print_line_reason(reason: Reason) {
     match reason {
         Reason::NoSuchStatement => print(
-            b"no statement begins with this word. The statements are kelvin, ambient, strand, quencher, reporter, scaffold, energy, pair, penalty; # begins a comment",
+            b"no statement begins with this word. The statements are kelvin, ambient, strand, quencher, reporter, scaffold, blocked, energy, pair, penalty; # begins a comment",
         ),
         Reason::TooFewWords => print(
             b"the line ends too early. See docs/DESIGN-FILE.md for the words of this statement",

@@ -138,8 +138,8 @@ fn named(marks: &[u8]) -> Reply {
     )
 }
 
-// The states of a scaffold whose every position has strand 1 as its one friend.
-fn states_of(scaffold: &[u8]) -> CountAnswer {
+// The states of a scaffold whose every open position has strand 1 as its one friend.
+fn states_of(scaffold: &[u8], marks: &[u8]) -> CountAnswer {
     let glues = [0u8, 0, 0, 0, 1, 0];
     let mut dg = [0.0; 4096];
     dg[65] = -2.0;
@@ -150,7 +150,7 @@ fn states_of(scaffold: &[u8]) -> CountAnswer {
         strand_excess: Kelvin(0.0),
         scaffold_excess: Kelvin(0.0),
     };
-    sdc1d::number_of_states(scaffold, &glues, &dg, &ds, &potentials, ambient)
+    sdc1d::number_of_states(scaffold, marks, &glues, &dg, &ds, &potentials, ambient)
 }
 
 // Whether the tables were built.
@@ -196,14 +196,15 @@ fn limits() {
     marks[31] = 0;
     say(b"31 base names: built", is_built(named(&marks)));
     let twenty = [1u8; 20];
+    let open = [0u8; 21];
     say(
         b"20 positions of one friend: 1,048,576 states",
-        is_count(states_of(&twenty), 1048576),
+        is_count(states_of(&twenty, &open[0..20]), 1048576),
     );
     let more = [1u8; 21];
     say(
         b"21 positions of one friend: refused, many",
-        is_too_many_states(states_of(&more)),
+        is_too_many_states(states_of(&more, &open)),
     );
 }
 

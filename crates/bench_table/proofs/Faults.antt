@@ -108,15 +108,15 @@ ambient-and-potential : (x : ℕ) → searchAnswer (one bound zeros wild cold) (
 unfolding checked
 ambient-and-potential x = refl
 
-null-potential : (x : ℕ) → searchAnswer (design (1 ∷ []) (0 ∷ 0 ∷ 0 ∷ []) (set zeros 64 (nearest (minus 1 0))) zeros (nan ∷ []) half) (x ∷ []) ≡ refusedWith zero NullBinds Nowhere
+null-potential : (x : ℕ) → searchAnswer (design (1 ∷ []) (0 ∷ []) (0 ∷ 0 ∷ 0 ∷ []) (set zeros 64 (nearest (minus 1 0))) zeros (nan ∷ []) half) (x ∷ []) ≡ refusedWith zero NullBinds Nowhere
 unfolding checked
 null-potential x = refl
 
-ambient-alone : searchAnswer (design [] (0 ∷ 0 ∷ 0 ∷ 0 ∷ 1 ∷ 0 ∷ []) bound zeros wild cold) [] ≡ refusedWith zero AmbientOut (At 0)
+ambient-alone : searchAnswer (design [] [] (0 ∷ 0 ∷ 0 ∷ 0 ∷ 1 ∷ 0 ∷ []) bound zeros wild cold) [] ≡ refusedWith zero AmbientOut (At 0)
 unfolding checked
 ambient-alone = refl
 
-no-potential : searchAnswer (design [] (0 ∷ 0 ∷ 0 ∷ 0 ∷ 1 ∷ 0 ∷ []) bound zeros wild half) [] ≡ given zero
+no-potential : searchAnswer (design [] [] (0 ∷ 0 ∷ 0 ∷ 0 ∷ 1 ∷ 0 ∷ []) bound zeros wild half) [] ≡ given zero
 unfolding searched
 no-potential = refl
 

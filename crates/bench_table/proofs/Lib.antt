@@ -3,3 +3,4 @@ pub mod Designs
 pub mod Decks
 pub mod Table
 pub mod Faults
+pub mod Marked

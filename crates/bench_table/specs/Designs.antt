@@ -17,16 +17,16 @@ zeros = replicate 4096 zero
 -- "no position"
 unfoldable pub bare : Design
 unfolding nearest
-bare = design [] (0 ∷ 0 ∷ 0 ∷ []) zeros zeros (zero ∷ []) half
+bare = design [] [] (0 ∷ 0 ∷ 0 ∷ []) zeros zeros (zero ∷ []) half
 
 -- "RT 0.5, one friend 1", with dG as given, dS 0 and potential −1
 unfoldable pub onePosition : Float → Design
 unfolding nearest
-onePosition dg = design (1 ∷ []) (0 ∷ 0 ∷ 0 ∷ 0 ∷ 1 ∷ 0 ∷ []) (set zeros 65 dg) zeros (zero ∷ nearest (minus 1 0) ∷ []) half
+onePosition dg = design (1 ∷ []) (0 ∷ []) (0 ∷ 0 ∷ 0 ∷ 0 ∷ 1 ∷ 0 ∷ []) (set zeros 65 dg) zeros (zero ∷ nearest (minus 1 0) ∷ []) half
 
 -- "that position" with dG −0.5, "then one with friend 2 (dG −2, potential −1), strand bonds 0"
 unfoldable pub twoPositions : Design
 unfolding nearest
 twoPositions =
-    design (1 ∷ 2 ∷ []) (0 ∷ 0 ∷ 0 ∷ 0 ∷ 1 ∷ 0 ∷ 0 ∷ 2 ∷ 0 ∷ []) (set (set zeros 65 (nearest (minus 5 1))) 130 (nearest (minus 2 0))) zeros
+    design (1 ∷ 2 ∷ []) (0 ∷ 0 ∷ []) (0 ∷ 0 ∷ 0 ∷ 0 ∷ 1 ∷ 0 ∷ 0 ∷ 2 ∷ 0 ∷ []) (set (set zeros 65 (nearest (minus 5 1))) 130 (nearest (minus 2 0))) zeros
     (zero ∷ nearest (minus 1 0) ∷ nearest (minus 1 0) ∷ []) half

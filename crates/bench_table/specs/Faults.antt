@@ -25,7 +25,7 @@ cold = ambientWith (plus 0 0) (plus 0 0) (plus 0 0)
 
 -- one position of scaffold glue 1, and strand 1 with bottom glue 1
 abbrev pub one : List Float → List Float → List Float → Ambient → Design
-one dg ds potentials ambient = design (1 ∷ []) (0 ∷ 0 ∷ 0 ∷ 0 ∷ 1 ∷ 0 ∷ []) dg ds potentials ambient
+one dg ds potentials ambient = design (1 ∷ []) (0 ∷ []) (0 ∷ 0 ∷ 0 ∷ 0 ∷ 1 ∷ 0 ∷ []) dg ds potentials ambient
 
 -- dG −1 where glue 1 meets glue 1, and 0 elsewhere
 abbrev pub bound : List Float
@@ -45,12 +45,12 @@ wild = zero ∷ nan ∷ []
 
 -- 21 positions with one friend each: 2,097,152 states
 abbrev pub long : Ambient → Design
-long ambient = design (replicate 21 1) (0 ∷ 0 ∷ 0 ∷ 0 ∷ 1 ∷ 0 ∷ []) bound zeros mild ambient
+long ambient = design (replicate 21 1) (replicate 21 0) (0 ∷ 0 ∷ 0 ∷ 0 ∷ 1 ∷ 0 ∷ []) bound zeros mild ambient
 
 -- 8 strands, of which 7 alone is a friend; the potentials of 3 and of 7 are out
 abbrev pub eight : Design
 eight =
-    design (1 ∷ []) (replicate 22 0 ++ 1 ∷ 0 ∷ []) bound zeros (zero ∷ zero ∷ zero ∷ nan ∷ zero ∷ zero ∷ zero ∷ nan ∷ []) half
+    design (1 ∷ []) (0 ∷ []) (replicate 22 0 ++ 1 ∷ 0 ∷ []) bound zeros (zero ∷ zero ∷ zero ∷ nan ∷ zero ∷ zero ∷ zero ∷ nan ∷ []) half
 
 -- Where the fault lies.
 pub record FaultPlaces : Type 0 where
@@ -81,7 +81,7 @@ pub record TwoFaults : Type 0 where
   pub potentialAndRank : (x : ℕ) → rankAnswer (one bound zeros wild half) 2 (x ∷ []) ≡ refusedWith tt RankTooHigh Nowhere
   pub ambientAndPotential : (x : ℕ) → searchAnswer (one bound zeros wild cold) (x ∷ []) ≡ refusedWith zero AmbientOut (At 0)
   -- strand 0 a friend, and its potential out: 10
-  pub nullPotential : (x : ℕ) → searchAnswer (design (1 ∷ []) (0 ∷ 0 ∷ 0 ∷ []) (set zeros 64 (nearest (minus 1 0))) zeros (nan ∷ []) half) (x ∷ []) ≡ refusedWith zero NullBinds Nowhere
+  pub nullPotential : (x : ℕ) → searchAnswer (design (1 ∷ []) (0 ∷ []) (0 ∷ 0 ∷ 0 ∷ []) (set zeros 64 (nearest (minus 1 0))) zeros (nan ∷ []) half) (x ∷ []) ≡ refusedWith zero NullBinds Nowhere
   -- no positions: the ambient is looked at, no potential is
-  pub ambientAlone : searchAnswer (design [] (0 ∷ 0 ∷ 0 ∷ 0 ∷ 1 ∷ 0 ∷ []) bound zeros wild cold) [] ≡ refusedWith zero AmbientOut (At 0)
-  pub noPotential : searchAnswer (design [] (0 ∷ 0 ∷ 0 ∷ 0 ∷ 1 ∷ 0 ∷ []) bound zeros wild half) [] ≡ given zero
+  pub ambientAlone : searchAnswer (design [] [] (0 ∷ 0 ∷ 0 ∷ 0 ∷ 1 ∷ 0 ∷ []) bound zeros wild cold) [] ≡ refusedWith zero AmbientOut (At 0)
+  pub noPotential : searchAnswer (design [] [] (0 ∷ 0 ∷ 0 ∷ 0 ∷ 1 ∷ 0 ∷ []) bound zeros wild half) [] ≡ given zero

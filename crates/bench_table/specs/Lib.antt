@@ -3,3 +3,4 @@ pub mod Designs
 pub mod Table
 pub mod Readings
 pub mod Faults
+pub mod Marked

@@ -22,7 +22,7 @@ noExcess rt = record { rt = record { 0 = nearest rt }; «strand_excess» = recor
 unfoldable pub tiny : Design
 unfolding nearest
 tiny =
-    design (1 ∷ 2 ∷ []) (0 ∷ 0 ∷ 0 ∷ 0 ∷ 1 ∷ 3 ∷ 3 ∷ 2 ∷ 0 ∷ []) (set (set (set zeros 65 (nearest (minus 5 324))) 130 (nearest (plus 5 324))) 195 (nearest (plus 1 0))) zeros
+    design (1 ∷ 2 ∷ []) (0 ∷ 0 ∷ []) (0 ∷ 0 ∷ 0 ∷ 0 ∷ 1 ∷ 3 ∷ 3 ∷ 2 ∷ 0 ∷ []) (set (set (set zeros 65 (nearest (minus 5 324))) 130 (nearest (plus 5 324))) 195 (nearest (plus 1 0))) zeros
     (zero ∷ nearest (minus 35 324) ∷ nearest (plus 4 323) ∷ []) (noExcess (plus 125 3))
 
 -- the search gives 0.0 and the walk −0.0: equal as doubles, not as data
@@ -35,7 +35,7 @@ pub record TwoZeros : Type 0 where
 unfoldable pub close : Design
 unfolding nearest
 close =
-    design (1 ∷ []) (0 ∷ 0 ∷ 0 ∷ 0 ∷ 1 ∷ 0 ∷ 0 ∷ 1 ∷ 0 ∷ []) (set zeros 65 (nearest (minus 2 0))) zeros
+    design (1 ∷ []) (0 ∷ []) (0 ∷ 0 ∷ 0 ∷ 0 ∷ 1 ∷ 0 ∷ 0 ∷ 1 ∷ 0 ∷ []) (set zeros 65 (nearest (minus 2 0))) zeros
     (zero ∷ nearest (minus 1 0) ∷ nearest (minus 9999999999999998 16) ∷ []) (noExcess (plus 7 1))
 
 -- the second friend has the smaller chain energy, both have one product with RT, and the first is shown: products are compared
@@ -48,7 +48,7 @@ pub record OneProduct : Type 0 where
 unfoldable pub parted : Design
 unfolding nearest
 parted =
-    design (1 ∷ 2 ∷ []) (0 ∷ 0 ∷ 0 ∷ 0 ∷ 1 ∷ 3 ∷ 3 ∷ 2 ∷ 0 ∷ []) (set (set (set zeros 65 (nearest (minus 1 1))) 130 (nearest (minus 1 1))) 195 (nearest (minus 3 1))) zeros
+    design (1 ∷ 2 ∷ []) (0 ∷ 0 ∷ []) (0 ∷ 0 ∷ 0 ∷ 0 ∷ 1 ∷ 3 ∷ 3 ∷ 2 ∷ 0 ∷ []) (set (set (set zeros 65 (nearest (minus 1 1))) 130 (nearest (minus 1 1))) 195 (nearest (minus 3 1))) zeros
     (zero ∷ nearest (minus 3 1) ∷ nearest (minus 1 1) ∷ []) (noExcess (plus 1 0))
 
 -- the search shows both friends with −0.1, and their state energy is −0.10000000000000003: the two sums round in different orders
@@ -62,7 +62,7 @@ pub record TwoSums : Type 0 where
 unfoldable pub lower : Design
 unfolding nearest
 lower =
-    design (1 ∷ 2 ∷ []) (0 ∷ 0 ∷ 0 ∷ 0 ∷ 1 ∷ 3 ∷ 3 ∷ 2 ∷ 0 ∷ 3 ∷ 4 ∷ 0 ∷ [])
+    design (1 ∷ 2 ∷ []) (0 ∷ 0 ∷ []) (0 ∷ 0 ∷ 0 ∷ 0 ∷ 1 ∷ 3 ∷ 3 ∷ 2 ∷ 0 ∷ 3 ∷ 4 ∷ 0 ∷ [])
     (set (set (set (set zeros 65 (nearest (minus 3 1))) 130 (nearest (minus 9 1))) 132 (nearest (minus 4 1))) 195 (nearest (minus 5 1))) zeros
     (zero ∷ nearest (minus 5 1) ∷ nearest (minus 8 1) ∷ nearest (minus 3 1) ∷ []) (noExcess (plus 1 0))
 

@@ -24,4 +24,4 @@ not-answered : fromParams (oneStrand 3) odd .number ≡ 0 → ⊥
 not-answered e = let z : _≡_ {A = ℕ} 6 0 = sym refused ∙ e in omega arith
 
 pub handed-on : HandedOn
-handed-on = record { made = λ potentials ambient. refl; kept = kept; unclaimed = record { dg = λ e. absurd (not-answered e); ds = λ e. absurd (not-answered e) } }
+handed-on = record { made = λ marks potentials ambient. refl; kept = kept; unclaimed = record { dg = λ e. absurd (not-answered e); ds = λ e. absurd (not-answered e) } }

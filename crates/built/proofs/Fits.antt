@@ -19,7 +19,7 @@ use Rattle.units.specs.declared.Ambient.{Ambient}
 use Rattle.sdc1d_params.specs.Params.{Params, Outcome, writesOf, strandGluesOf, builtFrom}
 use Rattle.design.specs.Design as Design
 use Rattle.design.specs.Design.{Design}
-use Rattle.design.specs.Checks.{highGlue, beyond, wrongSizes, sizesOut, cellsOut, badCell, nullGlued, nullCells, nullBinds, numberChecks}
+use Rattle.design.specs.Checks.{highGlue, beyond, wrongMarks, wrongSizes, sizesOut, cellsOut, badCell, nullGlued, nullCells, nullBinds, numberChecks}
 use Rattle.built.specs.Fits.{Fits, designOf, WrittenFits, Symmetric, WrittenSymmetric}
 use Rattle.built.proofs.Passed.{Passed, answered-as, few-users, strand-marks, scaffold-short, writes-small}
 use Rattle.built.proofs.Written.{strand-glues-many, scaffold-many, strand-glues-low, scaffold-low, dg-mirrored, ds-mirrored, NullZero, dg-null, ds-null, dg-ranged, ds-ranged}
@@ -46,7 +46,7 @@ fits d s c n =
 
 -- ---- the three checks, from what they look at
 
-module _ (scaffold glues : List ℕ) (dg ds potentials : List Float) where
+module _ (scaffold marks glues : List ℕ) (dg ds potentials : List Float) where
   sizes-in :
       length scaffold ≤ 128
       → 1 ≤ length potentials
@@ -54,12 +54,13 @@ module _ (scaffold glues : List ℕ) (dg ds potentials : List Float) where
       → length glues ≡ 3 * length potentials
       → length dg ≡ 4096
       → length ds ≡ 4096
+      → wrongMarks scaffold marks ≡ false
       → any highGlue scaffold ≡ false
       → any highGlue glues ≡ false
-      → wrongSizes scaffold glues dg ds potentials ≡ false
+      → wrongSizes scaffold marks glues dg ds potentials ≡ false
   unfolding wrongSizes
-  sizes-in short null few three dg-cells ds-cells low glues-low =
-      simp (le-ltb _ _ short, le-ltb _ _ null, le-ltb _ _ few, eq-eqb _ _ three, eq-eqb _ _ dg-cells, eq-eqb _ _ ds-cells, low, glues-low)
+  sizes-in short null few three dg-cells ds-cells marked low glues-low =
+      simp (le-ltb _ _ short, le-ltb _ _ null, le-ltb _ _ few, eq-eqb _ _ three, eq-eqb _ _ dg-cells, eq-eqb _ _ ds-cells, marked, low, glues-low)
 
 cells-in : (dg ds : List Float) → any (beyond 1024) dg ≡ false → any (beyond 8) ds ≡ false → cellsOut dg ds ≡ false
 unfolding cellsOut
@@ -78,27 +79,29 @@ module _ (p : Params) (lent : Outcome) (passed : Passed p lent) where
   unfolding strandGluesOf
   null-glued = refl
 
-  outcome-fits : (potentials : List Float) (ambient : Ambient) → length potentials ≡ p .users + 3 → Fits (designOf (builtFrom p) potentials ambient)
-  outcome-fits potentials ambient many =
+  outcome-fits : (marks : List ℕ) (potentials : List Float) (ambient : Ambient) → wrongMarks (builtFrom p .scaffoldGlues) marks ≡ false → length potentials ≡ p .users + 3 → Fits (designOf (builtFrom p) marks potentials ambient)
+  outcome-fits marks potentials ambient marked many =
       let small = writes-small p (passed .few) in
       let users = few-users p lent (passed .size) in
-      fits (designOf (builtFrom p) potentials ambient)
-      (sizes-in (builtFrom p .scaffoldGlues) (builtFrom p .strandGlues) (builtFrom p .dg) (builtFrom p .ds) potentials
+      fits (designOf (builtFrom p) marks potentials ambient)
+      (sizes-in (builtFrom p .scaffoldGlues) marks (builtFrom p .strandGlues) (builtFrom p .dg) (builtFrom p .ds) potentials
       (rw (scaffold-many p) (scaffold-short p lent (passed .size)))
       (omega arith)
       (omega arith)
       (strand-glues-many p (strand-marks p lent (passed .size)) ∙ omega arith)
       (dg-mirrored (writesOf p) small .many)
       (ds-mirrored (writesOf p) small .many)
+      marked
       (each-none highGlue (builtFrom p .scaffoldGlues) (scaffold-low p (passed .few) (passed .known)))
       (each-none highGlue (builtFrom p .strandGlues) (strand-glues-low p (passed .few))))
       (cells-in (builtFrom p .dg) (builtFrom p .ds) (dg-ranged (writesOf p) (passed .ranged)) (ds-ranged (writesOf p) (passed .ranged)))
       (null-in (builtFrom p .strandGlues) (builtFrom p .dg) (builtFrom p .ds) null-glued (dg-null (writesOf p) small) (ds-null (writesOf p) small))
 
 pub written-fits : (p : Params) (lent : Outcome) → WrittenFits p lent
-written-fits p lent e potentials ambient many =
+written-fits p lent e marks potentials ambient marked many =
     let a = answered-as p lent e in
-    subst (λ (o : Outcome). Fits (designOf o potentials ambient)) (sym (a .1)) (outcome-fits p lent (a .0) potentials ambient many)
+    let same : wrongMarks (builtFrom p .scaffoldGlues) marks ≡ false = subst (λ (o : Outcome). wrongMarks (o .scaffoldGlues) marks ≡ false) (a .1) marked in
+    subst (λ (o : Outcome). Fits (designOf o marks potentials ambient)) (sym (a .1)) (outcome-fits p lent (a .0) marks potentials ambient same many)
 
 pub written-symmetric : (p : Params) (lent : Outcome) → WrittenSymmetric p lent
 written-symmetric p lent =

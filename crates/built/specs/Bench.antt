@@ -64,7 +64,7 @@ odd = record { number = 0; strandGlues = lent .strandGlues; scaffoldGlues = lent
 -- Added: what is handed on as what, and what is not said of a refusal.
 pub record HandedOn : Type 0 where
   -- each of the four slices has its place in the design, dG and dS their own
-  pub made : (potentials : List Float) (ambient : Ambient) → designOf lent potentials ambient ≡ design (9 ∷ []) (replicate 12 9) (lent .dg) (lent .ds) potentials ambient
+  pub made : (marks : List ℕ) (potentials : List Float) (ambient : Ambient) → designOf lent marks potentials ambient ≡ design (9 ∷ []) marks (replicate 12 9) (lent .dg) (lent .ds) potentials ambient
   -- a refused build leaves what was lent, symmetric or not, and `WrittenSymmetric` claims nothing of it
   pub kept : fromParams (oneStrand 3) odd .dg ≡ odd .dg
   pub unclaimed : WrittenSymmetric (oneStrand 3) odd

@@ -14,11 +14,11 @@ use Rattle.units.specs.declared.Ambient.{Ambient}
 use Rattle.units.specs.declared.AmbientAnswer.the-variants.{Given}
 use Rattle.sdc1d_params.specs.Params.{Params, Outcome, fromParams}
 use Rattle.design.specs.Design.{Design, design, cell}
-use Rattle.design.specs.Checks.{sizesOut, cellsOut, ambientOut, potentialsOut, nullBinds, numberChecks, designChecks, Admitted}
+use Rattle.design.specs.Checks.{wrongMarks, sizesOut, cellsOut, ambientOut, potentialsOut, nullBinds, numberChecks, designChecks, Admitted}
 
--- the design that is made of what was written
-abbrev pub designOf : Outcome → List Float → Ambient → Design
-designOf built potentials ambient = design (built .scaffoldGlues) (built .strandGlues) (built .dg) (built .ds) potentials ambient
+-- the design that is made of what was written, with these marks
+abbrev pub designOf : Outcome → List ℕ → List Float → Ambient → Design
+designOf built marks potentials ambient = design (built .scaffoldGlues) marks (built .strandGlues) (built .dg) (built .ds) potentials ambient
 
 -- a design that only the checks of its ambient and its potentials can still refuse
 pub record Fits (d : Design) : Type 0 where
@@ -35,14 +35,15 @@ pub record Fits (d : Design) : Type 0 where
   -- and with these two in range the design is admitted.
   pub admitted : ambientOut (d .ambient) ≡ false → potentialsOut d ≡ false → Admitted d
 
--- Where `from_params` answers, what it wrote fits, in any ambient and with any potentials, one for each strand: strand 0, the user
--- strands, quencher and reporter.
+-- Where `from_params` answers, what it wrote fits, in any ambient, with any marks, one for each position, and any potentials, one for each
+-- strand: strand 0, the user strands, quencher and reporter.
 abbrev pub WrittenFits : Params → Outcome → Type 0
 WrittenFits p lent =
     fromParams p lent .number ≡ answered
-    → (potentials : List Float) (ambient : Ambient)
+    → (marks : List ℕ) (potentials : List Float) (ambient : Ambient)
+    → wrongMarks (fromParams p lent .scaffoldGlues) marks ≡ false
     → length potentials ≡ p .users + 3
-    → Fits (designOf (fromParams p lent) potentials ambient)
+    → Fits (designOf (fromParams p lent) marks potentials ambient)
 
 -- Every ambient that `ambient_at` gives, at any double of kelvin, is one that a design takes: RT from 1/8 to 8, excesses within ±1,024.
 abbrev pub AmbientFits : Type 0

@@ -95,15 +95,15 @@ module _ (d : Design) (doubles : Doubles d) (a : Admitted d) where
   potential-in : (i x : ℕ) → Friend (modelOf d) i x → Within binary64 1024 (potential d x)
   potential-in i x f = let w = friend-tested d i x f in fit x (w .1) (looked-at i x (w .0) (w .2))
     where
-      looked-at : (i x : ℕ) → i < positions d → isFriend d i x ≡ true → somewhere (d .scaffold) (d .glues) (d .dg) (d .ds) x ≡ true
-      looked-at i x h e = go (somewhere (d .scaffold) (d .glues) (d .dg) (d .ds) x) refl
+      looked-at : (i x : ℕ) → i < positions d → isFriend d i x ≡ true → somewhere (d .scaffold) (d .marks) (d .glues) (d .dg) (d .ds) x ≡ true
+      looked-at i x h e = go (somewhere (d .scaffold) (d .marks) (d .glues) (d .dg) (d .ds) x) refl
         where
-          go : (t : Bool) → somewhere (d .scaffold) (d .glues) (d .dg) (d .ds) x ≡ t → t ≡ true
+          go : (t : Bool) → somewhere (d .scaffold) (d .marks) (d .glues) (d .dg) (d .ds) x ≡ t → t ≡ true
           go true p = refl
-          go false p = let n : isFriend d i x ≡ false = unfold somewhere in none-below (friendAt (d .scaffold) (d .glues) (d .dg) (d .ds) x) (positions d) p i h in sym n ∙ e
+          go false p = let n : isFriend d i x ≡ false = unfold somewhere in none-below (friendAt (d .scaffold) (d .marks) (d .glues) (d .dg) (d .ds) x) (positions d) p i h in sym n ∙ e
 
-      fit : (x : ℕ) → x < strands d → somewhere (d .scaffold) (d .glues) (d .dg) (d .ds) x ≡ true → Within binary64 1024 (potential d x)
-      fit x h e = not-beyond 1024 (lit≤ tt) (potential d x) (held (d .potentials) x h (doubles .potentials x h)) (passes (somewhere (d .scaffold) (d .glues) (d .dg) (d .ds) x) (beyond 1024 (potential d x)) e (unfold potentialsOut in none-below (unfit (d .scaffold) (d .glues) (d .dg) (d .ds) (d .potentials)) (strands d) (a .potentials) x h))
+      fit : (x : ℕ) → x < strands d → somewhere (d .scaffold) (d .marks) (d .glues) (d .dg) (d .ds) x ≡ true → Within binary64 1024 (potential d x)
+      fit x h e = not-beyond 1024 (lit≤ tt) (potential d x) (held (d .potentials) x h (doubles .potentials x h)) (passes (somewhere (d .scaffold) (d .marks) (d .glues) (d .dg) (d .ds) x) (beyond 1024 (potential d x)) e (unfold potentialsOut in none-below (unfit (d .scaffold) (d .marks) (d .glues) (d .dg) (d .ds) (d .potentials)) (strands d) (a .potentials) x h))
         where
           passes : (s b : Bool) → s ≡ true → (s && b) ≡ false → b ≡ false
           passes true b p q = q

@@ -16,7 +16,7 @@ use Rattle.ensemble.proofs.Options.{count-is, option-is}
 use Rattle.design.specs.Design.{Design, positions, strands, strandBondIn, scaffoldBondIn, modelOf}
 use Rattle.design.specs.Checks.{Admitted, TablesPass}
 use Rattle.design.specs.Filling.{NullNowhere, PairsHeld, SitesHeld}
-use Rattle.design.proofs.FriendLaws.{friends-right, friend-tested, null-no-friend}
+use Rattle.design.proofs.FriendLaws.{friends-right, friend-tested, null-not-bound}
 
 -- where a member stands
 place-of : {x : ℕ} {xs : List ℕ} → List·Memᴰ x xs → (k : ℕ) × (k < length xs) × (getD xs k 0 ≡ x)
@@ -43,7 +43,7 @@ module _ {m : Model} {rows counts : List ℕ} (o : OptionRows m rows counts) (i 
       (w .0, inside, option-is o i (w .0) h earlier ∙ List·getD-append (friendsAt m i) (0 ∷ []) 0 (w .0) (w .1) ∙ w .2)
 
 pub null-nowhere : (d : Design) → TablesPass d → NullNowhere (d .scaffold) (d .glues) (d .dg) (d .ds)
-null-nowhere d t i h = null-no-friend d t i h
+null-nowhere d t i h = null-not-bound d t i h
 
 module _ (d : Design) (a : Admitted d) where
   pub bond-cells : {rows counts : List ℕ} {strandBonds scaffoldBonds : List Float} → OptionRows (modelOf d) rows counts → PairsHeld (strandBondIn d) (strands d) strandBonds rows counts (length counts - 1)

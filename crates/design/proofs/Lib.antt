@@ -3,6 +3,7 @@ pub mod Parts
 pub mod Optioned
 pub mod Held
 pub mod FriendLaws
+pub mod Blocked
 pub mod Cells
 pub mod BoundLaws
 pub mod Lowest

@@ -3,7 +3,7 @@ use mathlib.Core.Path.{_≡_, sym, ap, _∙_}
 use mathlib.Core.Logic.{inl, inr}
 use mathlib.Core.Bool.{Bool, false, true, cond}
 use mathlib.Core.List.{List, [], _∷_, _++_, List·Memᴰ·append-cases, List·Memᴰ·eq-of-singleton}
-use Prim.Native.Nat.{ℕ, suc, _+_, _*_, _<_, _≤_}
+use Prim.Native.Nat.{ℕ, zero, suc, _+_, _*_, _<_, _≤_}
 use native.Mathlib.Nat.{ne-of-lt}
 use native.Mathlib.Omega.{arith}
 use lib.ListN.{length, getD, take, drop, set, length-append, length-drop}
@@ -17,7 +17,7 @@ use Rattle.lists.proofs.Places.{mem-getD}
 use Rattle.model.specs.Model as Model
 use Rattle.model.specs.Model.{Model, optionsOf}
 use Rattle.ensemble.specs.Layout.{Searchable, OptionRows}
-use Rattle.design.specs.Design.{befriends, friendsTo, friendsIn, friendLists}
+use Rattle.design.specs.Design.{blockedAt, befriends, friendsTo, friendsIn, friendLists}
 use Rattle.design.specs.Filling.{Optioned}
 use Rattle.design.proofs.Parts.{withPart, part-is, part-before}
 
@@ -67,6 +67,10 @@ rows-more friends rows counts i row n inside here full old new =
     (λ k h. rw (part-before rows (64 * i) 64 row inside full 0 (64 * k) 64 (omega arith), getD-set-other counts i k n 0 (ne-of-lt h)) (old k h))
     (rw (part-is rows (64 * i) 64 row inside full, getD-set-same counts i n 0 here) new)
 
+-- the friends of a position that is blocked or not
+abbrev listedAt : Bool → ℕ → List ℕ → List Float → List Float → ℕ → List ℕ
+listedAt blocked glue glues dg ds strands = cond blocked [] (friendsTo glue glues dg ds strands)
+
 -- each option is one of the strands
 option-low : (glue : ℕ) (glues : List ℕ) (dg ds : List Float) (strands k : ℕ) → 0 < strands → k < length (optionsOf (friendsTo glue glues dg ds strands)) → getD (optionsOf (friendsTo glue glues dg ds strands)) k 0 < strands
 unfolding friendsTo
@@ -77,8 +81,13 @@ option-low glue glues dg ds strands k some h =
       | inr m ↦ let e = List·Memᴰ·eq-of-singleton m in omega (arith, e)
     ]
 
-module _ (scaffold glues : List ℕ) (dg ds : List Float) (strands : ℕ) (rows counts : List ℕ) (rooms : 64 * length scaffold ≤ length rows) (places : length counts ≡ length scaffold)
-    (w : (i : ℕ) → i < length scaffold → RowAt (friendsIn scaffold glues dg ds strands) rows counts i) where
+listed-low : (blocked : Bool) (glue : ℕ) (glues : List ℕ) (dg ds : List Float) (strands k : ℕ) → 0 < strands → k < length (optionsOf (listedAt blocked glue glues dg ds strands)) → getD (optionsOf (listedAt blocked glue glues dg ds strands)) k 0 < strands
+listed-low true glue glues dg ds strands zero some h = some
+listed-low true glue glues dg ds strands (suc k) some h = absurd (omega arith)
+listed-low false glue glues dg ds strands k some h = option-low glue glues dg ds strands k some h
+
+module _ (scaffold marks glues : List ℕ) (dg ds : List Float) (strands : ℕ) (rows counts : List ℕ) (rooms : 64 * length scaffold ≤ length rows) (places : length counts ≡ length scaffold)
+    (w : (i : ℕ) → i < length scaffold → RowAt (friendsIn scaffold marks glues dg ds strands) rows counts i) where
   pub all-searchable : 0 < strands → strands ≤ 64 → length scaffold ≤ 128 → Searchable strands rows counts
   all-searchable some few short = record {
     readable = record { sized = rw places rooms; few = λ i h. w i (rw places at h) .few };
@@ -87,21 +96,21 @@ module _ (scaffold glues : List ℕ) (dg ds : List Float) (strands : ℕ) (rows 
     some = λ i h. omega (arith, w i (rw places at h) .number);
     known = λ i k h l.
         let v = w i (rw places at h) in
-        let friends = friendsIn scaffold glues dg ds strands i in
+        let friends = friendsIn scaffold marks glues dg ds strands i in
         let at-row : getD (take (getD counts i 0) (take 64 (drop (64 * i) rows))) k 0 ≡ getD rows (64 * i + k) 0 =
         getD-take (getD counts i 0) (take 64 (drop (64 * i) rows)) k 0 l ∙ getD-take 64 (drop (64 * i) rows) k 0 (omega (arith, v .few)) ∙ getD-drop (64 * i) rows k 0 in
         let e : getD rows (64 * i + k) 0 ≡ getD (optionsOf friends) k 0 = sym at-row ∙ ap (λ (xs : List ℕ). getD xs k 0) (v .options) in
-        rw e (option-low (getD scaffold i 0) glues dg ds strands k some (rw (length-append friends (0 ∷ [])) (omega (arith, v .number))));
+        rw e (listed-low (blockedAt marks i) (getD scaffold i 0) glues dg ds strands k some (rw (length-append friends (0 ∷ [])) (omega (arith, v .number))));
   }
 
-  pub all-options : (m : Model) → m .friends ≡ friendLists scaffold glues dg ds strands → OptionRows m rows counts
+  pub all-options : (m : Model) → m .friends ≡ friendLists scaffold marks glues dg ds strands → OptionRows m rows counts
   all-options m e =
-      let number : Model.positions m ≡ length scaffold = ap length e ∙ length-tabulate (length scaffold) (friendsIn scaffold glues dg ds strands) in
+      let number : Model.positions m ≡ length scaffold = ap length e ∙ length-tabulate (length scaffold) (friendsIn scaffold marks glues dg ds strands) in
       record {
         positions = places ∙ sym number;
         sized = rw number rooms;
         few = λ i h. w i (rw number at h) .few;
         options = λ i h.
             let l : i < length scaffold = rw number at h in
-            w i l .options ∙ ap optionsOf (sym (ap (λ (xs : List (List ℕ)). getD xs i []) e ∙ getD-tabulate (length scaffold) (friendsIn scaffold glues dg ds strands) [] i l));
+            w i l .options ∙ ap optionsOf (sym (ap (λ (xs : List (List ℕ)). getD xs i []) e ∙ getD-tabulate (length scaffold) (friendsIn scaffold marks glues dg ds strands) [] i l));
       }

@@ -226,7 +226,7 @@ module _ (d : Design) where
   -- a strand 0 that is a friend is refused by 10 before its potential is looked at
   null-unread : TablesPass d → potentialOut d 0 ≡ false
   unfolding somewhere
-  null-unread t = rw (all-below (friendAt (d .scaffold) (d .glues) (d .dg) (d .ds) 0) (positions d) (null-no-friend d t))
+  null-unread t = rw (all-below (friendAt (d .scaffold) (d .marks) (d .glues) (d .dg) (d .ds) 0) (positions d) (null-no-friend d t))
 
   not-first : TablesPass d → potentialsOut d ≡ true → badPotential d ≡ 0 → ⊥
   not-first t e z =

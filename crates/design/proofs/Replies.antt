@@ -29,7 +29,7 @@ tables-of d a = record { sizes = a .sizes; cells = a .cells; null = a .null }
 
 module _ (ownSize : Bool) (d : Design) where
   abbrev tables : List Check
-  tables = tableChecks ownSize (d .scaffold) (d .glues) (d .dg) (d .ds) (d .potentials)
+  tables = tableChecks ownSize (d .scaffold) (d .marks) (d .glues) (d .dg) (d .ds) (d .potentials)
 
   pub tabled : firstOf tables ≡ Reply.Admitted → Tabled ownSize d
   tabled h =

@@ -70,14 +70,14 @@ module _ (d : Design) (potentials : List Float) (r : ReadAlike d potentials) whe
   unfolding wrongSizes
   sizes-same = rw (r .many) refl
 
-  read-same : (x : ℕ) → x < strands d → somewhere (d .scaffold) (d .glues) (d .dg) (d .ds) x ≡ true → potential d x ≡ getD potentials x zero
+  read-same : (x : ℕ) → x < strands d → somewhere (d .scaffold) (d .marks) (d .glues) (d .dg) (d .ds) x ≡ true → potential d x ≡ getD potentials x zero
   unfolding somewhere
   read-same x h e =
-      let at = some-below (friendAt (d .scaffold) (d .glues) (d .dg) (d .ds) x) (positions d) e in
+      let at = some-below (friendAt (d .scaffold) (d .marks) (d .glues) (d .dg) (d .ds) x) (positions d) e in
       r .friends (at .at) x (tested-friend d (at .at) x (at .below) h (at .passes))
 
-  unfit-same : (x : ℕ) → x < strands d → unfit (d .scaffold) (d .glues) (d .dg) (d .ds) potentials x ≡ unfit (d .scaffold) (d .glues) (d .dg) (d .ds) (d .potentials) x
-  unfit-same x h = go (somewhere (d .scaffold) (d .glues) (d .dg) (d .ds) x) (read-same x h)
+  unfit-same : (x : ℕ) → x < strands d → unfit (d .scaffold) (d .marks) (d .glues) (d .dg) (d .ds) potentials x ≡ unfit (d .scaffold) (d .marks) (d .glues) (d .dg) (d .ds) (d .potentials) x
+  unfit-same x h = go (somewhere (d .scaffold) (d .marks) (d .glues) (d .dg) (d .ds) x) (read-same x h)
     where
       go : (t : Bool) → (t ≡ true → potential d x ≡ getD potentials x zero) → (t && beyond 1024 (getD potentials x zero)) ≡ (t && beyond 1024 (potential d x))
       go true f = ap (beyond 1024) (sym (f refl))
@@ -85,11 +85,11 @@ module _ (d : Design) (potentials : List Float) (r : ReadAlike d potentials) whe
 
   potentials-same : potentialsOut other ≡ potentialsOut d
   unfolding potentialsOut
-  potentials-same = rw (r .many) (any-agree (unfit (d .scaffold) (d .glues) (d .dg) (d .ds) potentials) (unfit (d .scaffold) (d .glues) (d .dg) (d .ds) (d .potentials)) (strands d) unfit-same)
+  potentials-same = rw (r .many) (any-agree (unfit (d .scaffold) (d .marks) (d .glues) (d .dg) (d .ds) potentials) (unfit (d .scaffold) (d .marks) (d .glues) (d .dg) (d .ds) (d .potentials)) (strands d) unfit-same)
 
   place-same : badPotential other ≡ badPotential d
   unfolding badPotential
-  place-same = rw (r .many) (first-agree (unfit (d .scaffold) (d .glues) (d .dg) (d .ds) potentials) (unfit (d .scaffold) (d .glues) (d .dg) (d .ds) (d .potentials)) (strands d) (λ k. k) unfit-same)
+  place-same = rw (r .many) (first-agree (unfit (d .scaffold) (d .marks) (d .glues) (d .dg) (d .ds) potentials) (unfit (d .scaffold) (d .marks) (d .glues) (d .dg) (d .ds) (d .potentials)) (strands d) (λ k. k) unfit-same)
 
   -- ---- the models
 
@@ -109,7 +109,7 @@ module _ (d : Design) (potentials : List Float) (r : ReadAlike d potentials) whe
 
   -- ---- the replies
 
-  tables-same : (ownSize : Bool) → tableChecks ownSize (d .scaffold) (d .glues) (d .dg) (d .ds) potentials ≡ tableChecks ownSize (d .scaffold) (d .glues) (d .dg) (d .ds) (d .potentials)
+  tables-same : (ownSize : Bool) → tableChecks ownSize (d .scaffold) (d .marks) (d .glues) (d .dg) (d .ds) potentials ≡ tableChecks ownSize (d .scaffold) (d .marks) (d .glues) (d .dg) (d .ds) (d .potentials)
   tables-same ownSize = rw sizes-same refl
 
   numbers-same : numberChecks other ≡ numberChecks d

@@ -15,7 +15,7 @@ use Rattle.reply.specs.Limits.{mostPositions, mostStrands, lastGlue, glueCount,
 use Rattle.reply.specs.declared.Refusal.the-variants.{WrongSize, OutOfRange, NullBinds, NotAFriend, TooManyStates, RankTooHigh, AmbientOut, PotentialOut}
 use Rattle.units.specs.declared.Ambient.{Ambient}
 use Rattle.model.specs.States.{count}
-use Rattle.design.specs.Design.{Design, positions, strands, west, bottom, east, binding, befriends, modelOf}
+use Rattle.design.specs.Design.{Design, positions, strands, blockedAt, west, bottom, east, binding, befriends, modelOf}
 
 -- ---- size
 
@@ -28,19 +28,23 @@ abbrev pub wrongLengths : List ℕ → List Float → List Float → List Float 
 wrongLengths glues dg ds potentials =
     not (eqb (length glues) (3 * length potentials)) || (not (eqb (length dg) cellCount) || not (eqb (length ds) cellCount))
 
+-- as many marks as positions, and each 0 or 1
+abbrev pub wrongMarks : List ℕ → List ℕ → Bool
+wrongMarks scaffold marks = not (eqb (length marks) (length scaffold)) || any (ltb 1) marks
+
 -- a glue above 63
 abbrev pub highGlue : ℕ → Bool
 highGlue glue = ltb lastGlue glue
 
--- the counts, the lengths or a glue is outside its limits
-unfoldable pub wrongSizes : List ℕ → List ℕ → List Float → List Float → List Float → Bool
+-- the counts, the lengths, a mark or a glue is outside its limits
+unfoldable pub wrongSizes : List ℕ → List ℕ → List ℕ → List Float → List Float → List Float → Bool
 unfolding any
-wrongSizes scaffold glues dg ds potentials =
-    wrongCounts scaffold potentials || (wrongLengths glues dg ds potentials || (any highGlue scaffold || any highGlue glues))
+wrongSizes scaffold marks glues dg ds potentials =
+    wrongCounts scaffold potentials || (wrongLengths glues dg ds potentials || (wrongMarks scaffold marks || (any highGlue scaffold || any highGlue glues)))
 
--- document 01's refusal 1 of a design
+-- refusal 1 of a design
 abbrev pub sizesOut : Design → Bool
-sizesOut d = wrongSizes (d .scaffold) (d .glues) (d .dg) (d .ds) (d .potentials)
+sizesOut d = wrongSizes (d .scaffold) (d .marks) (d .glues) (d .dg) (d .ds) (d .potentials)
 
 -- a strand asked for by number that the design lacks
 abbrev pub noStrand : Design → ℕ → Bool
@@ -93,27 +97,27 @@ unfolding nearest
 badAmbient ambient = cond (rtOut ambient) 0 (cond (strandExcessOut ambient) 1 2)
 
 -- the strand is a friend at a position
-abbrev pub friendAt : List ℕ → List ℕ → List Float → List Float → ℕ → ℕ → Bool
-friendAt scaffold glues dg ds strand i = befriends (getD scaffold i 0) glues dg ds strand
+abbrev pub friendAt : List ℕ → List ℕ → List ℕ → List Float → List Float → ℕ → ℕ → Bool
+friendAt scaffold marks glues dg ds strand i = not (blockedAt marks i) && befriends (getD scaffold i 0) glues dg ds strand
 
--- the strand is a friend at some position
-unfoldable pub somewhere : List ℕ → List ℕ → List Float → List Float → ℕ → Bool
+-- the strand is a friend at some position, which is open
+unfoldable pub somewhere : List ℕ → List ℕ → List ℕ → List Float → List Float → ℕ → Bool
 unfolding any tabulate befriends
-somewhere scaffold glues dg ds strand = any (friendAt scaffold glues dg ds strand) (upTo (length scaffold))
+somewhere scaffold marks glues dg ds strand = any (friendAt scaffold marks glues dg ds strand) (upTo (length scaffold))
 
 -- potentials ±1,024; only those of strands that are somewhere friends are looked at
-abbrev pub unfit : List ℕ → List ℕ → List Float → List Float → List Float → ℕ → Bool
-unfit scaffold glues dg ds potentials strand = somewhere scaffold glues dg ds strand && beyond mostPotential (getD potentials strand zero)
+abbrev pub unfit : List ℕ → List ℕ → List ℕ → List Float → List Float → List Float → ℕ → Bool
+unfit scaffold marks glues dg ds potentials strand = somewhere scaffold marks glues dg ds strand && beyond mostPotential (getD potentials strand zero)
 
 -- a potential that is read is out of its range
 unfoldable pub potentialsOut : Design → Bool
 unfolding any tabulate somewhere nearest
-potentialsOut d = any (unfit (d .scaffold) (d .glues) (d .dg) (d .ds) (d .potentials)) (upTo (strands d))
+potentialsOut d = any (unfit (d .scaffold) (d .marks) (d .glues) (d .dg) (d .ds) (d .potentials)) (upTo (strands d))
 
 -- the lowest strand whose potential is read and out of its range
 unfoldable pub badPotential : Design → ℕ
 unfolding firstIndex tabulate somewhere nearest
-badPotential d = firstIndex (unfit (d .scaffold) (d .glues) (d .dg) (d .ds) (d .potentials)) (upTo (strands d))
+badPotential d = firstIndex (unfit (d .scaffold) (d .marks) (d .glues) (d .dg) (d .ds) (d .potentials)) (upTo (strands d))
 
 -- ---- null: strand 0 has a nonzero glue, or row or column 0 of a glue table has a nonzero cell
 
@@ -132,18 +136,19 @@ nullBinds glues dg ds = nullGlued glues || any (nullCells dg ds) (upTo glueCount
 
 -- ---- stranger: a configuration holds, at some position, neither 0 nor a friend; a number that is no strand is no friend
 
--- an occupant of a place with this scaffold glue that is neither 0 nor a friend
-abbrev pub noFriend : ℕ → List ℕ → List Float → List Float → ℕ → ℕ → Bool
-noFriend glue glues dg ds strands occupant = not (eqb occupant 0) && not (ltb occupant strands && befriends glue glues dg ds occupant)
+-- an occupant that is neither 0 nor a friend, of a place that is blocked or not and has this scaffold glue
+abbrev pub noFriend : Bool → ℕ → List ℕ → List Float → List Float → ℕ → ℕ → Bool
+noFriend blocked glue glues dg ds strands occupant =
+    not (eqb occupant 0) && not (ltb occupant strands && (not blocked && befriends glue glues dg ds occupant))
 
 -- the same of the occupant of position i
-abbrev pub stranger : List ℕ → List ℕ → List Float → List Float → ℕ → List ℕ → ℕ → Bool
-stranger scaffold glues dg ds strands s i = noFriend (getD scaffold i 0) glues dg ds strands (getD s i 0)
+abbrev pub stranger : List ℕ → List ℕ → List ℕ → List Float → List Float → ℕ → List ℕ → ℕ → Bool
+stranger scaffold marks glues dg ds strands s i = noFriend (blockedAt marks i) (getD scaffold i 0) glues dg ds strands (getD s i 0)
 
 -- document 01's refusal 11 of a configuration
 unfoldable pub strangers : Design → List ℕ → Bool
 unfolding any tabulate befriends
-strangers d s = any (stranger (d .scaffold) (d .glues) (d .dg) (d .ds) (strands d) s) (upTo (positions d))
+strangers d s = any (stranger (d .scaffold) (d .marks) (d .glues) (d .dg) (d .ds) (strands d) s) (upTo (positions d))
 
 -- ---- many, and rank
 
@@ -174,9 +179,9 @@ pub record TablesPass (d : Design) : Type 0 where
 -- ---- the checks of each call, sorted by number
 
 -- the sizes, with the call's own; the cells; what binds to null
-abbrev pub tableChecks : Bool → List ℕ → List ℕ → List Float → List Float → List Float → List Check
-tableChecks ownSize scaffold glues dg ds potentials =
-    WrongSize if (ownSize || wrongSizes scaffold glues dg ds potentials)
+abbrev pub tableChecks : Bool → List ℕ → List ℕ → List ℕ → List Float → List Float → List Float → List Check
+tableChecks ownSize scaffold marks glues dg ds potentials =
+    WrongSize if (ownSize || wrongSizes scaffold marks glues dg ds potentials)
     ∷ OutOfRange if cellsOut dg ds at badCell dg ds
     ∷ NullBinds if nullBinds glues dg ds
     ∷ []
@@ -189,7 +194,7 @@ numberChecks d = AmbientOut if ambientOut (d .ambient) at badAmbient (d .ambient
 -- call's own from 18 on.
 abbrev pub designChecks : Bool → Design → List Check → List Check → List Check
 designChecks ownSize d between after =
-    tableChecks ownSize (d .scaffold) (d .glues) (d .dg) (d .ds) (d .potentials) ++ (between ++ (numberChecks d ++ after))
+    tableChecks ownSize (d .scaffold) (d .marks) (d .glues) (d .dg) (d .ds) (d .potentials) ++ (between ++ (numberChecks d ++ after))
 
 -- what is refused of a strand bond
 abbrev pub strandBondChecks : Design → ℕ → ℕ → List Check

@@ -1,7 +1,8 @@
 -- A design, and document 01's "Bonds, friends, states" read off it: the bonds, the friends, and with these the model.
-use mathlib.Core.Bool.{Bool, _||_}
-use mathlib.Core.List.{List}
+use mathlib.Core.Bool.{Bool, not, cond, _&&_, _||_}
+use mathlib.Core.List.{List, []}
 use Prim.Native.Nat.{ℕ, _+_, _*_}
+use lib.Dec.{eqb}
 use lib.ListN.{length, getD}
 use lib.Ieee.{Float, binary64, sub, mul, div, ne}
 use denote.Ref.{RefT, now}
@@ -14,6 +15,8 @@ use Rattle.model.specs.Model.{Model}
 pub record Design : Type 0 where
   -- the scaffold glue of each position
   pub scaffold : List ℕ
+  -- document 02's marks, one for each position: 0 open, 1 blocked
+  pub marks : List ℕ
   -- three glues for each strand: west, bottom, east
   pub glues : List ℕ
   -- the dG and the dS table, 64 by 64, row first
@@ -24,13 +27,13 @@ pub record Design : Type 0 where
   pub ambient : Ambient
 
 -- a design out of its parts, in the order in which calls take them
-abbrev pub design : List ℕ → List ℕ → List Float → List Float → List Float → Ambient → Design
-design scaffold glues dg ds potentials ambient =
-    record { scaffold = scaffold; glues = glues; dg = dg; ds = ds; potentials = potentials; ambient = ambient }
+abbrev pub design : List ℕ → List ℕ → List ℕ → List Float → List Float → List Float → Ambient → Design
+design scaffold marks glues dg ds potentials ambient =
+    record { scaffold = scaffold; marks = marks; glues = glues; dg = dg; ds = ds; potentials = potentials; ambient = ambient }
 
 -- the design that a call is lent
-abbrev pub lent : RefT (List ℕ) → RefT (List ℕ) → RefT (List Float) → RefT (List Float) → RefT (List Float) → Ambient → Design
-lent scaffold glues dg ds potentials ambient = design (now scaffold) (now glues) (now dg) (now ds) (now potentials) ambient
+abbrev pub lent : RefT (List ℕ) → RefT (List ℕ) → RefT (List ℕ) → RefT (List Float) → RefT (List Float) → RefT (List Float) → Ambient → Design
+lent scaffold marks glues dg ds potentials ambient = design (now scaffold) (now marks) (now glues) (now dg) (now ds) (now potentials) ambient
 
 -- how many positions the scaffold has
 abbrev pub positions : Design → ℕ
@@ -65,6 +68,10 @@ east glues strand = side glues strand 2
 -- the scaffold glue at a position
 abbrev pub scaffoldGlue : Design → ℕ → ℕ
 scaffoldGlue d i = getD (d .scaffold) i 0
+
+-- a position is blocked
+abbrev pub blockedAt : List ℕ → ℕ → Bool
+blockedAt marks i = eqb (getD marks i 0) 1
 
 -- the potential of a strand
 abbrev pub potential : Design → ℕ → Float
@@ -103,13 +110,13 @@ unfoldable pub friendsTo : ℕ → List ℕ → List Float → List Float → �
 unfolding keep tabulate befriends
 friendsTo glue glues dg ds strands = keep (befriends glue glues dg ds) (upTo strands)
 
--- the friends of a position
-abbrev pub friendsIn : List ℕ → List ℕ → List Float → List Float → ℕ → ℕ → List ℕ
-friendsIn scaffold glues dg ds strands i = friendsTo (getD scaffold i 0) glues dg ds strands
+-- the friends of a position: those of its glue, and none where it is blocked
+abbrev pub friendsIn : List ℕ → List ℕ → List ℕ → List Float → List Float → ℕ → ℕ → List ℕ
+friendsIn scaffold marks glues dg ds strands i = cond (blockedAt marks i) [] (friendsTo (getD scaffold i 0) glues dg ds strands)
 
 -- the friends of each position
-abbrev pub friendLists : List ℕ → List ℕ → List Float → List Float → ℕ → List (List ℕ)
-friendLists scaffold glues dg ds strands = tabulate (length scaffold) (friendsIn scaffold glues dg ds strands)
+abbrev pub friendLists : List ℕ → List ℕ → List ℕ → List Float → List Float → ℕ → List (List ℕ)
+friendLists scaffold marks glues dg ds strands = tabulate (length scaffold) (friendsIn scaffold marks glues dg ds strands)
 
 -- ---- of a design
 
@@ -121,20 +128,24 @@ strandBondIn d = strandBond (d .glues) (d .dg) (d .ds) (d .ambient)
 abbrev pub scaffoldBondIn : Design → ℕ → ℕ → Float
 scaffoldBondIn d i = scaffoldBond (scaffoldGlue d i) (d .glues) (d .dg) (d .ds) (d .ambient)
 
--- a strand is a friend at a position of a design
+-- a position of a design is blocked
+abbrev pub blocked : Design → ℕ → Bool
+blocked d = blockedAt (d .marks)
+
+-- a strand is a friend at a position of a design: the position is open, and its glue binds the strand
 abbrev pub isFriend : Design → ℕ → ℕ → Bool
-isFriend d i = befriends (scaffoldGlue d i) (d .glues) (d .dg) (d .ds)
+isFriend d i strand = not (blocked d i) && befriends (scaffoldGlue d i) (d .glues) (d .dg) (d .ds) strand
 
 -- the friends of a position of a design
 abbrev pub friendsOf : Design → ℕ → List ℕ
-friendsOf d = friendsIn (d .scaffold) (d .glues) (d .dg) (d .ds) (strands d)
+friendsOf d = friendsIn (d .scaffold) (d .marks) (d .glues) (d .dg) (d .ds) (strands d)
 
 -- the model that a design gives
 unfoldable pub modelOf : Design → Model
 unfolding tabulate friendsTo scaffoldBond strandBond
 modelOf d =
     record {
-      friends = friendLists (d .scaffold) (d .glues) (d .dg) (d .ds) (strands d);
+      friends = friendLists (d .scaffold) (d .marks) (d .glues) (d .dg) (d .ds) (strands d);
       site = scaffoldBondIn d;
       pair = strandBondIn d;
       potential = potential d;

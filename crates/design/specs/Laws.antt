@@ -1,4 +1,4 @@
--- What is shown of every design: that its friends are document 01's, that a configuration is a state exactly if no check refuses it, and
+-- What is shown of every design: that its friends are the documents', that a configuration is a state exactly if no check refuses it, and
 -- that the model of an admitted design is within the bounds under which the laws of states, energies and the search hold.
 use mathlib.Core.Path.{_≡_}
 use mathlib.Core.Logic.{_⊎_, _↔_}
@@ -12,18 +12,19 @@ use Rattle.doubles.specs.Decimal.{zero}
 use Rattle.lists.specs.Order.{Rising}
 use Rattle.model.specs.Model.{Friend, State, friendsAt}
 use Rattle.model.specs.Bounds.{Bounded}
-use Rattle.design.specs.Design.{Design, positions, strands, scaffoldGlue, bottom, cell, modelOf}
+use Rattle.design.specs.Design.{Design, positions, strands, blocked, scaffoldGlue, bottom, cell, modelOf}
 use Rattle.design.specs.Checks.{Admitted, strangers}
 
--- one of the design's strands, with a nonzero dG or dS at the cell of the position's glue and its own bottom glue
+-- one of the design's strands, at a position that is open, with a nonzero dG or dS at the cell of the position's glue and its own bottom glue
 pub record Bound (d : Design) (i strand : ℕ) : Type 0 where
   pub position : i < positions d
+  pub free : blocked d i ≡ false
   pub known : strand < strands d
   pub nonzero : (ne (cell (d .dg) (scaffoldGlue d i) (bottom (d .glues) strand)) zero ≡ true) ⊎ (ne (cell (d .ds) (scaffoldGlue d i) (bottom (d .glues) strand)) zero ≡ true)
 
--- the friends of a design's model are document 01's, and its states those that no check refuses
+-- the friends of a design's model are the documents', and its states those that no check refuses
 pub record FriendsRight (d : Design) : Type 0 where
-  -- a strand is a friend at a position exactly if it is one of the design's and a cell is nonzero
+  -- a strand is a friend at a position exactly if the position is open, the strand is one of the design's and a cell is nonzero
   pub exactly : (i strand : ℕ) → Friend (modelOf d) i strand ↔ Bound d i strand
   -- friends run in rising order
   pub rising : (i : ℕ) → Rising (friendsAt (modelOf d) i)

@@ -3,6 +3,7 @@ pub mod Checks
 pub mod Places
 pub mod Answers
 pub mod Laws
+pub mod Blocked
 pub mod Finite
 pub mod Unread
 pub mod Filling

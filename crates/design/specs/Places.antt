@@ -30,7 +30,7 @@ ambientNumberOut ambient k = getD (rtOut ambient ∷ strandExcessOut ambient ∷
 
 -- a strand is somewhere a friend, and its potential is out
 abbrev pub potentialOut : Design → ℕ → Bool
-potentialOut d = unfit (d .scaffold) (d .glues) (d .dg) (d .ds) (d .potentials)
+potentialOut d = unfit (d .scaffold) (d .marks) (d .glues) (d .dg) (d .ds) (d .potentials)
 
 -- the place is one of so many, the number there is out, and none below it is
 pub record LowestOut (out : ℕ → Bool) (many : ℕ) (place : Place) : Type 0 where

@@ -11,7 +11,7 @@ use Rattle.design.specs.Answers.{strandBondAnswer, scaffoldBondAnswer, f
 
 -- the design with other potentials
 abbrev pub withPotentials : Design → List Float → Design
-withPotentials d potentials = design (d .scaffold) (d .glues) (d .dg) (d .ds) potentials (d .ambient)
+withPotentials d potentials = design (d .scaffold) (d .marks) (d .glues) (d .dg) (d .ds) potentials (d .ambient)
 
 -- as many as before, and the same of strands that are somewhere friends
 pub record ReadAlike (d : Design) (potentials : List Float) : Type 0 where

@@ -1,4 +1,5 @@
 // The conditions on which a design is refused.
+use super::friends::BLOCKED;
 use super::friends::binds;
 use super::friends::is_friend_somewhere;
 use super::reads::bottom_glue;
@@ -25,6 +26,7 @@ use units::Ambient;
 ghost use mathlib.Core.Path.{_≡_};
 ghost use mathlib.Core.List.{[], _∷_};
 ghost use Prim.Native.Nat.{_≤_};
+ghost use lib.Dec.{ltb};
 ghost use lib.ListN.{length};
 ghost use lib.Ieee.{neg};
 ghost use Rattle.lists.specs.Build.{upTo};
@@ -32,15 +34,15 @@ ghost use Rattle.lists.specs.Find.{any, firstIndex};
 ghost use Rattle.reply.specs.First.{firstOf, _if_at_};
 ghost use Rattle.reply.specs.declared.Refusal.the-variants.{OutOfRange, AmbientOut};
 ghost use Rattle.design.specs.Design.{lent};
-ghost use Rattle.design.specs.Checks.{highGlue, wrongSizes, outside, cellsOut, badCell, ambientOut, badAmbient, unfit, nullCells, nullBinds, tableChecks, numberChecks, designChecks};
+ghost use Rattle.design.specs.Checks.{wrongSizes, outside, cellsOut, badCell, ambientOut, badAmbient, unfit, nullCells, nullBinds, tableChecks, numberChecks, designChecks};
 
-// Where the first glue above 63 stands; the number of glues where there is none.
-fn first_high_glue(glues: &[u8]) -> usize
-    ensures { λ r. ⌜ r ≡ firstIndex highGlue (now (glues .entry)) ⌝ }
+// Where the first number above the most that it may be stands; how many there are where none is.
+fn first_above(most: u8, numbers: &[u8]) -> usize
+    ensures { λ r. ⌜ r ≡ firstIndex (ltb most) (now (numbers .entry)) ⌝ }
 {
     let mut i = 0;
-    while i < glues.len() {
-        if LAST_GLUE < glues[i] {
+    while i < numbers.len() {
+        if most < numbers[i] {
             return i;
         }
         i += 1;
@@ -48,9 +50,16 @@ fn first_high_glue(glues: &[u8]) -> usize
     i
 }
 
-// Whether a count, a length or a glue is outside its limits.
-fn wrong_sizes(scaffold: &[u8], glues: &[u8], dg: &[f64], ds: &[f64], potentials: &[f64]) -> bool
-    ensures { λ r. ⌜ r ≡ wrongSizes (now (scaffold .entry)) (now (glues .entry)) (now (dg .entry)) (now (ds .entry)) (now (potentials .entry)) ⌝ }
+// Whether a count, a length, a mark or a glue is outside its limits.
+fn wrong_sizes(
+    scaffold: &[u8],
+    marks: &[u8],
+    glues: &[u8],
+    dg: &[f64],
+    ds: &[f64],
+    potentials: &[f64],
+) -> bool
+    ensures { λ r. ⌜ r ≡ wrongSizes (now (scaffold .entry)) (now (marks .entry)) (now (glues .entry)) (now (dg .entry)) (now (ds .entry)) (now (potentials .entry)) ⌝ }
 {
     if POSITIONS < scaffold.len() {
         return true;
@@ -70,10 +79,16 @@ fn wrong_sizes(scaffold: &[u8], glues: &[u8], dg: &[f64], ds: &[f64], potentials
     if ds.len() != CELLS {
         return true;
     }
-    if first_high_glue(scaffold) < scaffold.len() {
+    if marks.len() != scaffold.len() {
         return true;
     }
-    first_high_glue(glues) < glues.len()
+    if first_above(BLOCKED, marks) < marks.len() {
+        return true;
+    }
+    if first_above(LAST_GLUE, scaffold) < scaffold.len() {
+        return true;
+    }
+    first_above(LAST_GLUE, glues) < glues.len()
 }
 
 // Whether a cell of either table is out of its range. All are counted, a cell of each table in a turn: a loop with one way out is one that the
@@ -156,19 +171,20 @@ fn ambient_reply(ambient: Ambient) -> Reply
 // The first strand that is somewhere a friend and whose potential is out of range; the number of strands where there is none.
 fn first_unfit(
     scaffold: &[u8],
+    marks: &[u8],
     glues: &[u8],
     dg: &[f64],
     ds: &[f64],
     potentials: &[f64],
     strands: u8,
 ) -> u8
-    ensures { λ r. ⌜ r ≡ firstIndex (unfit (now (scaffold .entry)) (now (glues .entry)) (now (dg .entry)) (now (ds .entry)) (now (potentials .entry))) (upTo strands) ⌝ }
+    ensures { λ r. ⌜ r ≡ firstIndex (unfit (now (scaffold .entry)) (now (marks .entry)) (now (glues .entry)) (now (dg .entry)) (now (ds .entry)) (now (potentials .entry))) (upTo strands) ⌝ }
 {
     let mut strand = 0;
     while strand < strands {
         let potential = potential_of(potentials, strand);
         if !doubles::in_range(-POTENTIAL, POTENTIAL, potential) {
-            if is_friend_somewhere(scaffold, glues, dg, ds, strand) {
+            if is_friend_somewhere(scaffold, marks, glues, dg, ds, strand) {
                 return strand;
             }
         }
@@ -214,17 +230,18 @@ fn null_binds(glues: &[u8], dg: &[f64], ds: &[f64]) -> bool
 pub fn tables_reply(
     own_size: bool,
     scaffold: &[u8],
+    marks: &[u8],
     glues: &[u8],
     dg: &[f64],
     ds: &[f64],
     potentials: &[f64],
 ) -> Reply
-    ensures { λ r. ⌜ r ≡ firstOf (tableChecks «own_size» (now (scaffold .entry)) (now (glues .entry)) (now (dg .entry)) (now (ds .entry)) (now (potentials .entry))) ⌝ }
+    ensures { λ r. ⌜ r ≡ firstOf (tableChecks «own_size» (now (scaffold .entry)) (now (marks .entry)) (now (glues .entry)) (now (dg .entry)) (now (ds .entry)) (now (potentials .entry))) ⌝ }
 {
     if own_size {
         return Reply::Refused(Refusal::WrongSize, Place::Nowhere);
     }
-    if wrong_sizes(scaffold, glues, dg, ds, potentials) {
+    if wrong_sizes(scaffold, marks, glues, dg, ds, potentials) {
         return Reply::Refused(Refusal::WrongSize, Place::Nowhere);
     }
     cells_reply(dg, ds).or(refused_if(Refusal::NullBinds, null_binds(glues, dg, ds)))
@@ -233,6 +250,7 @@ pub fn tables_reply(
 // The first of the checks of a design's numbers that holds: its ambient, and the potentials that are read.
 pub fn numbers_reply(
     scaffold: &[u8],
+    marks: &[u8],
     glues: &[u8],
     dg: &[f64],
     ds: &[f64],
@@ -240,10 +258,10 @@ pub fn numbers_reply(
     ambient: Ambient,
 ) -> Reply
     requires { ⌜ length (now potentials) ≤ 64 ⌝ }
-    ensures { λ r. ⌜ r ≡ firstOf (numberChecks (lent (scaffold .entry) (glues .entry) (dg .entry) (ds .entry) (potentials .entry) ambient)) ⌝ }
+    ensures { λ r. ⌜ r ≡ firstOf (numberChecks (lent (scaffold .entry) (marks .entry) (glues .entry) (dg .entry) (ds .entry) (potentials .entry) ambient)) ⌝ }
 {
     let strands = potentials.len() as u8;
-    let strand = first_unfit(scaffold, glues, dg, ds, potentials, strands);
+    let strand = first_unfit(scaffold, marks, glues, dg, ds, potentials, strands);
     ambient_reply(ambient).or(refused_at(Refusal::PotentialOut, strand < strands, strand as usize))
 }
 
@@ -251,16 +269,17 @@ pub fn numbers_reply(
 pub fn design_reply(
     own_size: bool,
     scaffold: &[u8],
+    marks: &[u8],
     glues: &[u8],
     dg: &[f64],
     ds: &[f64],
     potentials: &[f64],
     ambient: Ambient,
 ) -> Reply
-    ensures { λ r. ⌜ r ≡ firstOf (designChecks «own_size» (lent (scaffold .entry) (glues .entry) (dg .entry) (ds .entry) (potentials .entry) ambient) [] []) ⌝ }
+    ensures { λ r. ⌜ r ≡ firstOf (designChecks «own_size» (lent (scaffold .entry) (marks .entry) (glues .entry) (dg .entry) (ds .entry) (potentials .entry) ambient) [] []) ⌝ }
 {
-    match tables_reply(own_size, scaffold, glues, dg, ds, potentials) {
+    match tables_reply(own_size, scaffold, marks, glues, dg, ds, potentials) {
         Reply::Refused(refusal, place) => Reply::Refused(refusal, place),
-        Reply::Admitted => numbers_reply(scaffold, glues, dg, ds, potentials, ambient),
+        Reply::Admitted => numbers_reply(scaffold, marks, glues, dg, ds, potentials, ambient),
     }
 }

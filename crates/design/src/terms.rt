@@ -4,12 +4,13 @@ use super::bonds::strand_bond;
 use super::reads::byte_at;
 use super::reads::potential_of;
 use units::Ambient;
-ghost use Prim.Native.Nat.{_≤_};
+ghost use mathlib.Core.List.{List};
+ghost use Prim.Native.Nat.{ℕ, _≤_};
 ghost use lib.ListN.{length};
 ghost use Rattle.ensemble.specs.Layout.{PlaceTerms};
-ghost use Rattle.design.specs.Design.{lent, modelOf};
+ghost use Rattle.design.specs.Design.{design, modelOf};
 
-// For each place its scaffold bond, its strand bond with the place to the right, and its potential.
+// For each place its scaffold bond, its strand bond with the place to the right, and its potential; marks are not read.
 pub fn fill_terms(
     scaffold: &[u8],
     glues: &[u8],
@@ -25,7 +26,7 @@ pub fn fill_terms(
     requires { ⌜ length (now configuration) ≤ length (now sites) ⌝ }
     requires { ⌜ length (now configuration) ≤ length (now pairs) ⌝ }
     requires { ⌜ length (now configuration) ≤ length (now logs) ⌝ }
-    ensures { λ _. ⌜ PlaceTerms (modelOf (lent (scaffold .entry) (glues .entry) (dg .entry) (ds .entry) (potentials .entry) ambient)) (now (configuration .entry)) (now (sites .exit)) (now (pairs .exit)) (now (logs .exit)) ⌝ }
+    ensures { λ _. ⌜ ((marks : List ℕ) → PlaceTerms (modelOf (design (now (scaffold .entry)) marks (now (glues .entry)) (now (dg .entry)) (now (ds .entry)) (now (potentials .entry)) ambient)) (now (configuration .entry)) (now (sites .exit)) (now (pairs .exit)) (now (logs .exit))) ⌝ }
 {
     let mut position = 0;
     while position < configuration.len() {

@@ -12,6 +12,6 @@ ambientOf rt strandExcess scaffoldExcess =
     record { rt = record { 0 = rt }; «strand_excess» = record { 0 = strandExcess }; «scaffold_excess» = record { 0 = scaffoldExcess } }
 
 -- the design that a C function is lent
-abbrev pub lentAt : RefT (List ℕ) → RefT (List ℕ) → RefT (List Float) → RefT (List Float) → RefT (List Float) → Float → Float → Float → Design
-lentAt scaffold glues dg ds potentials rt strandExcess scaffoldExcess =
-    lent scaffold glues dg ds potentials (ambientOf rt strandExcess scaffoldExcess)
+abbrev pub lentAt : RefT (List ℕ) → RefT (List ℕ) → RefT (List ℕ) → RefT (List Float) → RefT (List Float) → RefT (List Float) → Float → Float → Float → Design
+lentAt scaffold marks glues dg ds potentials rt strandExcess scaffoldExcess =
+    lent scaffold marks glues dg ds potentials (ambientOf rt strandExcess scaffoldExcess)

@@ -1,4 +1,4 @@
-// A design's calls as C functions. A design is lent as sdc1d takes it, the ambient as its three doubles.
+// A design's calls as C functions. A design is lent as sdc1d takes it, marks after the scaffold, the ambient as its three doubles.
 ghost use mathlib.Core.Path.{_≡_};
 ghost use Rattle.design.specs.Answers.{strandBondAnswer, scaffoldBondAnswer, friendsAnswer, friendsEntries, countAnswer, rankAnswer, rankEntries, stateEnergyAnswer, chainEnergyAnswer};
 ghost use Rattle.exports.specs.Lent.{ambientOf, lentAt};
@@ -23,6 +23,7 @@ pub(crate) fn ambient(rt: f64, strand_excess: f64, scaffold_excess: f64) -> Ambi
 #[no_mangle]
 pub extern "C" fn mj_strand_bond(
     scaffold: &[u8],
+    marks: &[u8],
     glues: &[u8],
     dg: &[f64],
     ds: &[f64],
@@ -35,11 +36,12 @@ pub extern "C" fn mj_strand_bond(
     place: &mut u64,
     bond: &mut f64,
 ) -> u32
-    ensures { λ r. ⌜ Told (strandBondAnswer (lentAt (scaffold .entry) (glues .entry) (dg .entry) (ds .entry) (potentials .entry) rt «strand_excess» «scaffold_excess») x y) r (now (place .exit)) (now (bond .exit)) ⌝ }
+    ensures { λ r. ⌜ Told (strandBondAnswer (lentAt (scaffold .entry) (marks .entry) (glues .entry) (dg .entry) (ds .entry) (potentials .entry) rt «strand_excess» «scaffold_excess») x y) r (now (place .exit)) (now (bond .exit)) ⌝ }
 {
     answers::tell_bond(
         sdc1d::bond_between_strands(
             scaffold,
+            marks,
             glues,
             dg,
             ds,
@@ -57,6 +59,7 @@ pub extern "C" fn mj_strand_bond(
 #[no_mangle]
 pub extern "C" fn mj_scaffold_bond(
     scaffold: &[u8],
+    marks: &[u8],
     glues: &[u8],
     dg: &[f64],
     ds: &[f64],
@@ -69,11 +72,12 @@ pub extern "C" fn mj_scaffold_bond(
     place: &mut u64,
     bond: &mut f64,
 ) -> u32
-    ensures { λ r. ⌜ Told (scaffoldBondAnswer (lentAt (scaffold .entry) (glues .entry) (dg .entry) (ds .entry) (potentials .entry) rt «strand_excess» «scaffold_excess») position strand) r (now (place .exit)) (now (bond .exit)) ⌝ }
+    ensures { λ r. ⌜ Told (scaffoldBondAnswer (lentAt (scaffold .entry) (marks .entry) (glues .entry) (dg .entry) (ds .entry) (potentials .entry) rt «strand_excess» «scaffold_excess») position strand) r (now (place .exit)) (now (bond .exit)) ⌝ }
 {
     answers::tell_bond(
         sdc1d::bond_with_scaffold(
             scaffold,
+            marks,
             glues,
             dg,
             ds,
@@ -91,6 +95,7 @@ pub extern "C" fn mj_scaffold_bond(
 #[no_mangle]
 pub extern "C" fn mj_friends(
     scaffold: &[u8],
+    marks: &[u8],
     glues: &[u8],
     dg: &[f64],
     ds: &[f64],
@@ -103,12 +108,13 @@ pub extern "C" fn mj_friends(
     place: &mut u64,
     count: &mut u64,
 ) -> u32
-    ensures { λ r. ⌜ Told (friendsAnswer (lentAt (scaffold .entry) (glues .entry) (dg .entry) (ds .entry) (potentials .entry) rt «strand_excess» «scaffold_excess») position (now (entries .entry))) r (now (place .exit)) (now (count .exit)) ⌝ }
-    ensures { λ r. ⌜ now (entries .exit) ≡ friendsEntries (lentAt (scaffold .entry) (glues .entry) (dg .entry) (ds .entry) (potentials .entry) rt «strand_excess» «scaffold_excess») position (now (entries .entry)) ⌝ }
+    ensures { λ r. ⌜ Told (friendsAnswer (lentAt (scaffold .entry) (marks .entry) (glues .entry) (dg .entry) (ds .entry) (potentials .entry) rt «strand_excess» «scaffold_excess») position (now (entries .entry))) r (now (place .exit)) (now (count .exit)) ⌝ }
+    ensures { λ r. ⌜ now (entries .exit) ≡ friendsEntries (lentAt (scaffold .entry) (marks .entry) (glues .entry) (dg .entry) (ds .entry) (potentials .entry) rt «strand_excess» «scaffold_excess») position (now (entries .entry)) ⌝ }
 {
     answers::tell_count(
         sdc1d::friends_btm(
             scaffold,
+            marks,
             glues,
             dg,
             ds,
@@ -126,6 +132,7 @@ pub extern "C" fn mj_friends(
 #[no_mangle]
 pub extern "C" fn mj_states(
     scaffold: &[u8],
+    marks: &[u8],
     glues: &[u8],
     dg: &[f64],
     ds: &[f64],
@@ -136,11 +143,12 @@ pub extern "C" fn mj_states(
     place: &mut u64,
     count: &mut u64,
 ) -> u32
-    ensures { λ r. ⌜ Told (countAnswer (lentAt (scaffold .entry) (glues .entry) (dg .entry) (ds .entry) (potentials .entry) rt «strand_excess» «scaffold_excess»)) r (now (place .exit)) (now (count .exit)) ⌝ }
+    ensures { λ r. ⌜ Told (countAnswer (lentAt (scaffold .entry) (marks .entry) (glues .entry) (dg .entry) (ds .entry) (potentials .entry) rt «strand_excess» «scaffold_excess»)) r (now (place .exit)) (now (count .exit)) ⌝ }
 {
     answers::tell_count(
         sdc1d::number_of_states(
             scaffold,
+            marks,
             glues,
             dg,
             ds,
@@ -156,6 +164,7 @@ pub extern "C" fn mj_states(
 #[no_mangle]
 pub extern "C" fn mj_state(
     scaffold: &[u8],
+    marks: &[u8],
     glues: &[u8],
     dg: &[f64],
     ds: &[f64],
@@ -167,12 +176,13 @@ pub extern "C" fn mj_state(
     entries: &mut [u8],
     place: &mut u64,
 ) -> u32
-    ensures { λ r. ⌜ Told (rankAnswer (lentAt (scaffold .entry) (glues .entry) (dg .entry) (ds .entry) (potentials .entry) rt «strand_excess» «scaffold_excess») rank (now (entries .entry))) r (now (place .exit)) tt ⌝ }
-    ensures { λ r. ⌜ now (entries .exit) ≡ rankEntries (lentAt (scaffold .entry) (glues .entry) (dg .entry) (ds .entry) (potentials .entry) rt «strand_excess» «scaffold_excess») rank (now (entries .entry)) ⌝ }
+    ensures { λ r. ⌜ Told (rankAnswer (lentAt (scaffold .entry) (marks .entry) (glues .entry) (dg .entry) (ds .entry) (potentials .entry) rt «strand_excess» «scaffold_excess») rank (now (entries .entry))) r (now (place .exit)) tt ⌝ }
+    ensures { λ r. ⌜ now (entries .exit) ≡ rankEntries (lentAt (scaffold .entry) (marks .entry) (glues .entry) (dg .entry) (ds .entry) (potentials .entry) rt «strand_excess» «scaffold_excess») rank (now (entries .entry)) ⌝ }
 {
     answers::tell_state(
         sdc1d::state_at_rank(
             scaffold,
+            marks,
             glues,
             dg,
             ds,
@@ -189,6 +199,7 @@ pub extern "C" fn mj_state(
 #[no_mangle]
 pub extern "C" fn mj_state_energy(
     scaffold: &[u8],
+    marks: &[u8],
     glues: &[u8],
     dg: &[f64],
     ds: &[f64],
@@ -200,11 +211,12 @@ pub extern "C" fn mj_state_energy(
     place: &mut u64,
     energy: &mut f64,
 ) -> u32
-    ensures { λ r. ⌜ Told (stateEnergyAnswer (lentAt (scaffold .entry) (glues .entry) (dg .entry) (ds .entry) (potentials .entry) rt «strand_excess» «scaffold_excess») (now (configuration .entry))) r (now (place .exit)) (now (energy .exit)) ⌝ }
+    ensures { λ r. ⌜ Told (stateEnergyAnswer (lentAt (scaffold .entry) (marks .entry) (glues .entry) (dg .entry) (ds .entry) (potentials .entry) rt «strand_excess» «scaffold_excess») (now (configuration .entry))) r (now (place .exit)) (now (energy .exit)) ⌝ }
 {
     answers::tell_energy(
         sdc1d::g_system(
             scaffold,
+            marks,
             glues,
             dg,
             ds,
@@ -221,6 +233,7 @@ pub extern "C" fn mj_state_energy(
 #[no_mangle]
 pub extern "C" fn mj_chain_energy(
     scaffold: &[u8],
+    marks: &[u8],
     glues: &[u8],
     dg: &[f64],
     ds: &[f64],
@@ -233,11 +246,12 @@ pub extern "C" fn mj_chain_energy(
     sum: &mut f64,
     energy: &mut f64,
 ) -> u32
-    ensures { λ r. ⌜ Told (chainEnergyAnswer (lentAt (scaffold .entry) (glues .entry) (dg .entry) (ds .entry) (potentials .entry) rt «strand_excess» «scaffold_excess») (now (configuration .entry))) r (now (place .exit)) (chainOf (now (sum .exit)) (now (energy .exit))) ⌝ }
+    ensures { λ r. ⌜ Told (chainEnergyAnswer (lentAt (scaffold .entry) (marks .entry) (glues .entry) (dg .entry) (ds .entry) (potentials .entry) rt «strand_excess» «scaffold_excess») (now (configuration .entry))) r (now (place .exit)) (chainOf (now (sum .exit)) (now (energy .exit))) ⌝ }
 {
     answers::tell_chain(
         sdc1d::chain_energy(
             scaffold,
+            marks,
             glues,
             dg,
             ds,

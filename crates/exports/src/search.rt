@@ -11,6 +11,7 @@ use super::designs::ambient;
 #[no_mangle]
 pub extern "C" fn mj_search(
     scaffold: &[u8],
+    marks: &[u8],
     glues: &[u8],
     dg: &[f64],
     ds: &[f64],
@@ -22,13 +23,14 @@ pub extern "C" fn mj_search(
     place: &mut u64,
     energy: &mut f64,
 ) -> u32
-    ensures { λ r. ⌜ Told (searchAnswer (lentAt (scaffold .entry) (glues .entry) (dg .entry) (ds .entry) (potentials .entry) rt «strand_excess» «scaffold_excess») (now (configuration .entry))) r (now (place .exit)) (now (energy .exit)) ⌝ }
-    ensures { λ r. ⌜ now (configuration .exit) ≡ searchEntries (lentAt (scaffold .entry) (glues .entry) (dg .entry) (ds .entry) (potentials .entry) rt «strand_excess» «scaffold_excess») (now (configuration .entry)) ⌝ }
-    ensures { λ r. ⌜ LowestTold (lentAt (scaffold .entry) (glues .entry) (dg .entry) (ds .entry) (potentials .entry) rt «strand_excess» «scaffold_excess») r (now (configuration .exit)) (now (energy .exit)) ⌝ }
+    ensures { λ r. ⌜ Told (searchAnswer (lentAt (scaffold .entry) (marks .entry) (glues .entry) (dg .entry) (ds .entry) (potentials .entry) rt «strand_excess» «scaffold_excess») (now (configuration .entry))) r (now (place .exit)) (now (energy .exit)) ⌝ }
+    ensures { λ r. ⌜ now (configuration .exit) ≡ searchEntries (lentAt (scaffold .entry) (marks .entry) (glues .entry) (dg .entry) (ds .entry) (potentials .entry) rt «strand_excess» «scaffold_excess») (now (configuration .entry)) ⌝ }
+    ensures { λ r. ⌜ LowestTold (lentAt (scaffold .entry) (marks .entry) (glues .entry) (dg .entry) (ds .entry) (potentials .entry) rt «strand_excess» «scaffold_excess») r (now (configuration .exit)) (now (energy .exit)) ⌝ }
 {
     answers::tell_energy(
         mfe::mfe_configuration(
             scaffold,
+            marks,
             glues,
             dg,
             ds,

@@ -21,6 +21,7 @@ ghost use Rattle.mfe.specs.Answers.{searchAnswer, searchEntries, LowestS
 // Options and bonds of an admitted design, the bonds into lent cells, and the search over them.
 fn settled(
     scaffold: &[u8],
+    marks: &[u8],
     glues: &[u8],
     dg: &[f64],
     ds: &[f64],
@@ -30,11 +31,11 @@ fn settled(
     scaffold_bonds: &mut [f64],
     configuration: &mut [u8],
 ) -> KcalPerMol
-    requires { ⌜ Admitted (lent scaffold glues dg ds potentials ambient) ⌝ }
+    requires { ⌜ Admitted (lent scaffold marks glues dg ds potentials ambient) ⌝ }
     requires { ⌜ length (now potentials) * length (now potentials) ≤ length (now «strand_bonds») ⌝ }
     requires { ⌜ length (now scaffold) * length (now potentials) ≤ length (now «scaffold_bonds») ⌝ }
     requires { ⌜ length (now configuration) ≡ length (now scaffold) ⌝ }
-    ensures { λ r. ⌜ Found (modelOf (lent (scaffold .entry) (glues .entry) (dg .entry) (ds .entry) (potentials .entry) ambient)) (now (configuration .exit)) (r .0) ⌝ }
+    ensures { λ r. ⌜ Found (modelOf (lent (scaffold .entry) (marks .entry) (glues .entry) (dg .entry) (ds .entry) (potentials .entry) ambient)) (now (configuration .exit)) (r .0) ⌝ }
 {
     let positions = scaffold.len();
     let strands = potentials.len();
@@ -42,6 +43,7 @@ fn settled(
     let mut counts = [0u8; 128];
     fill_options(
         scaffold,
+        marks,
         glues,
         dg,
         ds,
@@ -84,6 +86,7 @@ fn settled(
 // The same with a table of scaffold bonds that is large enough.
 fn with_scaffold_bonds(
     scaffold: &[u8],
+    marks: &[u8],
     glues: &[u8],
     dg: &[f64],
     ds: &[f64],
@@ -92,16 +95,17 @@ fn with_scaffold_bonds(
     strand_bonds: &mut [f64],
     configuration: &mut [u8],
 ) -> KcalPerMol
-    requires { ⌜ Admitted (lent scaffold glues dg ds potentials ambient) ⌝ }
+    requires { ⌜ Admitted (lent scaffold marks glues dg ds potentials ambient) ⌝ }
     requires { ⌜ length (now potentials) * length (now potentials) ≤ length (now «strand_bonds») ⌝ }
     requires { ⌜ length (now configuration) ≡ length (now scaffold) ⌝ }
-    ensures { λ r. ⌜ Found (modelOf (lent (scaffold .entry) (glues .entry) (dg .entry) (ds .entry) (potentials .entry) ambient)) (now (configuration .exit)) (r .0) ⌝ }
+    ensures { λ r. ⌜ Found (modelOf (lent (scaffold .entry) (marks .entry) (glues .entry) (dg .entry) (ds .entry) (potentials .entry) ambient)) (now (configuration .exit)) (r .0) ⌝ }
 {
     let cells = scaffold.len() * potentials.len();
     if cells <= 256 {
         let mut few = [0.0; 256];
         return settled(
             scaffold,
+            marks,
             glues,
             dg,
             ds,
@@ -116,6 +120,7 @@ fn with_scaffold_bonds(
         let mut some = [0.0; 2048];
         return settled(
             scaffold,
+            marks,
             glues,
             dg,
             ds,
@@ -129,6 +134,7 @@ fn with_scaffold_bonds(
     let mut all = [0.0; 8192];
     settled(
         scaffold,
+        marks,
         glues,
         dg,
         ds,
@@ -143,6 +149,7 @@ fn with_scaffold_bonds(
 // The same with a table of strand bonds that is large enough.
 fn searched(
     scaffold: &[u8],
+    marks: &[u8],
     glues: &[u8],
     dg: &[f64],
     ds: &[f64],
@@ -150,14 +157,15 @@ fn searched(
     ambient: Ambient,
     configuration: &mut [u8],
 ) -> KcalPerMol
-    requires { ⌜ Admitted (lent scaffold glues dg ds potentials ambient) ⌝ }
+    requires { ⌜ Admitted (lent scaffold marks glues dg ds potentials ambient) ⌝ }
     requires { ⌜ length (now configuration) ≡ length (now scaffold) ⌝ }
-    ensures { λ r. ⌜ Found (modelOf (lent (scaffold .entry) (glues .entry) (dg .entry) (ds .entry) (potentials .entry) ambient)) (now (configuration .exit)) (r .0) ⌝ }
+    ensures { λ r. ⌜ Found (modelOf (lent (scaffold .entry) (marks .entry) (glues .entry) (dg .entry) (ds .entry) (potentials .entry) ambient)) (now (configuration .exit)) (r .0) ⌝ }
 {
     if potentials.len() <= 16 {
         let mut few = [0.0; 256];
         return with_scaffold_bonds(
             scaffold,
+            marks,
             glues,
             dg,
             ds,
@@ -170,6 +178,7 @@ fn searched(
     let mut all = [0.0; 4096];
     with_scaffold_bonds(
         scaffold,
+        marks,
         glues,
         dg,
         ds,
@@ -183,6 +192,7 @@ fn searched(
 // The lowest configuration, into one lent entry for each position, 0 for an empty place; and its energy.
 pub fn mfe_configuration(
     scaffold: &[u8],
+    marks: &[u8],
     glues: &[u8],
     dg: &[f64],
     ds: &[f64],
@@ -190,15 +200,33 @@ pub fn mfe_configuration(
     ambient: Ambient,
     configuration: &mut [u8],
 ) -> EnergyAnswer
-    ensures { λ r. ⌜ energyFigures r ≡ searchAnswer (lent (scaffold .entry) (glues .entry) (dg .entry) (ds .entry) (potentials .entry) ambient) (now (configuration .entry)) ⌝ }
-    ensures { λ r. ⌜ now (configuration .exit) ≡ searchEntries (lent (scaffold .entry) (glues .entry) (dg .entry) (ds .entry) (potentials .entry) ambient) (now (configuration .entry)) ⌝ }
-    ensures { λ r. ⌜ LowestShown (lent (scaffold .entry) (glues .entry) (dg .entry) (ds .entry) (potentials .entry) ambient) (now (configuration .entry)) (now (configuration .exit)) r ⌝ }
+    ensures { λ r. ⌜ energyFigures r ≡ searchAnswer (lent (scaffold .entry) (marks .entry) (glues .entry) (dg .entry) (ds .entry) (potentials .entry) ambient) (now (configuration .entry)) ⌝ }
+    ensures { λ r. ⌜ now (configuration .exit) ≡ searchEntries (lent (scaffold .entry) (marks .entry) (glues .entry) (dg .entry) (ds .entry) (potentials .entry) ambient) (now (configuration .entry)) ⌝ }
+    ensures { λ r. ⌜ LowestShown (lent (scaffold .entry) (marks .entry) (glues .entry) (dg .entry) (ds .entry) (potentials .entry) ambient) (now (configuration .entry)) (now (configuration .exit)) r ⌝ }
 {
     let own_size = configuration.len() != scaffold.len();
-    match design_reply(own_size, scaffold, glues, dg, ds, potentials, ambient) {
+    match design_reply(
+        own_size,
+        scaffold,
+        marks,
+        glues,
+        dg,
+        ds,
+        potentials,
+        ambient,
+    ) {
         Reply::Refused(refusal, place) => EnergyAnswer::Refused(refusal, place),
         Reply::Admitted => {
-            let energy = searched(scaffold, glues, dg, ds, potentials, ambient, configuration);
+            let energy = searched(
+                scaffold,
+                marks,
+                glues,
+                dg,
+                ds,
+                potentials,
+                ambient,
+                configuration,
+            );
             EnergyAnswer::Energy(energy)
         }
     }

@@ -127,6 +127,7 @@ fn of_states(
     kind: Kind,
     words: &[u8],
     scaffold: &[u8],
+    marks: &[u8],
     glues: &[u8],
     dg: &[f64],
     ds: &[f64],
@@ -140,6 +141,7 @@ fn of_states(
         Kind::StrandBond => designs::strand_bond(
             words,
             scaffold,
+            marks,
             glues,
             dg,
             ds,
@@ -151,6 +153,7 @@ fn of_states(
         Kind::ScaffoldBond => designs::scaffold_bond(
             words,
             scaffold,
+            marks,
             glues,
             dg,
             ds,
@@ -162,6 +165,7 @@ fn of_states(
         Kind::Friends => designs::friends(
             words,
             scaffold,
+            marks,
             glues,
             dg,
             ds,
@@ -174,6 +178,7 @@ fn of_states(
         Kind::Count => designs::count(
             words,
             scaffold,
+            marks,
             glues,
             dg,
             ds,
@@ -191,6 +196,7 @@ fn of_places(
     kind: Kind,
     words: &[u8],
     scaffold: &[u8],
+    marks: &[u8],
     glues: &[u8],
     dg: &[f64],
     ds: &[f64],
@@ -208,6 +214,7 @@ fn of_places(
         Kind::State => designs::state(
             words,
             scaffold,
+            marks,
             glues,
             dg,
             ds,
@@ -220,6 +227,7 @@ fn of_places(
         Kind::Search => designs::search(
             words,
             scaffold,
+            marks,
             glues,
             dg,
             ds,
@@ -232,6 +240,7 @@ fn of_places(
         Kind::Settled => designs::settled(
             words,
             scaffold,
+            marks,
             glues,
             dg,
             ds,
@@ -245,6 +254,7 @@ fn of_places(
             kind,
             words,
             scaffold,
+            marks,
             glues,
             dg,
             ds,
@@ -261,6 +271,7 @@ fn says_of(
     kind: Kind,
     words: &[u8],
     scaffold: &[u8],
+    marks: &[u8],
     glues: &[u8],
     dg: &[f64],
     ds: &[f64],
@@ -275,6 +286,7 @@ fn says_of(
         Kind::StateEnergy => designs::state_energy(
             words,
             scaffold,
+            marks,
             glues,
             dg,
             ds,
@@ -287,6 +299,7 @@ fn says_of(
         Kind::ChainEnergy => designs::chain_energy(
             words,
             scaffold,
+            marks,
             glues,
             dg,
             ds,
@@ -300,6 +313,7 @@ fn says_of(
             kind,
             words,
             scaffold,
+            marks,
             glues,
             dg,
             ds,
@@ -333,10 +347,13 @@ fn of_own(
         return false;
     }
     let sides = 3 * strands;
+    // The Rust knows no blocked positions: all are open.
+    let marks = [0u8; 128];
     says_of(
         kind,
         words,
         &scaffold[..positions],
+        &marks[..positions],
         &glues[..sides],
         &dg,
         &ds,

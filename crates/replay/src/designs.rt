@@ -20,6 +20,7 @@ use doubles::bits;
 pub(crate) fn strand_bond(
     words: &[u8],
     scaffold: &[u8],
+    marks: &[u8],
     glues: &[u8],
     dg: &[f64],
     ds: &[f64],
@@ -28,7 +29,7 @@ pub(crate) fn strand_bond(
     strand_excess: f64,
     scaffold_excess: f64,
 ) -> bool
-    ensures { λ r. ⌜ (r ≡ true → StrandBondLine (lentAt (scaffold .entry) (glues .entry) (dg .entry) (ds .entry) (potentials .entry) rt «strand_excess» «scaffold_excess») (now (words .entry))) ⌝ }
+    ensures { λ r. ⌜ (r ≡ true → StrandBondLine (lentAt (scaffold .entry) (marks .entry) (glues .entry) (dg .entry) (ds .entry) (potentials .entry) rt «strand_excess» «scaffold_excess») (now (words .entry))) ⌝ }
 {
     let rest = past(words, b' ');
     let Byte::Is(x) = small(up_to(words, b' ')) else {
@@ -41,6 +42,7 @@ pub(crate) fn strand_bond(
     let mut bond = 0.0;
     let reply = exports::designs::mj_strand_bond(
         scaffold,
+        marks,
         glues,
         dg,
         ds,
@@ -61,6 +63,7 @@ pub(crate) fn strand_bond(
 pub(crate) fn scaffold_bond(
     words: &[u8],
     scaffold: &[u8],
+    marks: &[u8],
     glues: &[u8],
     dg: &[f64],
     ds: &[f64],
@@ -69,7 +72,7 @@ pub(crate) fn scaffold_bond(
     strand_excess: f64,
     scaffold_excess: f64,
 ) -> bool
-    ensures { λ r. ⌜ (r ≡ true → ScaffoldBondLine (lentAt (scaffold .entry) (glues .entry) (dg .entry) (ds .entry) (potentials .entry) rt «strand_excess» «scaffold_excess») (now (words .entry))) ⌝ }
+    ensures { λ r. ⌜ (r ≡ true → ScaffoldBondLine (lentAt (scaffold .entry) (marks .entry) (glues .entry) (dg .entry) (ds .entry) (potentials .entry) rt «strand_excess» «scaffold_excess») (now (words .entry))) ⌝ }
 {
     let rest = past(words, b' ');
     let Number::Is(position) = decimal(up_to(words, b' ')) else {
@@ -82,6 +85,7 @@ pub(crate) fn scaffold_bond(
     let mut bond = 0.0;
     let reply = exports::designs::mj_scaffold_bond(
         scaffold,
+        marks,
         glues,
         dg,
         ds,
@@ -102,6 +106,7 @@ pub(crate) fn scaffold_bond(
 pub(crate) fn friends(
     words: &[u8],
     scaffold: &[u8],
+    marks: &[u8],
     glues: &[u8],
     dg: &[f64],
     ds: &[f64],
@@ -111,7 +116,7 @@ pub(crate) fn friends(
     scaffold_excess: f64,
     entries: &mut [u8],
 ) -> bool
-    ensures { λ r. ⌜ (r ≡ true → FriendsLine (lentAt (scaffold .entry) (glues .entry) (dg .entry) (ds .entry) (potentials .entry) rt «strand_excess» «scaffold_excess») (now (words .entry)) (now (entries .entry))) ⌝ }
+    ensures { λ r. ⌜ (r ≡ true → FriendsLine (lentAt (scaffold .entry) (marks .entry) (glues .entry) (dg .entry) (ds .entry) (potentials .entry) rt «strand_excess» «scaffold_excess») (now (words .entry)) (now (entries .entry))) ⌝ }
 {
     let Number::Is(position) = decimal(up_to(words, b' ')) else {
         return false;
@@ -120,6 +125,7 @@ pub(crate) fn friends(
     let mut count: u64 = 0;
     let reply = exports::designs::mj_friends(
         scaffold,
+        marks,
         glues,
         dg,
         ds,
@@ -139,6 +145,7 @@ pub(crate) fn friends(
 pub(crate) fn count(
     words: &[u8],
     scaffold: &[u8],
+    marks: &[u8],
     glues: &[u8],
     dg: &[f64],
     ds: &[f64],
@@ -147,12 +154,13 @@ pub(crate) fn count(
     strand_excess: f64,
     scaffold_excess: f64,
 ) -> bool
-    ensures { λ r. ⌜ (r ≡ true → CountLine (lentAt (scaffold .entry) (glues .entry) (dg .entry) (ds .entry) (potentials .entry) rt «strand_excess» «scaffold_excess») (now (words .entry))) ⌝ }
+    ensures { λ r. ⌜ (r ≡ true → CountLine (lentAt (scaffold .entry) (marks .entry) (glues .entry) (dg .entry) (ds .entry) (potentials .entry) rt «strand_excess» «scaffold_excess») (now (words .entry))) ⌝ }
 {
     let mut place: u64 = 0;
     let mut count: u64 = 0;
     let reply = exports::designs::mj_states(
         scaffold,
+        marks,
         glues,
         dg,
         ds,
@@ -171,6 +179,7 @@ pub(crate) fn count(
 pub(crate) fn state(
     words: &[u8],
     scaffold: &[u8],
+    marks: &[u8],
     glues: &[u8],
     dg: &[f64],
     ds: &[f64],
@@ -180,7 +189,7 @@ pub(crate) fn state(
     scaffold_excess: f64,
     places: &mut [u8],
 ) -> bool
-    ensures { λ r. ⌜ (r ≡ true → StateLine (lentAt (scaffold .entry) (glues .entry) (dg .entry) (ds .entry) (potentials .entry) rt «strand_excess» «scaffold_excess») (now (words .entry)) (now (places .entry))) ⌝ }
+    ensures { λ r. ⌜ (r ≡ true → StateLine (lentAt (scaffold .entry) (marks .entry) (glues .entry) (dg .entry) (ds .entry) (potentials .entry) rt «strand_excess» «scaffold_excess») (now (words .entry)) (now (places .entry))) ⌝ }
 {
     let Number::Is(rank) = decimal(up_to(words, b' ')) else {
         return false;
@@ -188,6 +197,7 @@ pub(crate) fn state(
     let mut place: u64 = 0;
     let reply = exports::designs::mj_state(
         scaffold,
+        marks,
         glues,
         dg,
         ds,
@@ -206,6 +216,7 @@ pub(crate) fn state(
 pub(crate) fn state_energy(
     words: &[u8],
     scaffold: &[u8],
+    marks: &[u8],
     glues: &[u8],
     dg: &[f64],
     ds: &[f64],
@@ -215,7 +226,7 @@ pub(crate) fn state_energy(
     scaffold_excess: f64,
     configuration: &[u8],
 ) -> bool
-    ensures { λ r. ⌜ (r ≡ true → StateEnergyLine (lentAt (scaffold .entry) (glues .entry) (dg .entry) (ds .entry) (potentials .entry) rt «strand_excess» «scaffold_excess») (now (words .entry)) (now (configuration .entry))) ⌝ }
+    ensures { λ r. ⌜ (r ≡ true → StateEnergyLine (lentAt (scaffold .entry) (marks .entry) (glues .entry) (dg .entry) (ds .entry) (potentials .entry) rt «strand_excess» «scaffold_excess») (now (words .entry)) (now (configuration .entry))) ⌝ }
 {
     if !is_places(up_to(words, b' '), configuration) {
         return false;
@@ -224,6 +235,7 @@ pub(crate) fn state_energy(
     let mut energy = 0.0;
     let reply = exports::designs::mj_state_energy(
         scaffold,
+        marks,
         glues,
         dg,
         ds,
@@ -243,6 +255,7 @@ pub(crate) fn state_energy(
 pub(crate) fn chain_energy(
     words: &[u8],
     scaffold: &[u8],
+    marks: &[u8],
     glues: &[u8],
     dg: &[f64],
     ds: &[f64],
@@ -252,7 +265,7 @@ pub(crate) fn chain_energy(
     scaffold_excess: f64,
     configuration: &[u8],
 ) -> bool
-    ensures { λ r. ⌜ (r ≡ true → ChainEnergyLine (lentAt (scaffold .entry) (glues .entry) (dg .entry) (ds .entry) (potentials .entry) rt «strand_excess» «scaffold_excess») (now (words .entry)) (now (configuration .entry))) ⌝ }
+    ensures { λ r. ⌜ (r ≡ true → ChainEnergyLine (lentAt (scaffold .entry) (marks .entry) (glues .entry) (dg .entry) (ds .entry) (potentials .entry) rt «strand_excess» «scaffold_excess») (now (words .entry)) (now (configuration .entry))) ⌝ }
 {
     if !is_places(up_to(words, b' '), configuration) {
         return false;
@@ -262,6 +275,7 @@ pub(crate) fn chain_energy(
     let mut energy = 0.0;
     let reply = exports::designs::mj_chain_energy(
         scaffold,
+        marks,
         glues,
         dg,
         ds,
@@ -282,6 +296,7 @@ pub(crate) fn chain_energy(
 pub(crate) fn search(
     words: &[u8],
     scaffold: &[u8],
+    marks: &[u8],
     glues: &[u8],
     dg: &[f64],
     ds: &[f64],
@@ -291,12 +306,13 @@ pub(crate) fn search(
     scaffold_excess: f64,
     places: &mut [u8],
 ) -> bool
-    ensures { λ r. ⌜ (r ≡ true → SearchLine (lentAt (scaffold .entry) (glues .entry) (dg .entry) (ds .entry) (potentials .entry) rt «strand_excess» «scaffold_excess») (now (words .entry)) (now (places .entry))) ⌝ }
+    ensures { λ r. ⌜ (r ≡ true → SearchLine (lentAt (scaffold .entry) (marks .entry) (glues .entry) (dg .entry) (ds .entry) (potentials .entry) rt «strand_excess» «scaffold_excess») (now (words .entry)) (now (places .entry))) ⌝ }
 {
     let mut place: u64 = 0;
     let mut energy = 0.0;
     let reply = exports::search::mj_search(
         scaffold,
+        marks,
         glues,
         dg,
         ds,
@@ -316,6 +332,7 @@ pub(crate) fn search(
 pub(crate) fn settled(
     words: &[u8],
     scaffold: &[u8],
+    marks: &[u8],
     glues: &[u8],
     dg: &[f64],
     ds: &[f64],
@@ -325,12 +342,13 @@ pub(crate) fn settled(
     scaffold_excess: f64,
     places: &mut [u8],
 ) -> bool
-    ensures { λ r. ⌜ (r ≡ true → SettledLine (lentAt (scaffold .entry) (glues .entry) (dg .entry) (ds .entry) (potentials .entry) rt «strand_excess» «scaffold_excess») (now (words .entry)) (now (places .entry))) ⌝ }
+    ensures { λ r. ⌜ (r ≡ true → SettledLine (lentAt (scaffold .entry) (marks .entry) (glues .entry) (dg .entry) (ds .entry) (potentials .entry) rt «strand_excess» «scaffold_excess») (now (words .entry)) (now (places .entry))) ⌝ }
 {
     let mut place: u64 = 0;
     let mut energy = 0.0;
     let reply = exports::search::mj_search(
         scaffold,
+        marks,
         glues,
         dg,
         ds,

@@ -1,7 +1,7 @@
 // Bonds, friends, states and energies of a design of a scaffold and strands (sdc1d.rs).
 //
-// What the Rust reads off `self` is lent in six parameters, in one order: the scaffold's glues, three glues for each strand, the dG and the dS
-// table, a potential for each strand, and the ambient.
+// What the Rust reads off `self` is lent in seven parameters, in one order: the scaffold's glues, a mark for each position, which the Rust lacks,
+// three glues for each strand, the dG and the dS table, a potential for each strand, and the ambient.
 mod strangers;
 
 use design::answers::BondAnswer;
@@ -13,6 +13,7 @@ use design::bonds::strand_bond;
 use design::checks::design_reply;
 use design::checks::numbers_reply;
 use design::checks::tables_reply;
+use design::friends::is_blocked;
 use design::options::fill_options;
 use design::options::write_friends;
 use design::reads::byte_at;
@@ -54,6 +55,7 @@ fn either(a: bool, b: bool) -> bool
 // The options of a design whose tables pass, a row of 64 for each position, and how many states they give; one past the limit where these are more.
 fn count_options(
     scaffold: &[u8],
+    marks: &[u8],
     glues: &[u8],
     dg: &[f64],
     ds: &[f64],
@@ -62,14 +64,15 @@ fn count_options(
     rows: &mut [u8],
     counts: &mut [u8],
 ) -> u64
-    requires { ⌜ TablesPass (lent scaffold glues dg ds potentials ambient) ⌝ }
+    requires { ⌜ TablesPass (lent scaffold marks glues dg ds potentials ambient) ⌝ }
     requires { ⌜ 64 * length (now scaffold) ≤ length (now rows) ⌝ }
     requires { ⌜ length (now counts) ≡ length (now scaffold) ⌝ }
-    ensures { λ r. ⌜ r ≡ min (count (modelOf (lent (scaffold .entry) (glues .entry) (dg .entry) (ds .entry) (potentials .entry) ambient))) 1048577 ⌝ }
-    ensures { λ r. ⌜ OptionRows (modelOf (lent (scaffold .entry) (glues .entry) (dg .entry) (ds .entry) (potentials .entry) ambient)) (now (rows .exit)) (now (counts .exit)) ⌝ }
+    ensures { λ r. ⌜ r ≡ min (count (modelOf (lent (scaffold .entry) (marks .entry) (glues .entry) (dg .entry) (ds .entry) (potentials .entry) ambient))) 1048577 ⌝ }
+    ensures { λ r. ⌜ OptionRows (modelOf (lent (scaffold .entry) (marks .entry) (glues .entry) (dg .entry) (ds .entry) (potentials .entry) ambient)) (now (rows .exit)) (now (counts .exit)) ⌝ }
 {
     fill_options(
         scaffold,
+        marks,
         glues,
         dg,
         ds,
@@ -83,6 +86,7 @@ fn count_options(
 // The bond between strand x and strand y to the east of it.
 pub fn bond_between_strands(
     scaffold: &[u8],
+    marks: &[u8],
     glues: &[u8],
     dg: &[f64],
     ds: &[f64],
@@ -91,11 +95,11 @@ pub fn bond_between_strands(
     x: u8,
     y: u8,
 ) -> BondAnswer
-    ensures { λ r. ⌜ bondFigures r ≡ strandBondAnswer (lent (scaffold .entry) (glues .entry) (dg .entry) (ds .entry) (potentials .entry) ambient) x y ⌝ }
+    ensures { λ r. ⌜ bondFigures r ≡ strandBondAnswer (lent (scaffold .entry) (marks .entry) (glues .entry) (dg .entry) (ds .entry) (potentials .entry) ambient) x y ⌝ }
 {
     let strands = potentials.len();
     let lacking = either(strands <= x as usize, strands <= y as usize);
-    match design_reply(lacking, scaffold, glues, dg, ds, potentials, ambient) {
+    match design_reply(lacking, scaffold, marks, glues, dg, ds, potentials, ambient) {
         Reply::Refused(refusal, place) => BondAnswer::Refused(refusal, place),
         Reply::Admitted => BondAnswer::Bond(strand_bond(glues, dg, ds, ambient, x, y)),
     }
@@ -104,6 +108,7 @@ pub fn bond_between_strands(
 // The bond between the scaffold at a position and a strand.
 pub fn bond_with_scaffold(
     scaffold: &[u8],
+    marks: &[u8],
     glues: &[u8],
     dg: &[f64],
     ds: &[f64],
@@ -112,13 +117,13 @@ pub fn bond_with_scaffold(
     position: usize,
     strand: u8,
 ) -> BondAnswer
-    ensures { λ r. ⌜ bondFigures r ≡ scaffoldBondAnswer (lent (scaffold .entry) (glues .entry) (dg .entry) (ds .entry) (potentials .entry) ambient) position strand ⌝ }
+    ensures { λ r. ⌜ bondFigures r ≡ scaffoldBondAnswer (lent (scaffold .entry) (marks .entry) (glues .entry) (dg .entry) (ds .entry) (potentials .entry) ambient) position strand ⌝ }
 {
     let lacking = either(
         scaffold.len() <= position,
         potentials.len() <= strand as usize,
     );
-    match design_reply(lacking, scaffold, glues, dg, ds, potentials, ambient) {
+    match design_reply(lacking, scaffold, marks, glues, dg, ds, potentials, ambient) {
         Reply::Refused(refusal, place) => BondAnswer::Refused(refusal, place),
         Reply::Admitted => {
             let glue = byte_at(scaffold, position);
@@ -130,6 +135,7 @@ pub fn bond_with_scaffold(
 // The friends of a position, into 64 lent entries, and how many there are.
 pub fn friends_btm(
     scaffold: &[u8],
+    marks: &[u8],
     glues: &[u8],
     dg: &[f64],
     ds: &[f64],
@@ -138,13 +144,16 @@ pub fn friends_btm(
     position: usize,
     entries: &mut [u8],
 ) -> CountAnswer
-    ensures { λ r. ⌜ countFigures r ≡ friendsAnswer (lent (scaffold .entry) (glues .entry) (dg .entry) (ds .entry) (potentials .entry) ambient) position (now (entries .entry)) ⌝ }
-    ensures { λ r. ⌜ now (entries .exit) ≡ friendsEntries (lent (scaffold .entry) (glues .entry) (dg .entry) (ds .entry) (potentials .entry) ambient) position (now (entries .entry)) ⌝ }
+    ensures { λ r. ⌜ countFigures r ≡ friendsAnswer (lent (scaffold .entry) (marks .entry) (glues .entry) (dg .entry) (ds .entry) (potentials .entry) ambient) position (now (entries .entry)) ⌝ }
+    ensures { λ r. ⌜ now (entries .exit) ≡ friendsEntries (lent (scaffold .entry) (marks .entry) (glues .entry) (dg .entry) (ds .entry) (potentials .entry) ambient) position (now (entries .entry)) ⌝ }
 {
     let unfit = either(scaffold.len() <= position, entries.len() != STRANDS);
-    match design_reply(unfit, scaffold, glues, dg, ds, potentials, ambient) {
+    match design_reply(unfit, scaffold, marks, glues, dg, ds, potentials, ambient) {
         Reply::Refused(refusal, place) => CountAnswer::Refused(refusal, place),
         Reply::Admitted => {
+            if is_blocked(marks, position) {
+                return CountAnswer::Count(0);
+            }
             let glue = byte_at(scaffold, position);
             let strands = potentials.len() as u8;
             CountAnswer::Count(write_friends(glue, glues, dg, ds, strands, entries) as u64)
@@ -155,15 +164,16 @@ pub fn friends_btm(
 // How many states there are: the product of friends plus one.
 pub fn number_of_states(
     scaffold: &[u8],
+    marks: &[u8],
     glues: &[u8],
     dg: &[f64],
     ds: &[f64],
     potentials: &[f64],
     ambient: Ambient,
 ) -> CountAnswer
-    ensures { λ r. ⌜ countFigures r ≡ countAnswer (lent (scaffold .entry) (glues .entry) (dg .entry) (ds .entry) (potentials .entry) ambient) ⌝ }
+    ensures { λ r. ⌜ countFigures r ≡ countAnswer (lent (scaffold .entry) (marks .entry) (glues .entry) (dg .entry) (ds .entry) (potentials .entry) ambient) ⌝ }
 {
-    match tables_reply(false, scaffold, glues, dg, ds, potentials) {
+    match tables_reply(false, scaffold, marks, glues, dg, ds, potentials) {
         Reply::Refused(refusal, place) => CountAnswer::Refused(refusal, place),
         Reply::Admitted => {
             let mut rows = [0u8; OPTIONS];
@@ -171,6 +181,7 @@ pub fn number_of_states(
             let positions = scaffold.len();
             let number = count_options(
                 scaffold,
+                marks,
                 glues,
                 dg,
                 ds,
@@ -180,7 +191,7 @@ pub fn number_of_states(
                 &mut counts[0..positions],
             );
             let many = refused_if(Refusal::TooManyStates, MOST_STATES < number);
-            let numbers = numbers_reply(scaffold, glues, dg, ds, potentials, ambient);
+            let numbers = numbers_reply(scaffold, marks, glues, dg, ds, potentials, ambient);
             match many.or(numbers) {
                 Reply::Refused(refusal, place) => CountAnswer::Refused(refusal, place),
                 Reply::Admitted => CountAnswer::Count(number),
@@ -192,6 +203,7 @@ pub fn number_of_states(
 // The state at a rank in the order of `system_states`, into one lent entry for each position.
 pub fn state_at_rank(
     scaffold: &[u8],
+    marks: &[u8],
     glues: &[u8],
     dg: &[f64],
     ds: &[f64],
@@ -200,11 +212,11 @@ pub fn state_at_rank(
     rank: u64,
     entries: &mut [u8],
 ) -> Reply
-    ensures { λ r. ⌜ replyFigures r ≡ rankAnswer (lent (scaffold .entry) (glues .entry) (dg .entry) (ds .entry) (potentials .entry) ambient) rank (now (entries .entry)) ⌝ }
-    ensures { λ r. ⌜ now (entries .exit) ≡ rankEntries (lent (scaffold .entry) (glues .entry) (dg .entry) (ds .entry) (potentials .entry) ambient) rank (now (entries .entry)) ⌝ }
+    ensures { λ r. ⌜ replyFigures r ≡ rankAnswer (lent (scaffold .entry) (marks .entry) (glues .entry) (dg .entry) (ds .entry) (potentials .entry) ambient) rank (now (entries .entry)) ⌝ }
+    ensures { λ r. ⌜ now (entries .exit) ≡ rankEntries (lent (scaffold .entry) (marks .entry) (glues .entry) (dg .entry) (ds .entry) (potentials .entry) ambient) rank (now (entries .entry)) ⌝ }
 {
     let wrong_size = entries.len() != scaffold.len();
-    match tables_reply(wrong_size, scaffold, glues, dg, ds, potentials) {
+    match tables_reply(wrong_size, scaffold, marks, glues, dg, ds, potentials) {
         Reply::Refused(refusal, place) => Reply::Refused(refusal, place),
         Reply::Admitted => {
             let mut rows = [0u8; OPTIONS];
@@ -212,6 +224,7 @@ pub fn state_at_rank(
             let positions = scaffold.len();
             let states = count_options(
                 scaffold,
+                marks,
                 glues,
                 dg,
                 ds,
@@ -222,7 +235,7 @@ pub fn state_at_rank(
             );
             let many = refused_if(Refusal::TooManyStates, MOST_STATES < states);
             let high = refused_if(Refusal::RankTooHigh, states <= rank);
-            let numbers = numbers_reply(scaffold, glues, dg, ds, potentials, ambient);
+            let numbers = numbers_reply(scaffold, marks, glues, dg, ds, potentials, ambient);
             match many.or(high).or(numbers) {
                 Reply::Refused(refusal, place) => Reply::Refused(refusal, place),
                 Reply::Admitted => {
@@ -237,6 +250,7 @@ pub fn state_at_rank(
 // What is refused of a configuration whose energy is asked for.
 fn energy_reply(
     scaffold: &[u8],
+    marks: &[u8],
     glues: &[u8],
     dg: &[f64],
     ds: &[f64],
@@ -244,16 +258,16 @@ fn energy_reply(
     ambient: Ambient,
     configuration: &[u8],
 ) -> Reply
-    ensures { λ r. ⌜ r ≡ firstOf (energyChecks (lent (scaffold .entry) (glues .entry) (dg .entry) (ds .entry) (potentials .entry) ambient) (now (configuration .entry))) ⌝ }
+    ensures { λ r. ⌜ r ≡ firstOf (energyChecks (lent (scaffold .entry) (marks .entry) (glues .entry) (dg .entry) (ds .entry) (potentials .entry) ambient) (now (configuration .entry))) ⌝ }
 {
     let wrong_size = configuration.len() != scaffold.len();
-    match tables_reply(wrong_size, scaffold, glues, dg, ds, potentials) {
+    match tables_reply(wrong_size, scaffold, marks, glues, dg, ds, potentials) {
         Reply::Refused(refusal, place) => Reply::Refused(refusal, place),
         Reply::Admitted => {
             let strands = potentials.len();
-            let place = first_stranger(scaffold, glues, dg, ds, strands, configuration);
+            let place = first_stranger(scaffold, marks, glues, dg, ds, strands, configuration);
             let stranger = refused_if(Refusal::NotAFriend, place < scaffold.len());
-            let numbers = numbers_reply(scaffold, glues, dg, ds, potentials, ambient);
+            let numbers = numbers_reply(scaffold, marks, glues, dg, ds, potentials, ambient);
             stranger.or(numbers)
         }
     }
@@ -262,6 +276,7 @@ fn energy_reply(
 // The state energy of a configuration: one occupant for each position, 0 for an empty place.
 pub fn g_system(
     scaffold: &[u8],
+    marks: &[u8],
     glues: &[u8],
     dg: &[f64],
     ds: &[f64],
@@ -269,9 +284,18 @@ pub fn g_system(
     ambient: Ambient,
     attachments: &[u8],
 ) -> EnergyAnswer
-    ensures { λ r. ⌜ energyFigures r ≡ stateEnergyAnswer (lent (scaffold .entry) (glues .entry) (dg .entry) (ds .entry) (potentials .entry) ambient) (now (attachments .entry)) ⌝ }
+    ensures { λ r. ⌜ energyFigures r ≡ stateEnergyAnswer (lent (scaffold .entry) (marks .entry) (glues .entry) (dg .entry) (ds .entry) (potentials .entry) ambient) (now (attachments .entry)) ⌝ }
 {
-    match energy_reply(scaffold, glues, dg, ds, potentials, ambient, attachments) {
+    match energy_reply(
+        scaffold,
+        marks,
+        glues,
+        dg,
+        ds,
+        potentials,
+        ambient,
+        attachments,
+    ) {
         Reply::Refused(refusal, place) => EnergyAnswer::Refused(refusal, place),
         Reply::Admitted => {
             let mut sites = [0.0; POSITIONS];
@@ -298,6 +322,7 @@ pub fn g_system(
 // The chain energy of a configuration, as it is and times RT.
 pub fn chain_energy(
     scaffold: &[u8],
+    marks: &[u8],
     glues: &[u8],
     dg: &[f64],
     ds: &[f64],
@@ -305,9 +330,18 @@ pub fn chain_energy(
     ambient: Ambient,
     configuration: &[u8],
 ) -> ChainAnswer
-    ensures { λ r. ⌜ chainFigures r ≡ chainEnergyAnswer (lent (scaffold .entry) (glues .entry) (dg .entry) (ds .entry) (potentials .entry) ambient) (now (configuration .entry)) ⌝ }
+    ensures { λ r. ⌜ chainFigures r ≡ chainEnergyAnswer (lent (scaffold .entry) (marks .entry) (glues .entry) (dg .entry) (ds .entry) (potentials .entry) ambient) (now (configuration .entry)) ⌝ }
 {
-    match energy_reply(scaffold, glues, dg, ds, potentials, ambient, configuration) {
+    match energy_reply(
+        scaffold,
+        marks,
+        glues,
+        dg,
+        ds,
+        potentials,
+        ambient,
+        configuration,
+    ) {
         Reply::Refused(refusal, place) => ChainAnswer::Refused(refusal, place),
         Reply::Admitted => {
             let mut sites = [0.0; POSITIONS];

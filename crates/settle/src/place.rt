@@ -14,6 +14,7 @@ use sdc1d_params::Copied;
 use sheet::once::copied;
 use sheet::rows::rows_of;
 use sheet::rows::word_of;
+use statements::grammar::BLOCKED;
 use statements::grammar::ENERGY_GIVEN;
 use statements::grammar::ENERGY_SEQUENCE;
 use statements::grammar::PAIR_GIVEN;
@@ -138,7 +139,7 @@ struct Slots(usize, usize);
 fn glue_slots(kind: u8) -> Slots {
     match kind {
         STRAND => Slots(1, 4),
-        POSITION => Slots(0, 1),
+        POSITION | BLOCKED => Slots(0, 1),
         ENERGY_GIVEN | ENERGY_SEQUENCE => Slots(0, 1),
         PAIR_GIVEN | PAIR_SEQUENCE => Slots(0, 2),
         _ => Slots(0, 0),

@@ -31,6 +31,7 @@ pub(crate) fn report(
     entries: usize,
     states: CountAnswer,
     configuration: &[u8],
+    marks: &[u8],
     energy: f64,
 ) -> bool {
     let positions = configuration.len();
@@ -38,14 +39,14 @@ pub(crate) fn report(
     rows_of(kinds, POSITION, reads::places(&mut rows, positions));
     let mut starts = [0usize; 128];
     let mut sizes = [0usize; 128];
-    let mut marks = [0u8; 128];
+    let mut named = [0u8; 128];
     parts::positions(
         kinds,
         words,
         first_places(&rows, positions),
         reads::places(&mut starts, positions),
         reads::places(&mut sizes, positions),
-        reads::bytes(&mut marks, positions),
+        reads::bytes(&mut named, positions),
     );
     report_names(
         style,
@@ -59,6 +60,7 @@ pub(crate) fn report(
         entries,
         states,
         configuration,
+        marks,
         energy,
     )
 }
@@ -76,19 +78,20 @@ fn report_names(
     entries: usize,
     states: CountAnswer,
     configuration: &[u8],
+    marks: &[u8],
     energy: f64,
 ) -> bool {
     let users = strand_rows.len();
     let mut starts = [0usize; 61];
     let mut sizes = [0usize; 61];
-    let mut marks = [0u8; 61];
+    let mut named = [0u8; 61];
     parts::positions(
         kinds,
         words,
         strand_rows,
         reads::places(&mut starts, users),
         reads::places(&mut sizes, users),
-        reads::bytes(&mut marks, users),
+        reads::bytes(&mut named, users),
     );
     let mut deck = [0u32; 129];
     let DeckWritten::Words(size) = deck::write(DeckForm::Singles, configuration, &mut deck) else {
@@ -105,6 +108,7 @@ fn report_names(
         entries,
         states_of(states),
         configuration,
+        marks,
         energy,
         first_words(&deck, size),
     );

@@ -312,6 +312,14 @@ fn settle_design(
     }
 }
 
+// The marks of the positions, as many as there are.
+fn mark(kinds: &[u8], marks: &mut [u8]) {
+    let positions = marks.len();
+    let mut rows = [0usize; 128];
+    rows_of(kinds, POSITION, reads::places(&mut rows, positions));
+    parts::blocks(kinds, first_places(&rows, positions), marks);
+}
+
 // The search, and what is printed of it.
 fn search(
     style: Style,
@@ -342,9 +350,13 @@ fn search(
         reads::numbers(&mut room, strands),
     );
     let potentials = first_numbers(&room, strands);
+    let mut blocks = [0u8; 128];
+    mark(kinds, reads::bytes(&mut blocks, positions));
+    let marks = first_bytes(&blocks, positions);
     let mut configuration = [0u8; 128];
     match mfe_configuration(
         scaffold,
+        marks,
         glues,
         dg,
         ds,
@@ -360,7 +372,7 @@ fn search(
             unfit::of_design(refusal, place, text, kinds, lines, words, strand_rows),
         ),
         EnergyAnswer::Energy(energy) => {
-            let states = number_of_states(scaffold, glues, dg, ds, potentials, ambient);
+            let states = number_of_states(scaffold, marks, glues, dg, ds, potentials, ambient);
             report(
                 style,
                 path,
@@ -371,6 +383,7 @@ fn search(
                 entries,
                 states,
                 first_bytes(&configuration, positions),
+                marks,
                 energy.0,
             )
         }

@@ -12,10 +12,10 @@ use Rattle.lists.specs.Build.{tabulate, upTo, keep}
 use Rattle.sdc_common.specs.Names.{sameName}
 use Rattle.sdc1d_params.specs.declared.Copied.the-variants.{Nothing, Strand}
 use Rattle.statements.specs.Words.{wordAt, spelled}
-use Rattle.statements.specs.Grammar.{kelvin, ambient, strand, quencher, reporter, position, energyGiven, energySequence, pairSequence, penalty}
+use Rattle.statements.specs.Grammar.{kelvin, ambient, strand, quencher, reporter, position, energyGiven, energySequence, pairSequence, penalty, blocked}
 use Rattle.sheet.specs.Rows.{groupOf, rowsBefore, rowsOf, firstOf, wordAmong, numberAmong, kindAmong}
 use Rattle.sheet.specs.Faults.{limitOf, isOver, hasName, isNameTwice, firstFaulty, faultAt, sheetAnswer}
-use Rattle.sheet.specs.Parts.{partAt, startAt, markAt, pairAt, formAt, potentialAt}
+use Rattle.sheet.specs.Parts.{partAt, startAt, markAt, pairAt, formAt, blockedAt, potentialAt}
 use Rattle.sheet.specs.Once.{numberOnce, strandNamed, copiedOf}
 use Rattle.sheet.specs.declared.faults.SheetAnswer.{SheetAnswer}
 use Rattle.sheet.specs.declared.faults.SheetAnswer.the-variants.{Whole, NameTwice, GivenTwice, TooMany, NoAmbient}
@@ -88,6 +88,8 @@ cases =
     ∷ (strands 61 ++ strand at 100 ∷ []) is NameTwice 62 (wordAt 100 1)
     ∷ (kelvin at 0 ∷ replicate 128 (position at 0)) is Whole 0 128 0
     ∷ (replicate 129 (position at 0)) is TooMany 129 position
+    ∷ (replicate 64 (blocked at 0) ++ replicate 64 (position at 0) ++ kelvin at 0 ∷ []) is Whole 0 128 0
+    ∷ (replicate 128 (position at 0) ++ blocked at 0 ∷ []) is TooMany 129 position
     ∷ []
 
 -- the definitions say of each case what was worked out
@@ -135,6 +137,10 @@ sampleStrands = rowsOf strand sampleKinds
 abbrev pub sampleEntries : List ℕ
 sampleEntries = rowsOf energyGiven sampleKinds
 
+-- three positions, of which the second is blocked
+abbrev pub sampleScaffold : List ℕ
+sampleScaffold = kelvin ∷ position ∷ blocked ∷ strand ∷ position ∷ []
+
 -- what is gathered of the sample
 pub record Gathered : Type 0 where
   pub strands : sampleStrands ≡ 1 ∷ []
@@ -147,6 +153,7 @@ pub record Gathered : Type 0 where
   pub potentials : tabulate 4 (potentialAt sampleKinds sampleNumbers sampleStrands) ≡ zero ∷ whole 5 ∷ whole 7 ∷ zero ∷ []
   pub copied : copiedOf quencher sampleText sampleKinds sampleWords sampleStrands ≡ Strand 1
   pub nothing : copiedOf reporter sampleText sampleKinds sampleWords sampleStrands ≡ Nothing
+  pub blocks : tabulate 3 (blockedAt sampleScaffold (rowsOf position sampleScaffold)) ≡ 0 ∷ 1 ∷ 0 ∷ []
 
 -- the definitions gather what was worked out
 pub gathered : Gathered
@@ -163,4 +170,5 @@ gathered =
       potentials = refl;
       copied = refl;
       nothing = refl;
+      blocks = refl;
     }

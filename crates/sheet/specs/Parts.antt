@@ -6,7 +6,7 @@ use lib.Dec.{eqb, ltb}
 use lib.Ieee.{Float}
 use lib.ListN.{length}
 use Rattle.doubles.specs.Decimal.{zero}
-use Rattle.statements.specs.Grammar.{quencher, reporter, energySequence, pairGiven, pairSequence}
+use Rattle.statements.specs.Grammar.{quencher, reporter, energySequence, pairGiven, pairSequence, blocked}
 use Rattle.statements.specs.declared.words.Word.{Word}
 use Rattle.sheet.specs.Rows.{wordAmong, numberAmong, kindAmong}
 use Rattle.sheet.specs.Once.{numberOnce}
@@ -55,6 +55,10 @@ pairAt kinds rows m = markOf (isPair (kindAmong kinds rows m))
 -- an entry gives a sequence: 1
 abbrev pub formAt : List ℕ → List ℕ → ℕ → ℕ
 formAt kinds rows m = markOf (isSequence (kindAmong kinds rows m))
+
+-- a position is blocked: 1
+abbrev pub blockedAt : List ℕ → List ℕ → ℕ → ℕ
+blockedAt kinds rows m = markOf (eqb (kindAmong kinds rows m) blocked)
 
 -- ---- numbers
 

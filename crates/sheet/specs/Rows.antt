@@ -10,15 +10,18 @@ use Rattle.lists.specs.Find.{firstIndex}
 use Rattle.lists.specs.Build.{upTo, keep}
 use Rattle.lists.specs.Front.{over}
 use Rattle.statements.specs.Words.{wordAt}
-use Rattle.statements.specs.Grammar.{kelvin, ambient, energyGiven, penalty}
+use Rattle.statements.specs.Grammar.{kelvin, ambient, position, energyGiven, penalty, blocked}
 use Rattle.statements.specs.declared.words.Word.{Word}
 
 -- ---- groups of kinds
 
--- Kinds of one group stand for the same thing: the two ways to give the ambient, and the four kinds of entries. Every other kind is a group
--- by itself. A group goes by its lowest kind.
+-- Kinds of one group stand for the same thing: the two ways to give the ambient, open and blocked positions, and the four kinds of entries.
+-- Every other kind is a group by itself. A group goes by its lowest kind.
 unfoldable pub groupOf : ℕ → ℕ
-groupOf kind = cond (eqb kind ambient) kelvin (cond (ltb energyGiven kind && ltb kind penalty) energyGiven kind)
+groupOf kind =
+    cond (eqb kind ambient) kelvin
+    (cond (eqb kind blocked) position
+    (cond (ltb energyGiven kind && ltb kind penalty) energyGiven kind))
 
 -- row i is one of a group
 abbrev pub isOf : ℕ → List ℕ → ℕ → Bool

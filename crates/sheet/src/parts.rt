@@ -3,12 +3,13 @@ ghost use mathlib.Core.Path.{_≡_};
 ghost use Prim.Native.Nat.{_<_};
 ghost use lib.ListN.{length};
 ghost use Rattle.lists.specs.Build.{tabulate};
-ghost use Rattle.sheet.specs.Parts.{isPair, isSequence, markOf, partAt, startAt, sizeAt, markAt, pairAt, formAt, numberAt, potentialAt};
+ghost use Rattle.sheet.specs.Parts.{isPair, isSequence, markOf, partAt, startAt, sizeAt, markAt, pairAt, formAt, blockedAt, numberAt, potentialAt};
 ghost use Rattle.sheet.specs.declared.parts.Part.the-variants.{Glues, First, Second, Sequence};
 use crate::once::number_once;
 use crate::rows::kind_among;
 use crate::rows::number_among;
 use crate::rows::word_among;
+use statements::grammar::BLOCKED;
 use statements::grammar::ENERGY_SEQUENCE;
 use statements::grammar::PAIR_GIVEN;
 use statements::grammar::PAIR_SEQUENCE;
@@ -206,6 +207,17 @@ pub fn positions(
     fill_starts(kinds, words, rows, Part::First, starts);
     fill_sizes(kinds, words, rows, Part::First, lengths);
     fill_marks(kinds, words, rows, Part::First, marks);
+}
+
+// A mark for each position: 1 where it is blocked.
+pub fn blocks(kinds: &[u8], rows: &[usize], marks: &mut [u8])
+    ensures { λ _. ⌜ now (marks .exit) ≡ tabulate (length (now (marks .entry))) (blockedAt (now (kinds .entry)) (now (rows .entry))) ⌝ }
+{
+    let mut m = 0;
+    while m < marks.len() {
+        marks[m] = mark_of(kind_among(kinds, rows, m) == BLOCKED);
+        m += 1;
+    }
 }
 
 // The names of the entries: the first of each, and the second where it is for a pair, which its mark says.

@@ -4,18 +4,23 @@ ghost use Prim.Native.Nat.{_<_, _≤_};
 ghost use lib.ListN.{length};
 ghost use Rattle.sheet.specs.Rows.{groupOf, rowsBefore, firstOf, laid, wordOf, numberOf, wordAmong, numberAmong, kindAmong};
 use statements::grammar::AMBIENT;
+use statements::grammar::BLOCKED;
 use statements::grammar::ENERGY_GIVEN;
 use statements::grammar::KELVIN;
 use statements::grammar::PENALTY;
+use statements::grammar::POSITION;
 use statements::words::Word;
 use statements::words::place_at;
 
-// The lowest kind that stands for the same thing: the ambient, or an entry.
+// The lowest kind that stands for the same thing: the ambient, a position, or an entry.
 pub(crate) fn group_of(kind: u8) -> u8
     ensures { λ r. ⌜ r ≡ groupOf kind ⌝ }
 {
     if kind == AMBIENT {
         return KELVIN;
+    }
+    if kind == BLOCKED {
+        return POSITION;
     }
     if kind <= ENERGY_GIVEN {
         return kind;
@@ -56,7 +61,7 @@ pub(crate) fn first_of(kinds: &[u8], group: u8) -> usize
     i
 }
 
-// The rows of a group, in order, into a slice as long as there are: STRAND, POSITION, or ENERGY_GIVEN for all entries.
+// The rows of a group, in order, into a slice as long as there are: STRAND, POSITION for open and blocked ones, or ENERGY_GIVEN for all entries.
 pub fn rows_of(kinds: &[u8], group: u8, rows: &mut [usize])
     ensures { λ _. ⌜ now (rows .exit) ≡ laid group (now (kinds .entry)) (now (rows .entry)) ⌝ }
 {

@@ -29,9 +29,9 @@ counted : (o : Outcome) (line : List ℕ) (number : ℕ) (s : Statement) (more :
 unfolding countBy rowsBy
 counted Nothing line number s more e = cc
 counted Whole line number s more e = cc
-counted (Positions at) line number s more e =
+counted (Positions kind at) line number s more e =
     let n : length (wordsIn line at) ≡ more = cc in
-    length-map (wordsIn line at) (positionRow line number) ∙ n
+    length-map (wordsIn line at) (positionRow kind line number) ∙ n
 counted (Fault word reason) line number s more e = let z : _≡_ {A = ℕ} 0 1 = cc in absurd (omega arith)
 
 counted-line : (line : List ℕ) (at number more : ℕ) → countOf line at ≡ rows.Rows more → length (rowsOfLine line number (statementOf line at)) ≡ more

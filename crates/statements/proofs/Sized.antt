@@ -11,7 +11,7 @@ use Rattle.decimals.specs.Number.{numberOf}
 use Rattle.decimals.specs.declared.NumberAnswer.{NumberAnswer}
 use Rattle.decimals.specs.declared.NumberAnswer.the-variants as answer
 use Rattle.statements.specs.Words.{Line, upToEnd, wordsIn, spelled, spells}
-use Rattle.statements.specs.Grammar.{kindOf, itemOf, position, unknown, dgBytes, dsBytes, seqBytes, dashBytes}
+use Rattle.statements.specs.Grammar.{kindOf, itemOf, isPosition, unknown, dgBytes, dsBytes, seqBytes, dashBytes}
 use Rattle.statements.specs.Statement.{blank, put, putNumber, numberPut, accepted, closed, goesOn, fit, statementFrom, statementOfWords, statementOf}
 use Rattle.statements.specs.Rows.{Row, positionRow, rowsBy, rowsOfLine, rowsFrom}
 use Rattle.statements.specs.declared.words.Word.{Word}
@@ -73,7 +73,7 @@ unfolding statementOfWords statementFrom
 words-full line [] = (refl, refl)
 words-full line (key ∷ rest) =
     let kind = kindOf (spelled line key) in
-    either (eqb kind unknown) _ _ (refl, refl) (either (eqb kind position) _ _ (refl, refl) (fit-full line key 0 (blank kind) rest (refl, refl)))
+    either (eqb kind unknown) _ _ (refl, refl) (either (isPosition kind) _ _ (refl, refl) (fit-full line key 0 (blank kind) rest (refl, refl)))
 
 statement-full : (line : List ℕ) (at : ℕ) → Full (statementOf line at)
 unfolding statementOf
@@ -85,17 +85,17 @@ statement-full line at = words-full line (wordsIn line at)
 abbrev pub Sized : Row → Type 0
 Sized row = (length (row .words) ≡ 8) × (length (row .numbers) ≡ 3)
 
-positions-sized : (line : List ℕ) (number : ℕ) (words : List Word) → Each Sized (map (positionRow line number) words)
+positions-sized : (kind : ℕ) (line : List ℕ) (number : ℕ) (words : List Word) → Each Sized (map (positionRow kind line number) words)
 unfolding positionRow
-positions-sized line number [] = tt
-positions-sized line number (word ∷ rest) =
-    (accepted-full (spelled line word) (Glue 0) word (blank position) (refl, refl), positions-sized line number rest)
+positions-sized kind line number [] = tt
+positions-sized kind line number (word ∷ rest) =
+    (accepted-full (spelled line word) (Glue 0) word (blank kind) (refl, refl), positions-sized kind line number rest)
 
 by-sized : (o : Outcome) (line : List ℕ) (number : ℕ) (s : Statement) → Full s → Each Sized (rowsBy o line number s)
 unfolding rowsBy
 by-sized Nothing line number s f = tt
 by-sized Whole line number s f = (f, tt)
-by-sized (Positions at) line number s f = positions-sized line number (wordsIn line at)
+by-sized (Positions kind at) line number s f = positions-sized kind line number (wordsIn line at)
 by-sized (Fault word reason) line number s f = tt
 
 pub rows-sized : (text : List ℕ) (number : ℕ) (lines : List Line) → Each Sized (rowsFrom text number lines)

@@ -44,6 +44,11 @@ pub three-positions : answerTo (115 ∷ 99 ∷ 97 ∷ 102 ∷ 102 ∷ 111 ∷ 10
 unfolding linesFrom wordsIn scan spelled sameName kindOf shapes decoded itemOf sequenceKind put accepted closed goesOn fit statementFrom statementOfWords statementOf countBy countOf answerBy answerFrom
 three-positions = refl
 
+-- `blocked a`, `scaffold -`: two rows
+pub blocked-first : answerTo (98 ∷ 108 ∷ 111 ∷ 99 ∷ 107 ∷ 101 ∷ 100 ∷ 32 ∷ 97 ∷ 10 ∷ 115 ∷ 99 ∷ 97 ∷ 102 ∷ 102 ∷ 111 ∷ 108 ∷ 100 ∷ 32 ∷ 45 ∷ []) ≡ Rows 2
+unfolding linesFrom wordsIn scan spelled sameName kindOf shapes decoded itemOf sequenceKind put accepted closed goesOn fit statementFrom statementOfWords statementOf countBy countOf answerBy answerFrom
+blocked-first = refl
+
 -- `Kelvin` is no keyword
 pub upper-case : answerTo (75 ∷ 101 ∷ 108 ∷ 118 ∷ 105 ∷ 110 ∷ 32 ∷ 49 ∷ []) ≡ Unreadable 1 (wordAt 0 6) NoSuchStatement
 unfolding linesFrom wordsIn scan spelled sameName kindOf shapes decoded itemOf sequenceKind put accepted closed goesOn fit statementFrom statementOfWords statementOf countBy countOf answerBy answerFrom

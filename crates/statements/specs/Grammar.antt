@@ -6,12 +6,13 @@
 --     quencher GLUE NUMBER                    GLUE is here a strand's name
 --     reporter GLUE NUMBER
 --     scaffold GLUE ..                        any number of them
+--     blocked GLUE ..                         the same
 --     energy NAME dg NUMBER ds NUMBER         or: energy NAME seq BASES
 --     pair NAME NAME dg NUMBER ds NUMBER      or: pair NAME NAME seq BASES
 --     penalty NUMBER NUMBER
 --
 -- A GLUE may be `-`, which stands for none; a NAME may not.
-use mathlib.Core.Bool.{cond, _&&_}
+use mathlib.Core.Bool.{Bool, cond, _&&_, _||_}
 use mathlib.Core.List.{List, [], _∷_}
 use Prim.Native.Nat.{ℕ, _+_, _-_, _<_}
 use lib.Dec.{eqb, ltb}
@@ -20,7 +21,7 @@ use Rattle.statements.specs.Words.{spells}
 use Rattle.statements.specs.declared.grammar.Item.{Item}
 use Rattle.statements.specs.declared.grammar.Item.the-variants.{Number, Name, Glue, Bases, DgOrSeq, Ds, End}
 
--- ---- kinds of rows: a row for each statement, and for `scaffold` one for each position
+-- ---- kinds of rows: a row for each statement, and for `scaffold` and `blocked` one for each position
 
 -- `kelvin`
 abbrev pub kelvin : ℕ
@@ -66,9 +67,17 @@ pairSequence = 9
 abbrev pub penalty : ℕ
 penalty = 10
 
+-- a position of `blocked`
+abbrev pub blocked : ℕ
+blocked = 11
+
 -- no kind: the first word is no keyword
 abbrev pub unknown : ℕ
-unknown = 11
+unknown = 12
+
+-- the kind is a position's, open or blocked
+abbrev pub isPosition : ℕ → Bool
+isPosition kind = eqb kind position || eqb kind blocked
 
 -- ---- the words with a meaning, byte by byte
 
@@ -108,6 +117,10 @@ pairBytes = 112 ∷ 97 ∷ 105 ∷ 114 ∷ []
 abbrev pub penaltyBytes : List ℕ
 penaltyBytes = 112 ∷ 101 ∷ 110 ∷ 97 ∷ 108 ∷ 116 ∷ 121 ∷ []
 
+-- b l o c k e d
+abbrev pub blockedBytes : List ℕ
+blockedBytes = 98 ∷ 108 ∷ 111 ∷ 99 ∷ 107 ∷ 101 ∷ 100 ∷ []
+
 -- d g
 abbrev pub dgBytes : List ℕ
 dgBytes = 100 ∷ 103 ∷ []
@@ -137,7 +150,8 @@ kindOf word =
     (cond (spells word scaffoldBytes) position
     (cond (spells word energyBytes) energyGiven
     (cond (spells word pairBytes) pairGiven
-    (cond (spells word penaltyBytes) penalty unknown))))))))
+    (cond (spells word penaltyBytes) penalty
+    (cond (spells word blockedBytes) blocked unknown)))))))))
 
 -- ---- the words after it
 
@@ -195,6 +209,8 @@ shapes =
     ∷ (name 0 ∷ name 1 ∷ dgOrSeq ∷ bases 2 ∷ end ∷ end ∷ [])
     -- penalty
     ∷ (number 0 ∷ number 1 ∷ end ∷ end ∷ end ∷ end ∷ [])
+    -- blocked, a position
+    ∷ (glue 0 ∷ end ∷ end ∷ end ∷ end ∷ end ∷ [])
     ∷ []
 
 -- what such a number stands for

@@ -12,6 +12,7 @@
 --     pairGiven         glue, glue                   dG, dS
 --     pairSequence      glue, glue, bases
 --     penalty                                        dG, dS
+--     blocked           glue
 use mathlib.Core.Bool.{Bool, not, _||_}
 use mathlib.Core.List.{List}
 use mathlib.Core.Path.{_≡_}

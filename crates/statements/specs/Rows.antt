@@ -8,7 +8,6 @@ use lib.Seq.{sets}
 use lib.Ieee.{Float}
 use Rattle.statements.specs.Words.{Line, linesOf, upToEnd, wordsIn, spelled}
 use Rattle.statements.specs.Layout.{Room, roomOf, unequal}
-use Rattle.statements.specs.Grammar.{position}
 use Rattle.statements.specs.Statement.{blank, accepted, statementOf}
 use Rattle.statements.specs.declared.words.Word.{Word}
 use Rattle.statements.specs.declared.grammar.Item.the-variants.{Glue}
@@ -34,14 +33,14 @@ abbrev pub rowOf : ℕ → Statement → Row
 rowOf number statement = record { kind = statement .kind; line = number; words = statement .words; numbers = statement .numbers }
 
 -- a position: a glue, or `-` for none
-unfoldable pub positionRow : List ℕ → ℕ → Word → Row
-positionRow line number word = rowOf number (accepted (spelled line word) (Glue 0) word (blank position))
+unfoldable pub positionRow : ℕ → List ℕ → ℕ → Word → Row
+positionRow kind line number word = rowOf number (accepted (spelled line word) (Glue 0) word (blank kind))
 
 -- the rows of a line, by what it turned out to be
 unfoldable pub rowsBy : Outcome → List ℕ → ℕ → Statement → List Row
 rowsBy Nothing line number statement = []
 rowsBy Whole line number statement = rowOf number statement ∷ []
-rowsBy (Positions at) line number statement = map (positionRow line number) (wordsIn line at)
+rowsBy (Positions kind at) line number statement = map (positionRow kind line number) (wordsIn line at)
 rowsBy (Fault word reason) line number statement = []
 
 -- the rows of a line that holds a statement
@@ -67,7 +66,7 @@ rowsOf text = rowsFrom text 1 (linesOf text)
 unfoldable pub countBy : Outcome → List ℕ → Count
 countBy Nothing line = rows.Rows 0
 countBy Whole line = rows.Rows 1
-countBy (Positions at) line = rows.Rows (length (wordsIn line at))
+countBy (Positions kind at) line = rows.Rows (length (wordsIn line at))
 countBy (Fault word reason) line = rows.Fault word reason
 
 -- the same of the line that begins at a place

@@ -10,7 +10,7 @@ use Rattle.decimals.specs.Number.{numberOf}
 use Rattle.decimals.specs.declared.NumberAnswer.{NumberAnswer}
 use Rattle.decimals.specs.declared.NumberAnswer.the-variants as answer
 use Rattle.statements.specs.Words.{wordsIn, spelled, spells}
-use Rattle.statements.specs.Grammar.{kindOf, itemOf, sequenceKind, position, unknown, dgBytes, dsBytes, seqBytes, dashBytes}
+use Rattle.statements.specs.Grammar.{kindOf, itemOf, sequenceKind, isPosition, unknown, dgBytes, dsBytes, seqBytes, dashBytes}
 use Rattle.statements.specs.declared.words.Word.{Word}
 use Rattle.statements.specs.declared.grammar.Item.{Item}
 use Rattle.statements.specs.declared.grammar.Item.the-variants.{Number, Name, Glue, Bases, DgOrSeq, Ds, End}
@@ -88,7 +88,7 @@ closed Ds key row = faulty key TooFewWords
 unfoldable pub goesOn : Outcome → Bool
 goesOn Nothing = false
 goesOn Whole = true
-goesOn (Positions at) = false
+goesOn (Positions kind at) = false
 goesOn (Fault word reason) = false
 
 -- the words from a place after the keyword on
@@ -104,7 +104,7 @@ fit line key place row (word ∷ rest) =
 unfoldable pub statementFrom : ℕ → List ℕ → Word → List Word → Statement
 statementFrom kind line key rest =
     cond (eqb kind unknown) (faulty key NoSuchStatement)
-    (cond (eqb kind position) (without (Positions (key .start + key .size)))
+    (cond (isPosition kind) (without (Positions kind (key .start + key .size)))
     (fit line key 0 (blank kind) rest))
 
 -- from its words

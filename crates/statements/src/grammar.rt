@@ -1,10 +1,10 @@
 // The grammar: the kinds of rows, their keywords, and what each word after the keyword has to be.
 ghost use mathlib.Core.Path.{_≡_};
 ghost use Prim.Native.Nat.{_<_};
-ghost use Rattle.statements.specs.Grammar.{kindOf, sequenceKind, InRow, decoded, itemOf};
+ghost use Rattle.statements.specs.Grammar.{kindOf, isPosition, sequenceKind, InRow, decoded, itemOf};
 use sdc_common::names::same_bytes;
 
-// ---- the kinds of rows, each by its keyword; `scaffold` gives a row for each position
+// ---- the kinds of rows, each by its keyword; `scaffold` and `blocked` give a row for each position
 
 // `kelvin`.
 pub const KELVIN: u8 = 0;
@@ -39,8 +39,11 @@ pub const PAIR_SEQUENCE: u8 = 9;
 // `penalty`.
 pub const PENALTY: u8 = 10;
 
+// A position of `blocked`.
+pub const BLOCKED: u8 = 11;
+
 // A word that is no keyword.
-pub(crate) const UNKNOWN: u8 = 11;
+pub(crate) const UNKNOWN: u8 = 12;
 
 // What a word after the keyword has to be, and the slot of the row that it fills.
 pub enum Item {
@@ -80,7 +83,7 @@ const DG_OR_SEQ: u8 = 16;
 const DS: u8 = 17;
 
 // What stands after the keyword, in the order of the kinds.
-const SHAPES: [[u8; 6]; 11] = [
+const SHAPES: [[u8; 6]; 12] = [
     // kelvin
     [NUMBER, END, END, END, END, END],
     // ambient
@@ -103,6 +106,8 @@ const SHAPES: [[u8; 6]; 11] = [
     [NAME, NAME + 1, DG_OR_SEQ, BASES + 2, END, END],
     // penalty
     [NUMBER, NUMBER + 1, END, END, END, END],
+    // blocked, a position
+    [GLUE, END, END, END, END, END],
 ];
 
 // The kind of a statement with this first word. `energy` and `pair` are of the kind with numbers, until `seq` is met.
@@ -136,7 +141,20 @@ pub(crate) fn kind_of(word: &[u8]) -> u8
     if same_bytes(word, b"penalty") {
         return PENALTY;
     }
+    if same_bytes(word, b"blocked") {
+        return BLOCKED;
+    }
     UNKNOWN
+}
+
+// Whether a kind is a position's, open or blocked.
+pub(crate) fn is_position(kind: u8) -> bool
+    ensures { λ r. ⌜ r ≡ isPosition kind ⌝ }
+{
+    if kind == POSITION {
+        return true;
+    }
+    kind == BLOCKED
 }
 
 // The kind with a sequence for its numbers.

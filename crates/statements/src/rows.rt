@@ -10,7 +10,6 @@ ghost use Rattle.statements.specs.Statement.{statementOf};
 ghost use Rattle.statements.specs.Rows.{rowOf, positionRow, rowsOfLine, rowsOf, countOf, answerFrom, laidRow, laid};
 use crate::ReadAnswer;
 use crate::grammar::Item;
-use crate::grammar::POSITION;
 use crate::statement::Outcome;
 use crate::statement::Reason;
 use crate::statement::Statement;
@@ -51,7 +50,7 @@ fn count_rows(line: &[u8], at: usize) -> Count
     match outcome {
         Outcome::Nothing => Count::Rows(0),
         Outcome::Whole => Count::Rows(1),
-        Outcome::Positions(from) => Count::Rows(count_words(line, from)),
+        Outcome::Positions(_, from) => Count::Rows(count_words(line, from)),
         Outcome::Fault(word, reason) => Count::Fault(word, reason),
     }
 }
@@ -126,8 +125,9 @@ fn lay_row(
     store_numbers(numbers, 3 * i, row_numbers);
 }
 
-// The positions of a line from row i on, and the row after them.
+// The positions of a line, of this kind, from row i on, and the row after them.
 fn lay_positions(
+    kind: u8,
     line: &[u8],
     at: usize,
     number: usize,
@@ -139,7 +139,7 @@ fn lay_positions(
 ) -> usize
     requires { ⌜ Equal (roomOf (now kinds) (now lines) (now words) (now numbers)) ⌝ }
     requires { ⌜ i + length (wordsIn (now line) at) ≤ length (now kinds) ⌝ }
-    ensures { λ r. ⌜ (r ≡ i + length (wordsIn (now (line .entry)) at)) × (roomOf (now (kinds .exit)) (now (lines .exit)) (now (words .exit)) (now (numbers .exit)) ≡ laid (roomOf (now (kinds .entry)) (now (lines .entry)) (now (words .entry)) (now (numbers .entry))) i (map (positionRow (now (line .entry)) number) (wordsIn (now (line .entry)) at))) ⌝ }
+    ensures { λ r. ⌜ (r ≡ i + length (wordsIn (now (line .entry)) at)) × (roomOf (now (kinds .exit)) (now (lines .exit)) (now (words .exit)) (now (numbers .exit)) ≡ laid (roomOf (now (kinds .entry)) (now (lines .entry)) (now (words .entry)) (now (numbers .entry))) i (map (positionRow kind (now (line .entry)) number) (wordsIn (now (line .entry)) at))) ⌝ }
 {
     let mut next = i;
     let mut from = at;
@@ -148,7 +148,7 @@ fn lay_positions(
         if word.size == 0 {
             return next;
         }
-        let row = Statement::blank(POSITION).accept(bytes(line, word), Item::Glue(0), word);
+        let row = Statement::blank(kind).accept(bytes(line, word), Item::Glue(0), word);
         lay_row(row, number, next, kinds, lines, words, numbers);
         next += 1;
         from = word.start + word.size;
@@ -178,8 +178,8 @@ fn lay_line(
             lay_row(row, number, i, kinds, lines, words, numbers);
             i + 1
         }
-        Outcome::Positions(from) => {
-            lay_positions(line, from, number, i, kinds, lines, words, numbers)
+        Outcome::Positions(kind, from) => {
+            lay_positions(kind, line, from, number, i, kinds, lines, words, numbers)
         }
         Outcome::Fault(_, _) => i,
     }

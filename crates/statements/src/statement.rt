@@ -5,8 +5,8 @@ ghost use Rattle.statements.specs.Words.{Inside, wordsIn};
 ghost use Rattle.statements.specs.Grammar.{InRow};
 ghost use Rattle.statements.specs.Statement.{blank, without, put, numberPut, accepted, closed, goesOn, fit, statementOf};
 use crate::grammar::Item;
-use crate::grammar::POSITION;
 use crate::grammar::UNKNOWN;
+use crate::grammar::is_position;
 use crate::grammar::item_at;
 use crate::grammar::kind_of;
 use crate::grammar::sequence_kind;
@@ -39,8 +39,8 @@ pub enum Outcome {
     Nothing,
     // One row.
     Whole,
-    // A row for each word from a place on.
-    Positions(usize),
+    // A row of this kind for each word from a place on.
+    Positions(u8, usize),
     Fault(Word, Reason),
 }
 
@@ -214,8 +214,8 @@ pub(crate) fn statement_of(line: &[u8], at: usize) -> Statement
     if kind == UNKNOWN {
         return Statement::without(Outcome::Fault(key, Reason::NoSuchStatement));
     }
-    if kind == POSITION {
-        return Statement::without(Outcome::Positions(key.start + key.size));
+    if is_position(kind) {
+        return Statement::without(Outcome::Positions(kind, key.start + key.size));
     }
     fit(line, key, kind)
 }

@@ -53,6 +53,7 @@ impl Both {
     pub fn port(&self) -> mj::Design<'_> {
         mj::Design {
             scaffold: &self.lent.scaffold,
+            marks: &self.lent.marks,
             glues: &self.lent.glues,
             dg: &self.lent.dg,
             ds: &self.lent.ds,

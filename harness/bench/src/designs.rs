@@ -101,6 +101,7 @@ fn count(positions: usize) -> Row {
     let ambient = ambient();
     let mut lent = Lent {
         scaffold: vec![1; positions],
+        marks: vec![0; positions],
         glues: vec![0, 0, 0, 0, 1, 0],
         dg: vec![0.0; CELLS],
         ds: vec![0.0; CELLS],

@@ -86,6 +86,7 @@ fn settling(positions: usize, strands: usize, friends: usize) -> Both {
         scaffold: (0..positions)
             .map(|position| (1 + position % groups) as u8)
             .collect(),
+        marks: vec![0; positions],
         glues,
         dg: vec![0.0; CELLS],
         ds: vec![0.0; CELLS],
@@ -156,6 +157,7 @@ fn search_of_port(both: &Rc<Both>) -> Box<dyn FnMut()> {
 fn without_positions(both: &Both) -> mj::Design<'_> {
     mj::Design {
         scaffold: &[],
+        marks: &[],
         ..both.port()
     }
 }

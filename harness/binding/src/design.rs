@@ -5,6 +5,8 @@
 pub struct Design<'a> {
     /// One glue for each position.
     pub scaffold: &'a [u8],
+    /// One mark for each position: 0 open, 1 blocked.
+    pub marks: &'a [u8],
     /// West, bottom and east glue of each strand.
     pub glues: &'a [u8],
     /// The tables, row first.
@@ -18,7 +20,7 @@ pub struct Design<'a> {
 }
 
 /// Declares functions that take a design and then what is named, and hands a `Design` over to
-/// each: five pointers with their lengths, and three doubles. Each answers the reply number.
+/// each: six pointers with their lengths, and three doubles. Each answers the reply number.
 macro_rules! functions_of_a_design {
     ($($name:ident($($own:ident: $kind:ty),*);)*) => {
         mod c {
@@ -26,6 +28,8 @@ macro_rules! functions_of_a_design {
                 $(pub fn $name(
                     scaffold: *const u8,
                     positions: usize,
+                    marks: *const u8,
+                    mark_count: usize,
                     glues: *const u8,
                     glue_count: usize,
                     dg: *const f64,
@@ -46,6 +50,8 @@ macro_rules! functions_of_a_design {
             c::$name(
                 design.scaffold.as_ptr(),
                 design.scaffold.len(),
+                design.marks.as_ptr(),
+                design.marks.len(),
                 design.glues.as_ptr(),
                 design.glues.len(),
                 design.dg.as_ptr(),

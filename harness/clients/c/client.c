@@ -258,11 +258,13 @@ static void decks_with_runs(void)
 /* The bench table's two positions: strand 1 with dG -0.5, then strand 2 with dG -2, potentials -1,
  * RT 0.5, strand bonds 0. */
 static uint8_t scaffold[2] = {1, 2};
+static uint8_t blocked[2] = {0, 0};
 static uint8_t glues[9] = {0, 0, 0, 0, 1, 0, 0, 2, 0};
 static double dg[64][64], ds[64][64];
 static double potentials[3] = {0.0, -1.0, -1.0};
 
-#define DESIGN scaffold, 2, glues, 9, dg[0], 4096, ds[0], 4096, potentials, 3, 0.5, 0.0, 0.0
+#define DESIGN                                                                                     \
+    scaffold, 2, blocked, 2, glues, 9, dg[0], 4096, ds[0], 4096, potentials, 3, 0.5, 0.0, 0.0
 
 static void bonds_and_friends(void)
 {
@@ -354,8 +356,8 @@ static void an_unfit_ambient(double rt, double strand_excess, double scaffold_ex
     uint64_t place = unread;
     double energy = unwritten;
     reply("an ambient",
-          mj_search(scaffold, 2, glues, 9, dg[0], 4096, ds[0], 4096, potentials, 3, rt,
-                    strand_excess, scaffold_excess, state, 2, &place, &energy),
+          mj_search(scaffold, 2, blocked, 2, glues, 9, dg[0], 4096, ds[0], 4096, potentials, 3,
+                    rt, strand_excess, scaffold_excess, state, 2, &place, &energy),
           16);
     count("its place", place == which);
     figure("no energy", energy, 0.0);
@@ -369,6 +371,36 @@ static void unfit_ambients(void)
     an_unfit_ambient(0.5, 2000.0, (double)NAN, 1);
     an_unfit_ambient(0.5, 0.0, -2000.0, 2);
     potentials[2] = -1.0;
+}
+
+/* The last position blocked, and then the first. */
+static void blocked_positions(void)
+{
+    static const uint8_t both[2] = {1, 2};
+    uint8_t state[2] = {9, 9}, entries[64] = {9};
+    uint64_t place = unread, n = unread;
+    double energy = unwritten, bond = unwritten;
+    blocked[1] = 1;
+    reply("a blocked position", mj_states(DESIGN, &place, &n), 0);
+    count("two states", n == 2);
+    reply("a strand on it", mj_state_energy(DESIGN, both, 2, &place, &energy), 11);
+    reply("its friends", mj_friends(DESIGN, 1, entries, 64, &place, &n), 0);
+    count("it has none", n == 0 && entries[0] == 9);
+    reply("its bond", mj_scaffold_bond(DESIGN, 1, 2, &place, &bond), 0);
+    figure("as before", bond, -4.0);
+    reply("a search", mj_search(DESIGN, state, 2, &place, &energy), 0);
+    count("nobody", state[0] == 0 && state[1] == 0);
+    figure("its energy", energy, 0.0);
+    blocked[0] = 1;
+    blocked[1] = 0;
+    potentials[1] = NAN;
+    reply("the first blocked", mj_search(DESIGN, state, 2, &place, &energy), 0);
+    count("the second", state[0] == 0 && state[1] == 2);
+    blocked[0] = 2;
+    reply("a mark of 2", mj_search(DESIGN, state, 2, &place, &energy), 1);
+    count("no place", place == MJ_NOWHERE);
+    blocked[0] = 0;
+    potentials[1] = -1.0;
 }
 
 /* One strand with glues a, b* and c**, at the start of the text; after them two bases. */
@@ -437,6 +469,7 @@ int main(void)
     decks_with_runs();
     designs();
     unfit_ambients();
+    blocked_positions();
     names();
     params();
     printf("client: %u passed, %u failed\n", passed, failed);

@@ -91,10 +91,22 @@ impl Ambient {
     }
 }
 
-/// A design that document 01 admits, at this ambient.
+/// A design that document 01 admits, at this ambient, all of it open.
 pub fn design(random: &mut Random, sort: Sort, shape: &Shape, ambient: Ambient) -> Lent {
+    marked(random, sort, shape, ambient, vec![0; shape.positions])
+}
+
+/// One with these marks. Potentials that they keep from being read may be no numbers.
+pub fn marked(
+    random: &mut Random,
+    sort: Sort,
+    shape: &Shape,
+    ambient: Ambient,
+    marks: Vec<u8>,
+) -> Lent {
     let mut lent = Lent {
         scaffold: (0..shape.positions).map(|_| glue(random, shape)).collect(),
+        marks,
         glues: vec![0; 3],
         dg: vec![0.0; CELLS],
         ds: vec![0.0; CELLS],
@@ -116,6 +128,18 @@ pub fn design(random: &mut Random, sort: Sort, shape: &Shape, ambient: Ambient) 
         };
     }
     lent
+}
+
+/// Marks of so many positions, one of them blocked at least where there is one: few, half or all.
+pub fn blocks(random: &mut Random, positions: usize) -> Vec<u8> {
+    let in_eight = random.pick(&[1, 2, 4, 8]);
+    let mut marks: Vec<u8> = (0..positions)
+        .map(|_| u8::from(random.below(8) < in_eight))
+        .collect();
+    if positions > 0 {
+        marks[random.below(positions)] = 1;
+    }
+    marks
 }
 
 /// Not 0 more often than 0.
@@ -240,6 +264,14 @@ pub fn lines_of_both(lent: &Lent, glues: usize) -> String {
     lines
 }
 
+/// The port's line for the marks, where not all are 0.
+pub fn marks_line(lent: &Lent) -> String {
+    match lent.has_blocked() {
+        true => format!("d.marks {}\n", joined(&lent.marks, " ")),
+        false => String::new(),
+    }
+}
+
 /// The port's line for the ambient.
 pub fn ambient_line(lent: &Lent) -> String {
     let ambient = [lent.rt, lent.strand_excess, lent.scaffold_excess];
@@ -257,6 +289,7 @@ pub fn raw_lines(lent: &Lent) -> String {
         );
     }
     for (name, length, usual) in [
+        ("marks", lent.marks.len(), lent.positions()),
         ("glues", lent.glues.len(), 3 * strands),
         ("dg", lent.dg.len(), CELLS),
         ("ds", lent.ds.len(), CELLS),
@@ -265,13 +298,10 @@ pub fn raw_lines(lent: &Lent) -> String {
             line(&mut lines, format_args!("raw.len {name} {length}"));
         }
     }
-    for (index, glue) in lent
-        .glues
-        .iter()
-        .enumerate()
-        .filter(|(_, glue)| **glue != 0)
-    {
-        line(&mut lines, format_args!("raw.set glues {index} {glue}"));
+    for (name, bytes) in [("marks", &lent.marks), ("glues", &lent.glues)] {
+        for (index, byte) in bytes.iter().enumerate().filter(|(_, byte)| **byte != 0) {
+            line(&mut lines, format_args!("raw.set {name} {index} {byte}"));
+        }
     }
     for (name, doubles) in [
         ("dg", &lent.dg),

@@ -18,6 +18,8 @@ const GLUES: usize = 64;
 #[derive(Default)]
 pub struct Lent {
     scaffold: Vec<u8>,
+    /// A position that a line adds is open until a line marks it.
+    marks: Vec<u8>,
     glues: Vec<u8>,
     dg: Vec<f64>,
     ds: Vec<f64>,
@@ -57,7 +59,14 @@ impl Lent {
             "d.scaffold" => {
                 for word in &words[1..] {
                     self.scaffold.push(whole(word)?);
+                    self.marks.push(0);
                 }
+            }
+            "d.marks" => {
+                self.marks = words[1..]
+                    .iter()
+                    .map(|word| whole(word))
+                    .collect::<Result<_, _>>()?
             }
             "d.dg" | "d.ds" => {
                 expect_words(words, &[3])?;
@@ -98,6 +107,7 @@ impl Lent {
         let number: usize = whole(words[2])?;
         let bytes = match words[1] {
             "scaffold" => Some(&mut self.scaffold),
+            "marks" => Some(&mut self.marks),
             "glues" => Some(&mut self.glues),
             _ => None,
         };
@@ -124,6 +134,7 @@ impl Lent {
     fn design(&self) -> mj::Design<'_> {
         mj::Design {
             scaffold: &self.scaffold,
+            marks: &self.marks,
             glues: &self.glues,
             dg: &self.dg,
             ds: &self.ds,

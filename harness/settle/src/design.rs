@@ -31,6 +31,8 @@ pub struct Design {
     pub quencher: Option<(Option<usize>, f64)>,
     pub reporter: Option<(Option<usize>, f64)>,
     pub scaffold: Vec<Option<Name>>,
+    /// Of each position whether it is blocked.
+    pub blocked: Vec<bool>,
     pub entries: Vec<Entry>,
     pub penalty: Option<(f64, f64)>,
 }
@@ -64,6 +66,7 @@ impl Design {
             quencher: None,
             reporter: None,
             scaffold: vec![],
+            blocked: vec![],
             entries: vec![],
             penalty: None,
         };
@@ -81,6 +84,9 @@ impl Design {
             };
             design.scaffold.push((!absent).then(|| name(random)));
         }
+        let in_eight = random.pick(&[0, 0, 1, 4, 8]);
+        let blocked = design.scaffold.iter().map(|_| random.below(8) < in_eight);
+        design.blocked = blocked.collect();
         for _ in 0..random.within(0..=if large { 200 } else { 14 }) {
             let entry = entry(random, &bases);
             let wanted = pair(&entry.names);
@@ -138,6 +144,7 @@ impl Design {
         }
     }
 
+    /// The Rust knows no blocked positions; one without a glue has no friends either.
     pub fn oracle_lines(&self) -> String {
         let mut lines = vec!["mode id".to_string(), "p.new".to_string()];
         for strand in &self.strands {
@@ -155,7 +162,8 @@ impl Design {
             }
         }
         if !self.scaffold.is_empty() {
-            let names = self.scaffold.iter().map(|name| word(name.as_deref()));
+            let open = self.scaffold.iter().zip(&self.blocked);
+            let names = open.map(|(name, blocked)| word(name.as_deref().filter(|_| !blocked)));
             lines.push(format!("p.scaffold {}", joined(names, " ")));
         }
         for entry in &self.entries {
@@ -197,13 +205,20 @@ impl Design {
                 ]);
             }
         }
-        let mut positions = &self.scaffold[..];
-        while !positions.is_empty() || random.once_in(9) {
-            let (these, rest) = positions.split_at(random.within(0..=positions.len()));
-            let mut words = vec![b"scaffold".to_vec()];
-            words.extend(these.iter().map(|name| or_dash(name.as_ref())));
+        let mut from = 0;
+        while from < self.scaffold.len() || random.once_in(9) {
+            let blocked = self.blocked.get(from).copied().unwrap_or(random.once_in(2));
+            let alike = self.blocked[from..].iter().take_while(|b| **b == blocked);
+            let end = from + random.within(0..=alike.count());
+            let keyword: &[u8] = if blocked { b"blocked" } else { b"scaffold" };
+            let mut words = vec![keyword.to_vec()];
+            words.extend(
+                self.scaffold[from..end]
+                    .iter()
+                    .map(|name| or_dash(name.as_ref())),
+            );
             all.push(words);
-            positions = rest;
+            from = end;
         }
         for entry in &self.entries {
             let keyword: &[u8] = if entry.names.len() == 1 {
@@ -235,7 +250,10 @@ impl Design {
 
 /// In another order, in which lines of one kind keep theirs: strands and positions are numbered by it.
 fn mixed(random: &mut Random, all: Vec<Statement>) -> Vec<Statement> {
-    let is = |words: &Statement| words[0].clone();
+    let is = |words: &Statement| match words[0].as_slice() {
+        b"blocked" => b"scaffold".to_vec(),
+        keyword => keyword.to_vec(),
+    };
     let mut queues: Vec<(Name, std::collections::VecDeque<Statement>)> = vec![];
     for words in all {
         match queues.iter_mut().find(|(kind, _)| *kind == is(&words)) {

@@ -289,6 +289,7 @@ fn unlike(answer: &Answer, design: &Design, lowest: &Lowest) -> Option<String> {
             "configuration",
             settled.configuration == lowest.configuration,
         ),
+        ("blocked", settled.blocked == design.blocked),
         ("names", settled.names == names),
         ("states", settled.states == lowest.states),
         (

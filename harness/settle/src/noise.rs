@@ -2,13 +2,14 @@
 
 use compare::random::Random;
 
-const WORDS: [&str; 34] = [
+const WORDS: [&str; 35] = [
     "kelvin",
     "ambient",
     "strand",
     "quencher",
     "reporter",
     "scaffold",
+    "blocked",
     "energy",
     "pair",
     "penalty",

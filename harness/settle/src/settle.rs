@@ -19,6 +19,7 @@ pub struct Answer {
 #[derive(Debug, Clone)]
 pub struct Settled {
     pub configuration: Vec<usize>,
+    pub blocked: Vec<bool>,
     pub names: Vec<Option<Vec<u8>>>,
     pub states: Option<u64>,
     /// To six places, as printed.
@@ -131,6 +132,11 @@ fn settled(object: &Value) -> Result<Settled, String> {
     Ok(Settled {
         configuration: list(field("configuration")?, |value| {
             number(value).map(|n| n as usize)
+        })?,
+        blocked: list(field("blocked")?, |value| match number(value)? {
+            0 => Ok(false),
+            1 => Ok(true),
+            mark => Err(format!("no mark: {mark}")),
         })?,
         names: list(field("names")?, |value| perhaps(value, bytes))?,
         states: perhaps(field("states")?, number)?,

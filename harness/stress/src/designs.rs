@@ -2,7 +2,7 @@
 
 use crate::guarded::{Figure, Guarded};
 use crate::{near, Tally};
-use compare::designs::{design, Ambient, Shape, SORTS};
+use compare::designs::{blocks, marked, Ambient, Shape, SORTS};
 use compare::doubles::not_finite;
 use compare::judge::design::Lent;
 use compare::random::Random;
@@ -13,12 +13,13 @@ const DESIGNS: usize = 200;
 
 pub struct Designs(Vec<Lent>);
 
-/// The lengths of scaffold, glues, both tables and potentials.
-type Lengths = [usize; 5];
+/// The lengths of scaffold, glues, both tables, potentials and marks.
+type Lengths = [usize; 6];
 
 fn lent(lent: &Lent, lengths: Lengths) -> mj::Design<'_> {
     mj::Design {
         scaffold: &lent.scaffold[..lengths[0]],
+        marks: &lent.marks[..lengths[5]],
         glues: &lent.glues[..lengths[1]],
         dg: &lent.dg[..lengths[2]],
         ds: &lent.ds[..lengths[3]],
@@ -40,9 +41,14 @@ impl Designs {
             };
             let ambient = Ambient::any(random);
             let sort = random.pick(&SORTS);
-            let mut one = design(random, sort, &shape, ambient);
+            let marks = match random.once_in(3) {
+                true => blocks(random, shape.positions),
+                false => vec![0; shape.positions],
+            };
+            let mut one = marked(random, sort, &shape, ambient, marks);
             spoil(random, &mut one);
             one.scaffold.push(0);
+            one.marks.push(0);
             one.glues.push(0);
             one.dg.push(0.0);
             one.ds.push(0.0);
@@ -60,10 +66,11 @@ impl Designs {
             whole.dg.len() - 1,
             whole.ds.len() - 1,
             whole.potentials.len() - 1,
+            whole.marks.len() - 1,
         ];
         let mut lengths = wanted;
         if random.once_in(4) {
-            let which = random.below(5);
+            let which = random.below(6);
             lengths[which] = near(random, wanted[which]);
         }
         let asked = Asked {
@@ -86,6 +93,7 @@ fn spoil(random: &mut Random, one: &mut Lent) {
         5 => one.strand_excess = random.pick(&not_finite()),
         6 => one.scaffold_excess = 1025.0,
         7 => one.potentials[1..].fill(random.pick(&not_finite())),
+        8 => one.marks.fill(2),
         _ => {}
     }
 }

@@ -5,10 +5,10 @@ use Rattle.answers.proofs.print_json_numbers.Statement.{statement}
 use Rattle.answers.proofs.print_json_numbers.Tie as tie
 
 abbrev Inv-loop : tie.InvT-loop
-Inv-loop configuration i₀ i-end i = Unit {0}
+Inv-loop numbers i₀ i-end i = Unit {0}
 
 abbrev μ-loop : tie.MeasureT-loop
-μ-loop configuration i₀ i-end i = i-end - i
+μ-loop numbers i₀ i-end i = i-end - i
 
 pub print-json-numbers-spec : {M : Type 1} → statement M
 print-json-numbers-spec =

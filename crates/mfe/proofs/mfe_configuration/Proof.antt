@@ -35,15 +35,15 @@ enum-told c = search needs
 
 searched-requires : tie.Need-searched-requires
 searched-requires c κs =
-    let d : Design = lent (c .before .before .before .before .before .before .before .before .before .before .args .scaffold) (c .before .before .before .before .before .before .before .before .before .before .args .glues) (c .before .before .before .before .before .before .before .before .before .before .args .dg) (c .before .before .before .before .before .before .before .before .before .before .args .ds) (c .before .before .before .before .before .before .before .before .before .before .args .potentials) (c .before .before .before .before .before .before .before .before .before .before .args .ambient) in
-    let e = c .before .before .before .before .before .before .before .before .before .before .args .configuration .now in
+    let d : Design = lent (c .before .before .before .before .before .before .before .before .before .before .before .args .scaffold) (c .before .before .before .before .before .before .before .before .before .before .before .args .marks) (c .before .before .before .before .before .before .before .before .before .before .before .args .glues) (c .before .before .before .before .before .before .before .before .before .before .before .args .dg) (c .before .before .before .before .before .before .before .before .before .before .before .args .ds) (c .before .before .before .before .before .before .before .before .before .before .before .args .potentials) (c .before .before .before .before .before .before .before .before .before .before .before .args .ambient) in
+    let e = c .before .before .before .before .before .before .before .before .before .before .before .args .configuration .now in
     let w = passed (ownSize d e) d [] [] (sym (c .before .before .before .design-reply .ensures) ∙ c .before .enum-told .given .1) in
     (w .design, eqb-true _ _ (not-false _ (w .size)))
 
 returns : tie.Need-returns
 returns c =
-    let d : Design = lent (c .before .before .before .before .before .before .before .before .before .before .args .scaffold) (c .before .before .before .before .before .before .before .before .before .before .args .glues) (c .before .before .before .before .before .before .before .before .before .before .args .dg) (c .before .before .before .before .before .before .before .before .before .before .args .ds) (c .before .before .before .before .before .before .before .before .before .before .args .potentials) (c .before .before .before .before .before .before .before .before .before .before .args .ambient) in
-    let e = c .before .before .before .before .before .before .before .before .before .before .args .configuration .now in
+    let d : Design = lent (c .before .before .before .before .before .before .before .before .before .before .before .args .scaffold) (c .before .before .before .before .before .before .before .before .before .before .before .args .marks) (c .before .before .before .before .before .before .before .before .before .before .before .args .glues) (c .before .before .before .before .before .before .before .before .before .before .before .args .dg) (c .before .before .before .before .before .before .before .before .before .before .before .args .ds) (c .before .before .before .before .before .before .before .before .before .before .before .args .potentials) (c .before .before .before .before .before .before .before .before .before .before .before .args .ambient) in
+    let e = c .before .before .before .before .before .before .before .before .before .before .before .args .configuration .now in
     let refused = sym (c .before .before .before .design-reply .ensures) ∙ c .before .refusal .given .1 in (
       refused-by zero (Search.search (modelOf d) .energy) refused,
       (kept-by e (Search.search (modelOf d) .configuration) refused, λ w l. no-admission (sym refused ∙ own-decide (ownSize d e) d [] [] (ap not (eq-eqb _ _ l)) w refl)),
@@ -54,19 +54,19 @@ same-length c = search needs
 
 returns-2 : tie.Need-returns-2
 returns-2 c =
-    let d : Design = lent (c .before .before .before .before .before .before .before .before .before .before .before .before .before .args .scaffold) (c .before .before .before .before .before .before .before .before .before .before .before .before .before .args .glues) (c .before .before .before .before .before .before .before .before .before .before .before .before .before .args .dg) (c .before .before .before .before .before .before .before .before .before .before .before .before .before .args .ds) (c .before .before .before .before .before .before .before .before .before .before .before .before .before .args .potentials) (c .before .before .before .before .before .before .before .before .before .before .before .before .before .args .ambient) in
-    let e = c .before .before .before .before .before .before .before .before .before .before .before .before .before .args .configuration .now in
+    let d : Design = lent (c .before .before .before .before .before .before .before .before .before .before .before .before .before .before .args .scaffold) (c .before .before .before .before .before .before .before .before .before .before .before .before .before .before .args .marks) (c .before .before .before .before .before .before .before .before .before .before .before .before .before .before .args .glues) (c .before .before .before .before .before .before .before .before .before .before .before .before .before .before .args .dg) (c .before .before .before .before .before .before .before .before .before .before .before .before .before .before .args .ds) (c .before .before .before .before .before .before .before .before .before .before .before .before .before .before .args .potentials) (c .before .before .before .before .before .before .before .before .before .before .before .before .before .before .args .ambient) in
+    let e = c .before .before .before .before .before .before .before .before .before .before .before .before .before .before .args .configuration .now in
     let admitted = sym (c .before .before .before .before .before .before .design-reply .ensures) ∙ c .before .before .before .before .enum-told .given .1 in
     let found = c .before .before .searched .ensures in
-    let field = c .before .before .before .before .before .before .before .before .before .before .before .before .before .good .1 .1 .1 .1 .1 .0 .1 .1 in
-    let rt : fits binary64 (c .before .before .before .before .before .before .before .before .before .before .before .before .before .args .ambient .rt .0) ≡ true = field .0 .1 .1 .0 .1 in
-    let strand : fits binary64 (c .before .before .before .before .before .before .before .before .before .before .before .before .before .args .ambient .«strand_excess» .0) ≡ true = field .1 .0 .1 .1 .0 .1 in
-    let scaffold : fits binary64 (c .before .before .before .before .before .before .before .before .before .before .before .before .before .args .ambient .«scaffold_excess» .0) ≡ true = field .1 .1 .0 .1 .1 .0 .1 in
+    let field = c .before .before .before .before .before .before .before .before .before .before .before .before .before .before .good .1 .1 .1 .1 .1 .1 .0 .1 .1 in
+    let rt : fits binary64 (c .before .before .before .before .before .before .before .before .before .before .before .before .before .before .args .ambient .rt .0) ≡ true = field .0 .1 .1 .0 .1 in
+    let strand : fits binary64 (c .before .before .before .before .before .before .before .before .before .before .before .before .before .before .args .ambient .«strand_excess» .0) ≡ true = field .1 .0 .1 .1 .0 .1 in
+    let scaffold : fits binary64 (c .before .before .before .before .before .before .before .before .before .before .before .before .before .before .args .ambient .«scaffold_excess» .0) ≡ true = field .1 .1 .0 .1 .1 .0 .1 in
     let doubles : Doubles d =
     record {
-      dg = λ k _. c .before .before .before .before .before .before .before .before .before .before .shared-slice-known3 .given k;
-      ds = λ k _. c .before .before .before .before .before .before .before .before .before .shared-slice-known4 .given k;
-      potentials = λ k _. c .before .before .before .before .before .before .before .before .shared-slice-known5 .given k;
+      dg = λ k _. c .before .before .before .before .before .before .before .before .before .before .shared-slice-known4 .given k;
+      ds = λ k _. c .before .before .before .before .before .before .before .before .before .shared-slice-known5 .given k;
+      potentials = λ k _. c .before .before .before .before .before .before .before .before .shared-slice-known6 .given k;
       rt = rw rt tt;
       strand-excess = rw strand tt;
       scaffold-excess = rw scaffold tt;

@@ -11,7 +11,7 @@ slice-aggregate-with-scaffold-bonds : tie.Need-slice-aggregate-with-scaffold-bon
 slice-aggregate-with-scaffold-bonds c = search needs
 
 with-scaffold-bonds-requires : tie.Need-with-scaffold-bonds-requires
-with-scaffold-bonds-requires c κs = let room = mul-le-mul (c .before .before .if1 .taken) (c .before .before .if1 .taken) in (c .before .before .before .before .before .before .before .before .before .pre .0, (omega arith, c .before .before .before .before .before .before .before .before .before .pre .1))
+with-scaffold-bonds-requires c κs = let room = mul-le-mul (c .before .before .if1 .taken) (c .before .before .if1 .taken) in (c .before .before .before .before .before .before .before .before .before .before .pre .0, (omega arith, c .before .before .before .before .before .before .before .before .before .before .pre .1))
 
 same-length : tie.Need-same-length
 same-length c = search needs
@@ -24,9 +24,9 @@ slice-aggregate-with-scaffold-bonds-2 c = search needs
 
 with-scaffold-bonds-requires-2 : tie.Need-with-scaffold-bonds-requires-2
 with-scaffold-bonds-requires-2 c κs =
-    let z = sized (lent (c .before .before .before .before .before .before .before .before .before .args .scaffold) (c .before .before .before .before .before .before .before .before .before .args .glues) (c .before .before .before .before .before .before .before .before .before .args .dg) (c .before .before .before .before .before .before .before .before .before .args .ds) (c .before .before .before .before .before .before .before .before .before .args .potentials) (c .before .before .before .before .before .before .before .before .before .args .ambient)) (c .before .before .before .before .before .before .before .before .before .pre .0 .sizes) in
+    let z = sized (lent (c .before .before .before .before .before .before .before .before .before .before .args .scaffold) (c .before .before .before .before .before .before .before .before .before .before .args .marks) (c .before .before .before .before .before .before .before .before .before .before .args .glues) (c .before .before .before .before .before .before .before .before .before .before .args .dg) (c .before .before .before .before .before .before .before .before .before .before .args .ds) (c .before .before .before .before .before .before .before .before .before .before .args .potentials) (c .before .before .before .before .before .before .before .before .before .before .args .ambient)) (c .before .before .before .before .before .before .before .before .before .before .pre .0 .sizes) in
     let room = mul-le-mul (z .few) (z .few) in
-    (c .before .before .before .before .before .before .before .before .before .pre .0, (omega arith, c .before .before .before .before .before .before .before .before .before .pre .1))
+    (c .before .before .before .before .before .before .before .before .before .before .pre .0, (omega arith, c .before .before .before .before .before .before .before .before .before .before .pre .1))
 
 same-length-2 : tie.Need-same-length-2
 same-length-2 c = search needs

@@ -15,8 +15,8 @@ use Rattle.mfe.proofs.settled.Tie as tie
 
 cast-fill-options : tie.Need-cast-fill-options
 cast-fill-options c =
-    let d : Design = lent (c .before .before .before .before .before .before .before .before .args .scaffold) (c .before .before .before .before .before .before .before .before .args .glues) (c .before .before .before .before .before .before .before .before .args .dg) (c .before .before .before .before .before .before .before .before .args .ds) (c .before .before .before .before .before .before .before .before .args .potentials) (c .before .before .before .before .before .before .before .before .args .ambient) in
-    let z = sized d (c .before .before .before .before .before .before .before .before .pre .0 .sizes) in
+    let d : Design = lent (c .before .before .before .before .before .before .before .before .before .args .scaffold) (c .before .before .before .before .before .before .before .before .before .args .marks) (c .before .before .before .before .before .before .before .before .before .args .glues) (c .before .before .before .before .before .before .before .before .before .args .dg) (c .before .before .before .before .before .before .before .before .before .args .ds) (c .before .before .before .before .before .before .before .before .before .args .potentials) (c .before .before .before .before .before .before .before .before .before .args .ambient) in
+    let z = sized d (c .before .before .before .before .before .before .before .before .before .pre .0 .sizes) in
     omega arith
 
 slice-aggregate-fill-options : tie.Need-slice-aggregate-fill-options
@@ -30,15 +30,15 @@ part-counts-start c = search needs
 
 part-counts-end : tie.Need-part-counts-end
 part-counts-end c =
-    let d : Design = lent (c .before .before .before .before .before .before .before .before .before .args .scaffold) (c .before .before .before .before .before .before .before .before .before .args .glues) (c .before .before .before .before .before .before .before .before .before .args .dg) (c .before .before .before .before .before .before .before .before .before .args .ds) (c .before .before .before .before .before .before .before .before .before .args .potentials) (c .before .before .before .before .before .before .before .before .before .args .ambient) in
-    let z = sized d (c .before .before .before .before .before .before .before .before .before .pre .0 .sizes) in
+    let d : Design = lent (c .before .before .before .before .before .before .before .before .before .before .args .scaffold) (c .before .before .before .before .before .before .before .before .before .before .args .marks) (c .before .before .before .before .before .before .before .before .before .before .args .glues) (c .before .before .before .before .before .before .before .before .before .before .args .dg) (c .before .before .before .before .before .before .before .before .before .before .args .ds) (c .before .before .before .before .before .before .before .before .before .before .args .potentials) (c .before .before .before .before .before .before .before .before .before .before .args .ambient) in
+    let z = sized d (c .before .before .before .before .before .before .before .before .before .before .pre .0 .sizes) in
     omega arith
 
 fill-options-requires : tie.Need-fill-options-requires
 fill-options-requires c κs =
-    let d : Design = lent (c .before .before .before .before .before .before .before .before .before .before .args .scaffold) (c .before .before .before .before .before .before .before .before .before .before .args .glues) (c .before .before .before .before .before .before .before .before .before .before .args .dg) (c .before .before .before .before .before .before .before .before .before .before .args .ds) (c .before .before .before .before .before .before .before .before .before .before .args .potentials) (c .before .before .before .before .before .before .before .before .before .before .args .ambient) in
-    let z = sized d (c .before .before .before .before .before .before .before .before .before .before .pre .0 .sizes) in
-    (omega arith, (omega arith, (z .short, (omega arith, (omega (arith, length-take (positions d - 0) (replicate {A = ℕ} 128 0)), null-nowhere d (tables-of d (c .before .before .before .before .before .before .before .before .before .before .pre .0)))))))
+    let d : Design = lent (c .before .before .before .before .before .before .before .before .before .before .before .args .scaffold) (c .before .before .before .before .before .before .before .before .before .before .before .args .marks) (c .before .before .before .before .before .before .before .before .before .before .before .args .glues) (c .before .before .before .before .before .before .before .before .before .before .before .args .dg) (c .before .before .before .before .before .before .before .before .before .before .before .args .ds) (c .before .before .before .before .before .before .before .before .before .before .before .args .potentials) (c .before .before .before .before .before .before .before .before .before .before .before .args .ambient) in
+    let z = sized d (c .before .before .before .before .before .before .before .before .before .before .before .pre .0 .sizes) in
+    (omega arith, (omega arith, (z .short, (omega arith, (omega (arith, length-take (positions d - 0) (replicate {A = ℕ} 128 0)), null-nowhere d (tables-of d (c .before .before .before .before .before .before .before .before .before .before .before .pre .0)))))))
 
 slice-aggregate-fill-read-strand-bonds : tie.Need-slice-aggregate-fill-read-strand-bonds
 slice-aggregate-fill-read-strand-bonds c = search needs
@@ -52,18 +52,18 @@ part-fill-read-strand-bonds-start c = search needs
 part-fill-read-strand-bonds-end : tie.Need-part-fill-read-strand-bonds-end
 unfolding modelOf
 part-fill-read-strand-bonds-end c =
-    let d : Design = lent (c .before .before .before .before .before .before .before .before .before .before .before .before .before .before .before .args .scaffold) (c .before .before .before .before .before .before .before .before .before .before .before .before .before .before .before .args .glues) (c .before .before .before .before .before .before .before .before .before .before .before .before .before .before .before .args .dg) (c .before .before .before .before .before .before .before .before .before .before .before .before .before .before .before .args .ds) (c .before .before .before .before .before .before .before .before .before .before .before .before .before .before .before .args .potentials) (c .before .before .before .before .before .before .before .before .before .before .before .before .before .before .before .args .ambient) in
-    let number : length (c .before .before .before .before .fill-options .last .1 .1 .1 .1 .1 .1 .0) ≡ positions d = placed d (c .before .before .before .before .fill-options .ensures .1 (modelOf d) refl) in
+    let d : Design = lent (c .before .before .before .before .before .before .before .before .before .before .before .before .before .before .before .before .args .scaffold) (c .before .before .before .before .before .before .before .before .before .before .before .before .before .before .before .before .args .marks) (c .before .before .before .before .before .before .before .before .before .before .before .before .before .before .before .before .args .glues) (c .before .before .before .before .before .before .before .before .before .before .before .before .before .before .before .before .args .dg) (c .before .before .before .before .before .before .before .before .before .before .before .before .before .before .before .before .args .ds) (c .before .before .before .before .before .before .before .before .before .before .before .before .before .before .before .before .args .potentials) (c .before .before .before .before .before .before .before .before .before .before .before .before .before .before .before .before .args .ambient) in
+    let number : length (c .before .before .before .before .fill-options .last .1 .1 .1 .1 .1 .1 .1 .0) ≡ positions d = placed d (c .before .before .before .before .fill-options .ensures .1 (modelOf d) refl) in
     simp length-append (omega arith)
 
 fill-read-strand-bonds-requires : tie.Need-fill-read-strand-bonds-requires
 unfolding modelOf
 fill-read-strand-bonds-requires c κs =
-    let d : Design = lent (c .before .before .before .before .before .before .before .before .before .before .before .before .before .before .before .before .before .args .scaffold) (c .before .before .before .before .before .before .before .before .before .before .before .before .before .before .before .before .before .args .glues) (c .before .before .before .before .before .before .before .before .before .before .before .before .before .before .before .before .before .args .dg) (c .before .before .before .before .before .before .before .before .before .before .before .before .before .before .before .before .before .args .ds) (c .before .before .before .before .before .before .before .before .before .before .before .before .before .before .before .before .before .args .potentials) (c .before .before .before .before .before .before .before .before .before .before .before .before .before .before .before .before .before .args .ambient) in
-    let number : length (c .before .before .before .before .before .before .fill-options .last .1 .1 .1 .1 .1 .1 .0) ≡ positions d = placed d (c .before .before .before .before .before .before .fill-options .ensures .1 (modelOf d) refl) in
-    let full : length (c .before .before .before .before .before .before .fill-options .last .1 .1 .1 .1 .1 .1 .0) ≡ positions d - 0 = omega (arith, number) in
-    let again = take-at (c .before .before .before .before .before .before .fill-options .last .1 .1 .1 .1 .1 .1 .0) (drop (positions d - 0) (replicate {A = ℕ} 128 0)) (positions d - 0) full in
-    (rw again (c .before .before .before .before .before .before .fill-options .ensures .0), c .before .before .before .before .before .before .before .before .before .before .before .before .before .before .before .before .before .pre .1 .0)
+    let d : Design = lent (c .before .before .before .before .before .before .before .before .before .before .before .before .before .before .before .before .before .before .args .scaffold) (c .before .before .before .before .before .before .before .before .before .before .before .before .before .before .before .before .before .before .args .marks) (c .before .before .before .before .before .before .before .before .before .before .before .before .before .before .before .before .before .before .args .glues) (c .before .before .before .before .before .before .before .before .before .before .before .before .before .before .before .before .before .before .args .dg) (c .before .before .before .before .before .before .before .before .before .before .before .before .before .before .before .before .before .before .args .ds) (c .before .before .before .before .before .before .before .before .before .before .before .before .before .before .before .before .before .before .args .potentials) (c .before .before .before .before .before .before .before .before .before .before .before .before .before .before .before .before .before .before .args .ambient) in
+    let number : length (c .before .before .before .before .before .before .fill-options .last .1 .1 .1 .1 .1 .1 .1 .0) ≡ positions d = placed d (c .before .before .before .before .before .before .fill-options .ensures .1 (modelOf d) refl) in
+    let full : length (c .before .before .before .before .before .before .fill-options .last .1 .1 .1 .1 .1 .1 .1 .0) ≡ positions d - 0 = omega (arith, number) in
+    let again = take-at (c .before .before .before .before .before .before .fill-options .last .1 .1 .1 .1 .1 .1 .1 .0) (drop (positions d - 0) (replicate {A = ℕ} 128 0)) (positions d - 0) full in
+    (rw again (c .before .before .before .before .before .before .fill-options .ensures .0), c .before .before .before .before .before .before .before .before .before .before .before .before .before .before .before .before .before .before .pre .1 .0)
 
 slice-aggregate-fill-needed-scaffold-bonds : tie.Need-slice-aggregate-fill-needed-scaffold-bonds
 slice-aggregate-fill-needed-scaffold-bonds c = search needs
@@ -77,18 +77,18 @@ part-fill-needed-scaffold-bonds-start c = search needs
 part-fill-needed-scaffold-bonds-end : tie.Need-part-fill-needed-scaffold-bonds-end
 unfolding modelOf
 part-fill-needed-scaffold-bonds-end c =
-    let d : Design = lent (c .before .before .before .before .before .before .before .before .before .before .before .before .before .before .before .before .before .before .before .before .before .before .args .scaffold) (c .before .before .before .before .before .before .before .before .before .before .before .before .before .before .before .before .before .before .before .before .before .before .args .glues) (c .before .before .before .before .before .before .before .before .before .before .before .before .before .before .before .before .before .before .before .before .before .before .args .dg) (c .before .before .before .before .before .before .before .before .before .before .before .before .before .before .before .before .before .before .before .before .before .before .args .ds) (c .before .before .before .before .before .before .before .before .before .before .before .before .before .before .before .before .before .before .before .before .before .before .args .potentials) (c .before .before .before .before .before .before .before .before .before .before .before .before .before .before .before .before .before .before .before .before .before .before .args .ambient) in
-    let number : length (c .before .before .before .before .before .before .before .before .before .before .before .fill-options .last .1 .1 .1 .1 .1 .1 .0) ≡ positions d = placed d (c .before .before .before .before .before .before .before .before .before .before .before .fill-options .ensures .1 (modelOf d) refl) in
+    let d : Design = lent (c .before .before .before .before .before .before .before .before .before .before .before .before .before .before .before .before .before .before .before .before .before .before .before .args .scaffold) (c .before .before .before .before .before .before .before .before .before .before .before .before .before .before .before .before .before .before .before .before .before .before .before .args .marks) (c .before .before .before .before .before .before .before .before .before .before .before .before .before .before .before .before .before .before .before .before .before .before .before .args .glues) (c .before .before .before .before .before .before .before .before .before .before .before .before .before .before .before .before .before .before .before .before .before .before .before .args .dg) (c .before .before .before .before .before .before .before .before .before .before .before .before .before .before .before .before .before .before .before .before .before .before .before .args .ds) (c .before .before .before .before .before .before .before .before .before .before .before .before .before .before .before .before .before .before .before .before .before .before .before .args .potentials) (c .before .before .before .before .before .before .before .before .before .before .before .before .before .before .before .before .before .before .before .before .before .before .before .args .ambient) in
+    let number : length (c .before .before .before .before .before .before .before .before .before .before .before .fill-options .last .1 .1 .1 .1 .1 .1 .1 .0) ≡ positions d = placed d (c .before .before .before .before .before .before .before .before .before .before .before .fill-options .ensures .1 (modelOf d) refl) in
     simp length-append (omega arith)
 
 fill-needed-scaffold-bonds-requires : tie.Need-fill-needed-scaffold-bonds-requires
 unfolding modelOf
 fill-needed-scaffold-bonds-requires c κs =
-    let d : Design = lent (c .before .before .before .before .before .before .before .before .before .before .before .before .before .before .before .before .before .before .before .before .before .before .before .before .args .scaffold) (c .before .before .before .before .before .before .before .before .before .before .before .before .before .before .before .before .before .before .before .before .before .before .before .before .args .glues) (c .before .before .before .before .before .before .before .before .before .before .before .before .before .before .before .before .before .before .before .before .before .before .before .before .args .dg) (c .before .before .before .before .before .before .before .before .before .before .before .before .before .before .before .before .before .before .before .before .before .before .before .before .args .ds) (c .before .before .before .before .before .before .before .before .before .before .before .before .before .before .before .before .before .before .before .before .before .before .before .before .args .potentials) (c .before .before .before .before .before .before .before .before .before .before .before .before .before .before .before .before .before .before .before .before .before .before .before .before .args .ambient) in
-    let number : length (c .before .before .before .before .before .before .before .before .before .before .before .before .before .fill-options .last .1 .1 .1 .1 .1 .1 .0) ≡ positions d = placed d (c .before .before .before .before .before .before .before .before .before .before .before .before .before .fill-options .ensures .1 (modelOf d) refl) in
-    let full : length (c .before .before .before .before .before .before .before .before .before .before .before .before .before .fill-options .last .1 .1 .1 .1 .1 .1 .0) ≡ positions d - 0 = omega (arith, number) in
-    let again = take-at (c .before .before .before .before .before .before .before .before .before .before .before .before .before .fill-options .last .1 .1 .1 .1 .1 .1 .0) (drop (positions d - 0) (replicate {A = ℕ} 128 0)) (positions d - 0) full in
-    (rw again (c .before .before .before .before .before .before .before .before .before .before .before .before .before .fill-options .ensures .0), rw (again, number) (c .before .before .before .before .before .before .before .before .before .before .before .before .before .before .before .before .before .before .before .before .before .before .before .before .pre .1 .1 .0))
+    let d : Design = lent (c .before .before .before .before .before .before .before .before .before .before .before .before .before .before .before .before .before .before .before .before .before .before .before .before .before .args .scaffold) (c .before .before .before .before .before .before .before .before .before .before .before .before .before .before .before .before .before .before .before .before .before .before .before .before .before .args .marks) (c .before .before .before .before .before .before .before .before .before .before .before .before .before .before .before .before .before .before .before .before .before .before .before .before .before .args .glues) (c .before .before .before .before .before .before .before .before .before .before .before .before .before .before .before .before .before .before .before .before .before .before .before .before .before .args .dg) (c .before .before .before .before .before .before .before .before .before .before .before .before .before .before .before .before .before .before .before .before .before .before .before .before .before .args .ds) (c .before .before .before .before .before .before .before .before .before .before .before .before .before .before .before .before .before .before .before .before .before .before .before .before .before .args .potentials) (c .before .before .before .before .before .before .before .before .before .before .before .before .before .before .before .before .before .before .before .before .before .before .before .before .before .args .ambient) in
+    let number : length (c .before .before .before .before .before .before .before .before .before .before .before .before .before .fill-options .last .1 .1 .1 .1 .1 .1 .1 .0) ≡ positions d = placed d (c .before .before .before .before .before .before .before .before .before .before .before .before .before .fill-options .ensures .1 (modelOf d) refl) in
+    let full : length (c .before .before .before .before .before .before .before .before .before .before .before .before .before .fill-options .last .1 .1 .1 .1 .1 .1 .1 .0) ≡ positions d - 0 = omega (arith, number) in
+    let again = take-at (c .before .before .before .before .before .before .before .before .before .before .before .before .before .fill-options .last .1 .1 .1 .1 .1 .1 .1 .0) (drop (positions d - 0) (replicate {A = ℕ} 128 0)) (positions d - 0) full in
+    (rw again (c .before .before .before .before .before .before .before .before .before .before .before .before .before .fill-options .ensures .0), rw (again, number) (c .before .before .before .before .before .before .before .before .before .before .before .before .before .before .before .before .before .before .before .before .before .before .before .before .before .pre .1 .1 .0))
 
 slice-aggregate-lowest : tie.Need-slice-aggregate-lowest
 slice-aggregate-lowest c = search needs
@@ -102,20 +102,20 @@ part-lowest-start c = search needs
 part-lowest-end : tie.Need-part-lowest-end
 unfolding modelOf
 part-lowest-end c =
-    let d : Design = lent (c .before .before .before .before .before .before .before .before .before .before .before .before .before .before .before .before .before .before .before .before .before .before .before .before .before .before .before .before .before .args .scaffold) (c .before .before .before .before .before .before .before .before .before .before .before .before .before .before .before .before .before .before .before .before .before .before .before .before .before .before .before .before .before .args .glues) (c .before .before .before .before .before .before .before .before .before .before .before .before .before .before .before .before .before .before .before .before .before .before .before .before .before .before .before .before .before .args .dg) (c .before .before .before .before .before .before .before .before .before .before .before .before .before .before .before .before .before .before .before .before .before .before .before .before .before .before .before .before .before .args .ds) (c .before .before .before .before .before .before .before .before .before .before .before .before .before .before .before .before .before .before .before .before .before .before .before .before .before .before .before .before .before .args .potentials) (c .before .before .before .before .before .before .before .before .before .before .before .before .before .before .before .before .before .before .before .before .before .before .before .before .before .before .before .before .before .args .ambient) in
-    let number : length (c .before .before .before .before .before .before .before .before .before .before .before .before .before .before .before .before .before .before .fill-options .last .1 .1 .1 .1 .1 .1 .0) ≡ positions d = placed d (c .before .before .before .before .before .before .before .before .before .before .before .before .before .before .before .before .before .before .fill-options .ensures .1 (modelOf d) refl) in
+    let d : Design = lent (c .before .before .before .before .before .before .before .before .before .before .before .before .before .before .before .before .before .before .before .before .before .before .before .before .before .before .before .before .before .before .args .scaffold) (c .before .before .before .before .before .before .before .before .before .before .before .before .before .before .before .before .before .before .before .before .before .before .before .before .before .before .before .before .before .before .args .marks) (c .before .before .before .before .before .before .before .before .before .before .before .before .before .before .before .before .before .before .before .before .before .before .before .before .before .before .before .before .before .before .args .glues) (c .before .before .before .before .before .before .before .before .before .before .before .before .before .before .before .before .before .before .before .before .before .before .before .before .before .before .before .before .before .before .args .dg) (c .before .before .before .before .before .before .before .before .before .before .before .before .before .before .before .before .before .before .before .before .before .before .before .before .before .before .before .before .before .before .args .ds) (c .before .before .before .before .before .before .before .before .before .before .before .before .before .before .before .before .before .before .before .before .before .before .before .before .before .before .before .before .before .before .args .potentials) (c .before .before .before .before .before .before .before .before .before .before .before .before .before .before .before .before .before .before .before .before .before .before .before .before .before .before .before .before .before .before .args .ambient) in
+    let number : length (c .before .before .before .before .before .before .before .before .before .before .before .before .before .before .before .before .before .before .fill-options .last .1 .1 .1 .1 .1 .1 .1 .0) ≡ positions d = placed d (c .before .before .before .before .before .before .before .before .before .before .before .before .before .before .before .before .before .before .fill-options .ensures .1 (modelOf d) refl) in
     simp length-append (omega arith)
 
 lowest-requires : tie.Need-lowest-requires
 unfolding modelOf
 lowest-requires c κs =
-    let d : Design = lent (c .before .before .before .before .before .before .before .before .before .before .before .before .before .before .before .before .before .before .before .before .before .before .before .before .before .before .before .before .before .before .before .before .before .args .scaffold) (c .before .before .before .before .before .before .before .before .before .before .before .before .before .before .before .before .before .before .before .before .before .before .before .before .before .before .before .before .before .before .before .before .before .args .glues) (c .before .before .before .before .before .before .before .before .before .before .before .before .before .before .before .before .before .before .before .before .before .before .before .before .before .before .before .before .before .before .before .before .before .args .dg) (c .before .before .before .before .before .before .before .before .before .before .before .before .before .before .before .before .before .before .before .before .before .before .before .before .before .before .before .before .before .before .before .before .before .args .ds) (c .before .before .before .before .before .before .before .before .before .before .before .before .before .before .before .before .before .before .before .before .before .before .before .before .before .before .before .before .before .before .before .before .before .args .potentials) (c .before .before .before .before .before .before .before .before .before .before .before .before .before .before .before .before .before .before .before .before .before .before .before .before .before .before .before .before .before .before .before .before .before .args .ambient) in
-    let number : length (c .before .before .before .before .before .before .before .before .before .before .before .before .before .before .before .before .before .before .before .before .before .before .fill-options .last .1 .1 .1 .1 .1 .1 .0) ≡ positions d = placed d (c .before .before .before .before .before .before .before .before .before .before .before .before .before .before .before .before .before .before .before .before .before .before .fill-options .ensures .1 (modelOf d) refl) in
-    let full : length (c .before .before .before .before .before .before .before .before .before .before .before .before .before .before .before .before .before .before .before .before .before .before .fill-options .last .1 .1 .1 .1 .1 .1 .0) ≡ positions d - 0 = omega (arith, number) in
-    let again = take-at (c .before .before .before .before .before .before .before .before .before .before .before .before .before .before .before .before .before .before .before .before .before .before .fill-options .last .1 .1 .1 .1 .1 .1 .0) (drop (positions d - 0) (replicate {A = ℕ} 128 0)) (positions d - 0) full in
+    let d : Design = lent (c .before .before .before .before .before .before .before .before .before .before .before .before .before .before .before .before .before .before .before .before .before .before .before .before .before .before .before .before .before .before .before .before .before .before .args .scaffold) (c .before .before .before .before .before .before .before .before .before .before .before .before .before .before .before .before .before .before .before .before .before .before .before .before .before .before .before .before .before .before .before .before .before .before .args .marks) (c .before .before .before .before .before .before .before .before .before .before .before .before .before .before .before .before .before .before .before .before .before .before .before .before .before .before .before .before .before .before .before .before .before .before .args .glues) (c .before .before .before .before .before .before .before .before .before .before .before .before .before .before .before .before .before .before .before .before .before .before .before .before .before .before .before .before .before .before .before .before .before .before .args .dg) (c .before .before .before .before .before .before .before .before .before .before .before .before .before .before .before .before .before .before .before .before .before .before .before .before .before .before .before .before .before .before .before .before .before .before .args .ds) (c .before .before .before .before .before .before .before .before .before .before .before .before .before .before .before .before .before .before .before .before .before .before .before .before .before .before .before .before .before .before .before .before .before .before .args .potentials) (c .before .before .before .before .before .before .before .before .before .before .before .before .before .before .before .before .before .before .before .before .before .before .before .before .before .before .before .before .before .before .before .before .before .before .args .ambient) in
+    let number : length (c .before .before .before .before .before .before .before .before .before .before .before .before .before .before .before .before .before .before .before .before .before .before .fill-options .last .1 .1 .1 .1 .1 .1 .1 .0) ≡ positions d = placed d (c .before .before .before .before .before .before .before .before .before .before .before .before .before .before .before .before .before .before .before .before .before .before .fill-options .ensures .1 (modelOf d) refl) in
+    let full : length (c .before .before .before .before .before .before .before .before .before .before .before .before .before .before .before .before .before .before .before .before .before .before .fill-options .last .1 .1 .1 .1 .1 .1 .1 .0) ≡ positions d - 0 = omega (arith, number) in
+    let again = take-at (c .before .before .before .before .before .before .before .before .before .before .before .before .before .before .before .before .before .before .before .before .before .before .fill-options .last .1 .1 .1 .1 .1 .1 .1 .0) (drop (positions d - 0) (replicate {A = ℕ} 128 0)) (positions d - 0) full in
     let bonds = c .before .before .before .before .before .before .before .before .before .before .before .before .before .before .before .fill-read-strand-bonds in
     let sites = c .before .before .before .before .before .before .before .before .fill-needed-scaffold-bonds in
-    (rw again (c .before .before .before .before .before .before .before .before .before .before .before .before .before .before .before .before .before .before .before .before .before .before .fill-options .ensures .0), (omega (arith, c .before .before .before .before .before .before .before .before .before .before .before .before .before .before .before .before .before .before .before .before .before .before .before .before .before .before .before .before .before .before .before .before .before .pre .1 .0), (rw (again, number) (omega (arith, c .before .before .before .before .before .before .before .before .before .before .before .before .before .before .before .before .before .before .before .before .before .before .before .before .before .before .before .before .before .before .before .before .before .pre .1 .1 .0)), rw (again, number) (c .before .before .before .before .before .before .before .before .before .before .before .before .before .before .before .before .before .before .before .before .before .before .before .before .before .before .before .before .before .before .before .before .before .pre .1 .1 .1))))
+    (rw again (c .before .before .before .before .before .before .before .before .before .before .before .before .before .before .before .before .before .before .before .before .before .before .fill-options .ensures .0), (omega (arith, c .before .before .before .before .before .before .before .before .before .before .before .before .before .before .before .before .before .before .before .before .before .before .before .before .before .before .before .before .before .before .before .before .before .before .pre .1 .0), (rw (again, number) (omega (arith, c .before .before .before .before .before .before .before .before .before .before .before .before .before .before .before .before .before .before .before .before .before .before .before .before .before .before .before .before .before .before .before .before .before .before .pre .1 .1 .0)), rw (again, number) (c .before .before .before .before .before .before .before .before .before .before .before .before .before .before .before .before .before .before .before .before .before .before .before .before .before .before .before .before .before .before .before .before .before .before .pre .1 .1 .1))))
 
 same-length : tie.Need-same-length
 same-length c = search needs
@@ -129,12 +129,12 @@ same-length-3 c = search needs
 returns : tie.Need-returns
 unfolding modelOf
 returns c =
-    let d : Design = lent (c .before .before .before .before .before .before .before .before .before .before .before .before .before .before .before .before .before .before .before .before .before .before .before .before .before .before .before .before .before .before .before .before .before .before .before .before .args .scaffold) (c .before .before .before .before .before .before .before .before .before .before .before .before .before .before .before .before .before .before .before .before .before .before .before .before .before .before .before .before .before .before .before .before .before .before .before .before .args .glues) (c .before .before .before .before .before .before .before .before .before .before .before .before .before .before .before .before .before .before .before .before .before .before .before .before .before .before .before .before .before .before .before .before .before .before .before .before .args .dg) (c .before .before .before .before .before .before .before .before .before .before .before .before .before .before .before .before .before .before .before .before .before .before .before .before .before .before .before .before .before .before .before .before .before .before .before .before .args .ds) (c .before .before .before .before .before .before .before .before .before .before .before .before .before .before .before .before .before .before .before .before .before .before .before .before .before .before .before .before .before .before .before .before .before .before .before .before .args .potentials) (c .before .before .before .before .before .before .before .before .before .before .before .before .before .before .before .before .before .before .before .before .before .before .before .before .before .before .before .before .before .before .before .before .before .before .before .before .args .ambient) in
-    let number : length (c .before .before .before .before .before .before .before .before .before .before .before .before .before .before .before .before .before .before .before .before .before .before .before .before .before .fill-options .last .1 .1 .1 .1 .1 .1 .0) ≡ positions d = placed d (c .before .before .before .before .before .before .before .before .before .before .before .before .before .before .before .before .before .before .before .before .before .before .before .before .before .fill-options .ensures .1 (modelOf d) refl) in
-    let full : length (c .before .before .before .before .before .before .before .before .before .before .before .before .before .before .before .before .before .before .before .before .before .before .before .before .before .fill-options .last .1 .1 .1 .1 .1 .1 .0) ≡ positions d - 0 = omega (arith, number) in
-    let again = take-at (c .before .before .before .before .before .before .before .before .before .before .before .before .before .before .before .before .before .before .before .before .before .before .before .before .before .fill-options .last .1 .1 .1 .1 .1 .1 .0) (drop (positions d - 0) (replicate {A = ℕ} 128 0)) (positions d - 0) full in
+    let d : Design = lent (c .before .before .before .before .before .before .before .before .before .before .before .before .before .before .before .before .before .before .before .before .before .before .before .before .before .before .before .before .before .before .before .before .before .before .before .before .before .args .scaffold) (c .before .before .before .before .before .before .before .before .before .before .before .before .before .before .before .before .before .before .before .before .before .before .before .before .before .before .before .before .before .before .before .before .before .before .before .before .before .args .marks) (c .before .before .before .before .before .before .before .before .before .before .before .before .before .before .before .before .before .before .before .before .before .before .before .before .before .before .before .before .before .before .before .before .before .before .before .before .before .args .glues) (c .before .before .before .before .before .before .before .before .before .before .before .before .before .before .before .before .before .before .before .before .before .before .before .before .before .before .before .before .before .before .before .before .before .before .before .before .before .args .dg) (c .before .before .before .before .before .before .before .before .before .before .before .before .before .before .before .before .before .before .before .before .before .before .before .before .before .before .before .before .before .before .before .before .before .before .before .before .before .args .ds) (c .before .before .before .before .before .before .before .before .before .before .before .before .before .before .before .before .before .before .before .before .before .before .before .before .before .before .before .before .before .before .before .before .before .before .before .before .before .args .potentials) (c .before .before .before .before .before .before .before .before .before .before .before .before .before .before .before .before .before .before .before .before .before .before .before .before .before .before .before .before .before .before .before .before .before .before .before .before .before .args .ambient) in
+    let number : length (c .before .before .before .before .before .before .before .before .before .before .before .before .before .before .before .before .before .before .before .before .before .before .before .before .before .fill-options .last .1 .1 .1 .1 .1 .1 .1 .0) ≡ positions d = placed d (c .before .before .before .before .before .before .before .before .before .before .before .before .before .before .before .before .before .before .before .before .before .before .before .before .before .fill-options .ensures .1 (modelOf d) refl) in
+    let full : length (c .before .before .before .before .before .before .before .before .before .before .before .before .before .before .before .before .before .before .before .before .before .before .before .before .before .fill-options .last .1 .1 .1 .1 .1 .1 .1 .0) ≡ positions d - 0 = omega (arith, number) in
+    let again = take-at (c .before .before .before .before .before .before .before .before .before .before .before .before .before .before .before .before .before .before .before .before .before .before .before .before .before .fill-options .last .1 .1 .1 .1 .1 .1 .1 .0) (drop (positions d - 0) (replicate {A = ℕ} 128 0)) (positions d - 0) full in
     let options = c .before .before .before .before .before .before .before .before .before .before .before .before .before .before .before .before .before .before .before .before .before .before .before .before .before .fill-options .ensures .1 (modelOf d) refl in
-    c .before .before .lowest .ensures (modelOf d) (rw again options) (bond-cells d (c .before .before .before .before .before .before .before .before .before .before .before .before .before .before .before .before .before .before .before .before .before .before .before .before .before .before .before .before .before .before .before .before .before .before .before .before .pre .0) options (rw again at (c .before .before .before .before .before .before .before .before .before .before .before .before .before .before .before .before .before .before .fill-read-strand-bonds .ensures)) (rw again at (c .before .before .before .before .before .before .before .before .before .before .before .fill-needed-scaffold-bonds .ensures))) refl
+    c .before .before .lowest .ensures (modelOf d) (rw again options) (bond-cells d (c .before .before .before .before .before .before .before .before .before .before .before .before .before .before .before .before .before .before .before .before .before .before .before .before .before .before .before .before .before .before .before .before .before .before .before .before .before .pre .0) options (rw again at (c .before .before .before .before .before .before .before .before .before .before .before .before .before .before .before .before .before .before .fill-read-strand-bonds .ensures)) (rw again at (c .before .before .before .before .before .before .before .before .before .before .before .fill-needed-scaffold-bonds .ensures))) refl
 
 pub settled-spec : {M : Type 1} → statement M
 settled-spec =

@@ -9,7 +9,7 @@ use Rattle.mfe.proofs.with_scaffold_bonds.Tie as tie
 
 mul-cells : tie.Need-mul-cells
 mul-cells c =
-    let z = sized (lent (c .before .before .before .before .before .before .before .args .scaffold) (c .before .before .before .before .before .before .before .args .glues) (c .before .before .before .before .before .before .before .args .dg) (c .before .before .before .before .before .before .before .args .ds) (c .before .before .before .before .before .before .before .args .potentials) (c .before .before .before .before .before .before .before .args .ambient)) (c .before .before .before .before .before .before .before .pre .0 .sizes) in
+    let z = sized (lent (c .before .before .before .before .before .before .before .before .args .scaffold) (c .before .before .before .before .before .before .before .before .args .marks) (c .before .before .before .before .before .before .before .before .args .glues) (c .before .before .before .before .before .before .before .before .args .dg) (c .before .before .before .before .before .before .before .before .args .ds) (c .before .before .before .before .before .before .before .before .args .potentials) (c .before .before .before .before .before .before .before .before .args .ambient)) (c .before .before .before .before .before .before .before .before .pre .0 .sizes) in
     let room = mul-le-mul (z .short) (z .few) in
     omega arith
 
@@ -19,7 +19,7 @@ slice-aggregate-settled c = search needs
 settled-requires : tie.Need-settled-requires
 settled-requires c κs =
     let fits = c .before .before .before .if1 .taken in
-    (c .before .before .before .before .before .before .before .before .before .before .before .pre .0, (c .before .before .before .before .before .before .before .before .before .before .before .pre .1 .0, (omega arith, c .before .before .before .before .before .before .before .before .before .before .before .pre .1 .1)))
+    (c .before .before .before .before .before .before .before .before .before .before .before .before .pre .0, (c .before .before .before .before .before .before .before .before .before .before .before .before .pre .1 .0, (omega arith, c .before .before .before .before .before .before .before .before .before .before .before .before .pre .1 .1)))
 
 same-length : tie.Need-same-length
 same-length c = search needs
@@ -36,7 +36,7 @@ slice-aggregate-settled-2 c = search needs
 settled-requires-2 : tie.Need-settled-requires-2
 settled-requires-2 c κs =
     let fits = c .before .before .before .if2 .taken in
-    (c .before .before .before .before .before .before .before .before .before .before .before .before .pre .0, (c .before .before .before .before .before .before .before .before .before .before .before .before .pre .1 .0, (omega arith, c .before .before .before .before .before .before .before .before .before .before .before .before .pre .1 .1)))
+    (c .before .before .before .before .before .before .before .before .before .before .before .before .before .pre .0, (c .before .before .before .before .before .before .before .before .before .before .before .before .before .pre .1 .0, (omega arith, c .before .before .before .before .before .before .before .before .before .before .before .before .before .pre .1 .1)))
 
 same-length-3 : tie.Need-same-length-3
 same-length-3 c = search needs
@@ -52,9 +52,9 @@ slice-aggregate-settled-3 c = search needs
 
 settled-requires-3 : tie.Need-settled-requires-3
 settled-requires-3 c κs =
-    let z = sized (lent (c .before .before .before .before .before .before .before .before .before .before .before .before .args .scaffold) (c .before .before .before .before .before .before .before .before .before .before .before .before .args .glues) (c .before .before .before .before .before .before .before .before .before .before .before .before .args .dg) (c .before .before .before .before .before .before .before .before .before .before .before .before .args .ds) (c .before .before .before .before .before .before .before .before .before .before .before .before .args .potentials) (c .before .before .before .before .before .before .before .before .before .before .before .before .args .ambient)) (c .before .before .before .before .before .before .before .before .before .before .before .before .pre .0 .sizes) in
+    let z = sized (lent (c .before .before .before .before .before .before .before .before .before .before .before .before .before .args .scaffold) (c .before .before .before .before .before .before .before .before .before .before .before .before .before .args .marks) (c .before .before .before .before .before .before .before .before .before .before .before .before .before .args .glues) (c .before .before .before .before .before .before .before .before .before .before .before .before .before .args .dg) (c .before .before .before .before .before .before .before .before .before .before .before .before .before .args .ds) (c .before .before .before .before .before .before .before .before .before .before .before .before .before .args .potentials) (c .before .before .before .before .before .before .before .before .before .before .before .before .before .args .ambient)) (c .before .before .before .before .before .before .before .before .before .before .before .before .before .pre .0 .sizes) in
     let room = mul-le-mul (z .short) (z .few) in
-    (c .before .before .before .before .before .before .before .before .before .before .before .before .pre .0, (c .before .before .before .before .before .before .before .before .before .before .before .before .pre .1 .0, (omega arith, c .before .before .before .before .before .before .before .before .before .before .before .before .pre .1 .1)))
+    (c .before .before .before .before .before .before .before .before .before .before .before .before .before .pre .0, (c .before .before .before .before .before .before .before .before .before .before .before .before .before .pre .1 .0, (omega arith, c .before .before .before .before .before .before .before .before .before .before .before .before .before .pre .1 .1)))
 
 same-length-5 : tie.Need-same-length-5
 same-length-5 c = search needs

@@ -12,14 +12,14 @@ use Rattle.sdc1d.proofs.bond_with_scaffold.Tie as tie
 
 returns : tie.Need-returns
 returns c =
-    let a = c .before .before .before .before .before .before .before .before .before .before .args in
-    let d : Design = lent (a .scaffold) (a .glues) (a .dg) (a .ds) (a .potentials) (a .ambient) in
+    let a = c .before .before .before .before .before .before .before .before .before .before .before .args in
+    let d : Design = lent (a .scaffold) (a .marks) (a .glues) (a .dg) (a .ds) (a .potentials) (a .ambient) in
     refused-by zero (scaffoldBondIn d (a .position) (a .strand)) (replied d (c .before .before .before .design-reply .ensures) (c .before .before .before .before .either .ensures) (c .before .refusal .given .1))
 
 returns-2 : tie.Need-returns-2
 returns-2 c =
-    let a = c .before .before .before .before .before .before .before .before .before .before .before .args in
-    let d : Design = lent (a .scaffold) (a .glues) (a .dg) (a .ds) (a .potentials) (a .ambient) in
+    let a = c .before .before .before .before .before .before .before .before .before .before .before .before .args in
+    let d : Design = lent (a .scaffold) (a .marks) (a .glues) (a .dg) (a .ds) (a .potentials) (a .ambient) in
     ap given (c .scaffold-bond .ensures ∙ ap (λ (g : ℕ). scaffoldBond g (d .glues) (d .dg) (d .ds) (d .ambient) (a .strand)) (c .before .byte-at .ensures)) ∙ answered-by zero (scaffoldBondIn d (a .position) (a .strand)) (replied d (c .before .before .before .before .design-reply .ensures) (c .before .before .before .before .before .either .ensures) (c .before .before .enum-told .given .1))
 
 pub bond-with-scaffold-spec : {M : Type 1} → statement M

@@ -12,23 +12,23 @@ use Rattle.sdc1d.proofs.count_options.Tie as tie
 
 cast-fill-options : tie.Need-cast-fill-options
 cast-fill-options c =
-    let a = c .before .before .before .before .before .before .before .args in
-    let d : Design = lent (a .scaffold) (a .glues) (a .dg) (a .ds) (a .potentials) (a .ambient) in
-    let few = sized d (c .before .before .before .before .before .before .before .pre .0 .sizes) .few in
+    let a = c .before .before .before .before .before .before .before .before .args in
+    let d : Design = lent (a .scaffold) (a .marks) (a .glues) (a .dg) (a .ds) (a .potentials) (a .ambient) in
+    let few = sized d (c .before .before .before .before .before .before .before .before .pre .0 .sizes) .few in
     omega arith
 
 fill-options-requires : tie.Need-fill-options-requires
 fill-options-requires c κs =
-    let a = c .before .before .before .before .before .before .before .before .before .args in
-    let d : Design = lent (a .scaffold) (a .glues) (a .dg) (a .ds) (a .potentials) (a .ambient) in
-    let z = sized d (c .before .before .before .before .before .before .before .before .before .pre .0 .sizes) in
-    (z .null, (z .few, (z .short, (c .before .before .before .before .before .before .before .before .before .pre .1 .0, (c .before .before .before .before .before .before .before .before .before .pre .1 .1, null-nowhere d (c .before .before .before .before .before .before .before .before .before .pre .0))))))
+    let a = c .before .before .before .before .before .before .before .before .before .before .args in
+    let d : Design = lent (a .scaffold) (a .marks) (a .glues) (a .dg) (a .ds) (a .potentials) (a .ambient) in
+    let z = sized d (c .before .before .before .before .before .before .before .before .before .before .pre .0 .sizes) in
+    (z .null, (z .few, (z .short, (c .before .before .before .before .before .before .before .before .before .before .pre .1 .0, (c .before .before .before .before .before .before .before .before .before .before .pre .1 .1, null-nowhere d (c .before .before .before .before .before .before .before .before .before .before .pre .0))))))
 
 returns : tie.Need-returns
 unfolding modelOf
 returns c =
-    let a = c .before .before .before .before .before .before .before .before .before .before .before .before .before .before .before .before .args in
-    let d : Design = lent (a .scaffold) (a .glues) (a .dg) (a .ds) (a .potentials) (a .ambient) in
+    let a = c .before .before .before .before .before .before .before .before .before .before .before .before .before .before .before .before .before .args in
+    let d : Design = lent (a .scaffold) (a .marks) (a .glues) (a .dg) (a .ds) (a .potentials) (a .ambient) in
     let options = c .before .before .before .before .before .before .fill-options .ensures .1 (modelOf d) refl in
     (c .state-count .ensures ∙ ap (λ (n : ℕ). min n 1048577) (product-is options), options)
 

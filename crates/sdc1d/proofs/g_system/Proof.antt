@@ -16,32 +16,32 @@ use Rattle.sdc1d.proofs.g_system.Tie as tie
 
 fill-terms-requires : tie.Need-fill-terms-requires
 fill-terms-requires c κs =
-    let a = c .before .before .before .before .before .before .before .before .before .before .before .before .args in
-    let d : Design = lent (a .scaffold) (a .glues) (a .dg) (a .ds) (a .potentials) (a .ambient) in
+    let a = c .before .before .before .before .before .before .before .before .before .before .before .before .before .args in
+    let d : Design = lent (a .scaffold) (a .marks) (a .glues) (a .dg) (a .ds) (a .potentials) (a .ambient) in
     let few : length (a .attachments .now) ≤ 128 = few-places d (a .attachments .now) (sym (c .before .before .before .before .before .energy-reply .ensures) ∙ c .before .before .before .enum-told .given .1) in
     (omega arith, (omega arith, omega arith))
 
 state-sum-requires : tie.Need-state-sum-requires
 state-sum-requires c κs =
-    let a = c .before .before .before .before .before .before .before .before .before .before .before .before .before .before .before .before .before .before .before .args in
-    let d : Design = lent (a .scaffold) (a .glues) (a .dg) (a .ds) (a .potentials) (a .ambient) in
+    let a = c .before .before .before .before .before .before .before .before .before .before .before .before .before .before .before .before .before .before .before .before .args in
+    let d : Design = lent (a .scaffold) (a .marks) (a .glues) (a .dg) (a .ds) (a .potentials) (a .ambient) in
     let few : length (a .attachments .now) ≤ 128 = few-places d (a .attachments .now) (sym (c .before .before .before .before .before .before .before .before .before .before .before .before .energy-reply .ensures) ∙ c .before .before .before .before .before .before .before .before .before .before .enum-told .given .1) in
     (omega arith, (omega arith, omega arith))
 
 returns : tie.Need-returns
 returns c =
-    let a = c .before .before .before .before .before .before .before .before .before .before .args in
-    let d : Design = lent (a .scaffold) (a .glues) (a .dg) (a .ds) (a .potentials) (a .ambient) in
+    let a = c .before .before .before .before .before .before .before .before .before .before .before .args in
+    let d : Design = lent (a .scaffold) (a .marks) (a .glues) (a .dg) (a .ds) (a .potentials) (a .ambient) in
     let s = a .attachments .now in
     refused-by zero (stateEnergy (modelOf d) s) (sym (c .before .before .before .energy-reply .ensures) ∙ c .before .refusal .given .1)
 
 returns-2 : tie.Need-returns-2
 unfolding stateEnergy modelOf
 returns-2 c =
-    let a = c .before .before .before .before .before .before .before .before .before .before .before .before .before .before .before .before .before .before .before .before .before .args in
-    let d : Design = lent (a .scaffold) (a .glues) (a .dg) (a .ds) (a .potentials) (a .ambient) in
+    let a = c .before .before .before .before .before .before .before .before .before .before .before .before .before .before .before .before .before .before .before .before .before .before .args in
+    let d : Design = lent (a .scaffold) (a .marks) (a .glues) (a .dg) (a .ds) (a .potentials) (a .ambient) in
     let s = a .attachments .now in
-    let sum = c .before .state-sum .ensures (modelOf d) (c .before .before .before .before .before .before .before .before .fill-terms .ensures) in
+    let sum = c .before .state-sum .ensures (modelOf d) (c .before .before .before .before .before .before .before .before .fill-terms .ensures (d .marks)) in
     let energy : c .scale .result .0 ≡ stateEnergy (modelOf d) s = c .scale .ensures ∙ ap (λ (x : Float). mul binary64 x (a .ambient .rt .0)) sum in
     ap given energy ∙ answered-by zero (stateEnergy (modelOf d) s) (sym (c .before .before .before .before .before .before .before .before .before .before .before .before .before .before .energy-reply .ensures) ∙ c .before .before .before .before .before .before .before .before .before .before .before .before .enum-told .given .1)
 

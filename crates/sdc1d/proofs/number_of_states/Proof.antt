@@ -24,43 +24,43 @@ use Rattle.sdc1d.proofs.number_of_states.Tie as tie
 
 part-counts-end : tie.Need-part-counts-end
 part-counts-end c =
-    let a = c .before .before .before .before .before .before .before .before .before .args in
-    let d : Design = lent (a .scaffold) (a .glues) (a .dg) (a .ds) (a .potentials) (a .ambient) in
+    let a = c .before .before .before .before .before .before .before .before .before .before .args in
+    let d : Design = lent (a .scaffold) (a .marks) (a .glues) (a .dg) (a .ds) (a .potentials) (a .ambient) in
     let short = sized d (tabled false d (sym (c .before .before .before .tables-reply .ensures) ∙ c .before .enum-told .given .1) .tables .sizes) .short in
     omega arith
 
 count-options-requires : tie.Need-count-options-requires
 count-options-requires c κs =
-    let a = c .before .before .before .before .before .before .before .before .before .before .args in
-    let d : Design = lent (a .scaffold) (a .glues) (a .dg) (a .ds) (a .potentials) (a .ambient) in
+    let a = c .before .before .before .before .before .before .before .before .before .before .before .args in
+    let d : Design = lent (a .scaffold) (a .marks) (a .glues) (a .dg) (a .ds) (a .potentials) (a .ambient) in
     let t = tabled false d (sym (c .before .before .before .before .tables-reply .ensures) ∙ c .before .before .enum-told .given .1) .tables in
     let short = sized d (t .sizes) .short in
     (t, (omega arith, omega (arith, length-take (positions d - 0) (replicate {A = ℕ} 128 0))))
 
 numbers-reply-requires : tie.Need-numbers-reply-requires
 numbers-reply-requires c κs =
-    let a = c .before .before .before .before .before .before .before .before .before .before .before .before .before .before .args in
-    let d : Design = lent (a .scaffold) (a .glues) (a .dg) (a .ds) (a .potentials) (a .ambient) in
+    let a = c .before .before .before .before .before .before .before .before .before .before .before .before .before .before .before .args in
+    let d : Design = lent (a .scaffold) (a .marks) (a .glues) (a .dg) (a .ds) (a .potentials) (a .ambient) in
     sized d (tabled false d (sym (c .before .before .before .before .before .before .before .before .tables-reply .ensures) ∙ c .before .before .before .before .before .before .enum-told .given .1) .tables .sizes) .few
 
 returns : tie.Need-returns
 returns c =
-    let a = c .before .before .before .before .before .before .before .before .before .args in
-    let d : Design = lent (a .scaffold) (a .glues) (a .dg) (a .ds) (a .potentials) (a .ambient) in
+    let a = c .before .before .before .before .before .before .before .before .before .before .args in
+    let d : Design = lent (a .scaffold) (a .marks) (a .glues) (a .dg) (a .ds) (a .potentials) (a .ambient) in
     refused-by 0 (count (modelOf d)) (tables-refuse false d (ownCountChecks d) [] (sym (c .before .before .before .tables-reply .ensures) ∙ c .before .refusal .given .1))
 
 returns-2 : tie.Need-returns-2
 returns-2 c =
-    let a = c .before .before .before .before .before .before .before .before .before .before .before .before .before .before .before .before .before .before .before .args in
-    let d : Design = lent (a .scaffold) (a .glues) (a .dg) (a .ds) (a .potentials) (a .ambient) in
+    let a = c .before .before .before .before .before .before .before .before .before .before .before .before .before .before .before .before .before .before .before .before .args in
+    let d : Design = lent (a .scaffold) (a .marks) (a .glues) (a .dg) (a .ds) (a .potentials) (a .ambient) in
     let many = c .before .before .before .before .before .refused-if .ensures ∙ ap (λ (b : Bool). firstOf (TooManyStates if b ∷ [])) (many-told (count (modelOf d)) (c .before .before .before .before .before .before .before .before .count-options .ensures .0)) in
     let told = c .before .before .before .or .ensures ∙ ap₂ _orElse_ many (c .before .before .before .before .numbers-reply .ensures) in
     refused-by 0 (count (modelOf d)) (after-tables false d (ownCountChecks d) (sym (c .before .before .before .before .before .before .before .before .before .before .before .before .before .tables-reply .ensures) ∙ c .before .before .before .before .before .before .before .before .before .before .before .enum-told .given .1) ∙ sym told ∙ c .before .refusal2 .given .1)
 
 returns-3 : tie.Need-returns-3
 returns-3 c =
-    let a = c .before .before .before .before .before .before .before .before .before .before .before .before .before .before .before .before .before .before .args in
-    let d : Design = lent (a .scaffold) (a .glues) (a .dg) (a .ds) (a .potentials) (a .ambient) in
+    let a = c .before .before .before .before .before .before .before .before .before .before .before .before .before .before .before .before .before .before .before .args in
+    let d : Design = lent (a .scaffold) (a .marks) (a .glues) (a .dg) (a .ds) (a .potentials) (a .ambient) in
     let number = c .before .before .before .before .before .before .before .count-options .ensures .0 in
     let many = c .before .before .before .before .refused-if .ensures ∙ ap (λ (b : Bool). firstOf (TooManyStates if b ∷ [])) (many-told (count (modelOf d)) number) in
     let told = c .before .before .or .ensures ∙ ap₂ _orElse_ many (c .before .before .before .numbers-reply .ensures) in

@@ -10,6 +10,7 @@ pub fn designs(checks: &mut Checks) {
     (dg[65], dg[130]) = (-0.5, -2.0);
     let design = mj::Design {
         scaffold: &[1, 2],
+        marks: &[0, 0],
         glues: &[0, 0, 0, 0, 1, 0, 0, 2, 0],
         dg: &dg,
         ds: &[0.0; 4096],
@@ -108,6 +109,62 @@ fn states_and_energies(checks: &mut Checks, design: mj::Design) {
     checks.figure("its energy", energy, -1.5);
 }
 
+/// The same two positions, with each choice of marks: states in order, and what the search settles.
+pub fn blocked(checks: &mut Checks) {
+    let mut dg = [0.0; 4096];
+    (dg[65], dg[130]) = (-0.5, -2.0);
+    let cases: [([u8; 2], &[[u8; 2]], [u8; 2], f64); 4] = [
+        ([0, 0], &[[1, 2], [1, 0], [0, 2], [0, 0]], [0, 2], -1.5),
+        ([1, 0], &[[0, 2], [0, 0]], [0, 2], -1.5),
+        ([0, 1], &[[1, 0], [0, 0]], [0, 0], 0.0),
+        ([1, 1], &[[0, 0]], [0, 0], 0.0),
+    ];
+    for (marks, states, lowest, energy) in cases {
+        let design = mj::Design {
+            scaffold: &[1, 2],
+            marks: &marks,
+            glues: &[0, 0, 0, 0, 1, 0, 0, 2, 0],
+            dg: &dg,
+            ds: &[0.0; 4096],
+            potentials: &[0.0, -1.0, -1.0],
+            rt: 0.5,
+            strand_excess: 0.0,
+            scaffold_excess: 0.0,
+        };
+        let (mut place, mut count, mut told) = (WHOLE, WHOLE, DOUBLE);
+        checks.reply("states", mj::states(design, &mut place, &mut count), 0);
+        checks.place("their count", count, states.len() as u64);
+        for (rank, state) in states.iter().enumerate() {
+            let mut entries = [9; 2];
+            let number = mj::state(design, rank as u64, &mut entries, &mut place);
+            checks.reply("a state", number, 0);
+            checks.count("its places", entries == *state, format!("{entries:?}"));
+        }
+        let mut settled = [9; 2];
+        let number = mj::search(design, &mut settled, &mut place, &mut told);
+        checks.reply("a search", number, 0);
+        checks.count("its state", settled == lowest, format!("{settled:?}"));
+        checks.figure("its energy", told, energy);
+        for (position, bond) in [(0, -1.0), (1, -4.0)] {
+            let mut figure = DOUBLE;
+            let strand = position as u8 + 1;
+            let number = mj::scaffold_bond(design, position, strand, &mut place, &mut figure);
+            checks.reply("a scaffold bond", number, 0);
+            checks.figure("it", figure, bond);
+            let (mut entries, mut count) = ([0xa5; 64], WHOLE);
+            let number = mj::friends(design, position, &mut entries, &mut place, &mut count);
+            checks.reply("friends", number, 0);
+            let open = marks[position] == 0;
+            checks.place("their count", count, u64::from(open));
+            let first = if open { strand } else { 0xa5 };
+            checks.count("friends", entries[0] == first, format!("{}", entries[0]));
+        }
+        let number = mj::state_energy(design, &[1, 2], &mut place, &mut told);
+        let expected = if marks == [0, 0] { 0 } else { 11 };
+        checks.reply("both strands", number, expected);
+    }
+}
+
 /// The stack that the header asks for is enough for the largest search, of 128 positions with 63
 /// friends each.
 pub fn stack(checks: &mut Checks) {
@@ -123,6 +180,7 @@ pub fn stack(checks: &mut Checks) {
                 .collect();
             let design = mj::Design {
                 scaffold: &[1; 128],
+                marks: &[0; 128],
                 glues: &glues,
                 dg: &dg,
                 ds: &vec![0.0; 4096],

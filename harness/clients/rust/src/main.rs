@@ -55,6 +55,7 @@ fn main() -> ExitCode {
     decks(&mut checks);
     decks_with_runs(&mut checks);
     designs::designs(&mut checks);
+    designs::blocked(&mut checks);
     designs::stack(&mut checks);
     places::places(&mut checks);
     names(&mut checks);

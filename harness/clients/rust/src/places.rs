@@ -1,5 +1,5 @@
 //! Which number refuses a design, and the place that comes with it: places that were worked out by
-//! hand, and two faults at once.
+//! hand, two faults at once, and blocked positions.
 
 use crate::{Checks, DOUBLE, WHOLE};
 use mujplesten as mj;
@@ -8,6 +8,7 @@ use mujplesten as mj;
 #[derive(Clone)]
 struct Design {
     scaffold: Vec<u8>,
+    marks: Vec<u8>,
     glues: Vec<u8>,
     dg: Vec<f64>,
     ds: Vec<f64>,
@@ -23,6 +24,7 @@ impl Design {
     fn of(scaffold: &[u8]) -> Self {
         let mut design = Design {
             scaffold: scaffold.to_vec(),
+            marks: vec![0; scaffold.len()],
             glues: vec![0; 3],
             dg: vec![0.0; 4096],
             ds: vec![0.0; 4096],
@@ -48,6 +50,7 @@ impl Design {
     fn lent(&self) -> mj::Design<'_> {
         mj::Design {
             scaffold: &self.scaffold,
+            marks: &self.marks,
             glues: &self.glues,
             dg: &self.dg,
             ds: &self.ds,
@@ -146,6 +149,7 @@ pub fn places(checks: &mut Checks) {
     with_an_unfit(checks, "excess", (16, 1), |d| d.strand_excess = f64::NAN);
     with_an_unfit(checks, "potential", (17, 1), |d| d.potentials[1] = 1025.0);
     ends(checks);
+    blocked(checks);
 }
 
 fn worked_out(checks: &mut Checks) {
@@ -240,4 +244,39 @@ fn ends(checks: &mut Checks) {
     );
     let cell = Design::of(&[1]).with(|d| d.dg[64] = 1.0);
     ask_all(checks, "strand 0 a friend by a cell", &cell, bare(10));
+}
+
+/// Marks that are none, and what a blocked place keeps from being looked at.
+fn blocked(checks: &mut Checks) {
+    let base = Design::of(&[1, 7]).with(|d| (d.rt, d.glues[2]) = (0.0, 5));
+    for marks in [vec![], vec![0], vec![0, 0, 0], vec![0, 2], vec![255, 0]] {
+        let unfit = base.with(|d| d.marks = marks.clone());
+        ask_all(checks, "marks", &unfit, bare(1));
+    }
+    let first = Design::of(&[1, 7]).with(|d| d.marks = vec![1, 0]);
+    let unread = first.with(|d| d.potentials[1] = f64::NAN);
+    ask_all(checks, "a potential of a blocked place", &unread, ADMITTED);
+    let read = unread.with(|d| d.potentials[7] = f64::NAN);
+    ask_all(checks, "and one of an open place", &read, (17, 7));
+    let null = first.with(|d| d.dg[1] = 1.0);
+    ask_all(checks, "null at a blocked place", &null, bare(10));
+    let stranger = Expected {
+        energies: bare(11),
+        ..Expected::all(ADMITTED)
+    };
+    ask(
+        checks,
+        "a strand on a blocked place",
+        &first,
+        0,
+        &[1, 0],
+        &stranger,
+    );
+    let rank = Expected {
+        state: bare(13),
+        ..Expected::all(ADMITTED)
+    };
+    ask(checks, "two states are left", &first, 2, &[0, 7], &rank);
+    let long = Design::of(&[1; 21]).with(|d| d.marks[20] = 1);
+    ask_all(checks, "a blocked position counts 1", &long, ADMITTED);
 }

@@ -14,6 +14,8 @@ pub const MOST_STATES: u128 = 1_048_576;
 #[derive(Debug, Clone, Default)]
 pub struct Lent {
     pub scaffold: Vec<u8>,
+    /// Of each position: 0 open, 1 blocked.
+    pub marks: Vec<u8>,
     /// West, bottom, east of each strand.
     pub glues: Vec<u8>,
     pub dg: Vec<f64>,
@@ -24,12 +26,39 @@ pub struct Lent {
     pub scaffold_excess: f64,
 }
 
+impl Lent {
+    /// With another scaffold, all of it open.
+    pub fn open(&mut self, scaffold: Vec<u8>) {
+        self.marks = vec![0; scaffold.len()];
+        self.scaffold = scaffold;
+    }
+
+    /// The design whose blocked positions have no glue. A position without a glue has no friends
+    /// where 10 does not hold, so it answers as the design does in all but scaffold bonds.
+    pub fn without_blocked(&self) -> Self {
+        let mut copy = self.clone();
+        for (glue, mark) in copy.scaffold.iter_mut().zip(&self.marks) {
+            *glue *= 1 - mark;
+        }
+        copy.marks.fill(0);
+        copy
+    }
+
+    pub fn has_blocked(&self) -> bool {
+        self.marks.contains(&1)
+    }
+}
+
 /// Refusals. Each call has conditions of its own beside those of the design.
 impl Lent {
     /// "Every call that takes a design checks all of it." Nothing else can be looked up while a
     /// size is wrong, and 1 is the lowest number. Of all other conditions each is asked by itself,
     /// whatever the others say: the lowest that holds gives number and place.
-    fn verdict(&self, own_size: bool, own: impl FnOnce() -> Vec<(u32, bool)>) -> Verdict {
+    pub(super) fn verdict(
+        &self,
+        own_size: bool,
+        own: impl FnOnce() -> Vec<(u32, bool)>,
+    ) -> Verdict {
         if own_size || self.wrong_sizes() {
             return Verdict::lowest(&[(1, true)]);
         }
@@ -77,11 +106,16 @@ impl Lent {
     /// Of the state energy and of the chain energy.
     pub fn energy_verdict(&self, configuration: &[u8]) -> Verdict {
         self.verdict(configuration.len() != self.positions(), || {
-            let stranger = |(position, occupant): (usize, &u8)| {
-                *occupant != 0 && !self.friends(position).contains(occupant)
-            };
-            vec![(11, configuration.iter().enumerate().any(stranger))]
+            vec![(11, self.has_stranger(configuration))]
         })
+    }
+
+    /// Neither 0 nor a friend at some position.
+    pub(super) fn has_stranger(&self, configuration: &[u8]) -> bool {
+        let stranger = |(position, occupant): (usize, &u8)| {
+            *occupant != 0 && !self.friends(position).contains(occupant)
+        };
+        configuration.iter().enumerate().any(stranger)
     }
 
     fn wrong_sizes(&self) -> bool {
@@ -93,6 +127,8 @@ impl Lent {
             || self.dg.len() != CELLS
             || self.ds.len() != CELLS
             || self.scaffold.iter().any(high)
+            || self.marks.len() != self.positions()
+            || self.marks.iter().any(|mark| *mark > 1)
             || self.glues.iter().any(high)
     }
 
@@ -148,8 +184,10 @@ impl Lent {
         self.dg[cell] != 0.0 || self.ds[cell] != 0.0
     }
 
+    /// "A blocked position has no friends."
     fn is_friend(&self, position: usize, strand: usize) -> bool {
-        self.binds(usize::from(self.scaffold[position]), self.side(strand, 1))
+        let glue = usize::from(self.scaffold[position]);
+        self.marks[position] == 0 && self.binds(glue, self.side(strand, 1))
     }
 
     pub fn is_somewhere_friend(&self, strand: usize) -> bool {
@@ -196,11 +234,15 @@ impl Lent {
     }
 
     pub fn state_energy(&self, configuration: &[u8]) -> f64 {
+        self.state_energy_over(self, configuration)
+    }
+
+    pub fn state_energy_over(&self, bonds: &dyn Bonds, configuration: &[u8]) -> f64 {
         let mut sum = 0.0;
         for (position, strand) in occupied(configuration) {
-            sum += self.scaffold_bond(position, strand);
+            sum += bonds.site(position, strand);
             if let Some(right) = configuration.get(position + 1) {
-                sum += self.strand_bond(strand, usize::from(*right));
+                sum += bonds.pair(strand, usize::from(*right));
             }
             sum -= self.potentials[strand];
         }
@@ -209,12 +251,16 @@ impl Lent {
 
     /// The bare sum.
     pub fn chain_energy(&self, configuration: &[u8]) -> f64 {
+        self.chain_energy_over(self, configuration)
+    }
+
+    pub fn chain_energy_over(&self, bonds: &dyn Bonds, configuration: &[u8]) -> f64 {
         let mut sum = 0.0;
         for (position, strand) in occupied(configuration) {
             if position > 0 {
-                sum += self.strand_bond(usize::from(configuration[position - 1]), strand);
+                sum += bonds.pair(usize::from(configuration[position - 1]), strand);
             }
-            sum += self.scaffold_bond(position, strand);
+            sum += bonds.site(position, strand);
             sum -= self.potentials[strand];
         }
         sum
@@ -223,12 +269,39 @@ impl Lent {
     /// "It starts at the state of rank 0, with RT times its chain energy as the least"; a product
     /// that is smaller becomes the least.
     pub fn walk(&self) -> f64 {
-        let product = |rank| self.chain_energy(&self.state(rank)) * self.rt;
-        let rest = (1..self.count() as u64).map(product);
+        self.walk_over(self)
+    }
+
+    pub fn walk_over(&self, bonds: &dyn Bonds) -> f64 {
+        self.least(|state| self.chain_energy_over(bonds, state) * self.rt)
+    }
+
+    /// The least figure of all states.
+    pub(super) fn least(&self, figure: impl Fn(&[u8]) -> f64) -> f64 {
+        let of_rank = |rank| figure(&self.state(rank));
+        let rest = (1..self.count() as u64).map(of_rank);
         rest.fold(
-            product(0),
+            of_rank(0),
             |least, next| if next < least { next } else { least },
         )
+    }
+}
+
+/// The bonds that energies are summed over: a design's own, or those of tables beside it.
+pub trait Bonds {
+    /// From a strand to the one at its east.
+    fn pair(&self, x: usize, y: usize) -> f64;
+    /// From the scaffold at a position to a strand.
+    fn site(&self, position: usize, strand: usize) -> f64;
+}
+
+impl Bonds for Lent {
+    fn pair(&self, x: usize, y: usize) -> f64 {
+        self.strand_bond(x, y)
+    }
+
+    fn site(&self, position: usize, strand: usize) -> f64 {
+        self.scaffold_bond(position, strand)
     }
 }
 
@@ -241,12 +314,14 @@ fn occupied(configuration: &[u8]) -> impl Iterator<Item = (usize, usize)> + '_ {
 #[cfg(test)]
 pub(crate) mod tests {
     use super::*;
+    use crate::judge::search::Reading;
 
     /// Positions with these scaffold glues; strand k has the bottom glue k, dG[k][k] is given and
     /// every potential is −1; RT 0.5.
     pub(crate) fn bench(scaffold: &[u8], dg: &[f64]) -> Lent {
         let mut lent = Lent {
             scaffold: scaffold.to_vec(),
+            marks: vec![0; scaffold.len()],
             glues: vec![0; 3],
             dg: vec![0.0; CELLS],
             ds: vec![0.0; CELLS],
@@ -366,6 +441,57 @@ pub(crate) mod tests {
         assert_eq!(empty.count_verdict(), refused(16, Some(0)));
         empty.rt = 8.0;
         assert_eq!(empty.count_verdict(), Verdict::Admitted);
+    }
+
+    /// Document 02's blocked positions on the bench table's two positions.
+    #[test]
+    fn a_blocked_position_is_empty_in_every_state() {
+        let marked = |marks: [u8; 2]| {
+            let mut lent = bench(&[1, 2], &[-0.5, -2.0]);
+            lent.marks = marks.to_vec();
+            lent
+        };
+        let states = |lent: &Lent| -> Vec<Vec<u8>> {
+            (0..lent.count() as u64)
+                .map(|rank| lent.state(rank))
+                .collect()
+        };
+        assert_eq!(marked([0, 0]).count(), 4);
+        let first = marked([1, 0]);
+        assert_eq!(states(&first), [[0, 2], [0, 0]]);
+        assert_eq!(first.search(Reading::Document), (-1.5, vec![0, 2]));
+        assert_eq!(first.energy_verdict(&[1, 2]), refused(11, None));
+        assert_eq!(first.scaffold_bond(0, 1), -1.0);
+        let last = marked([0, 1]);
+        assert_eq!(states(&last), [[1, 0], [0, 0]]);
+        assert_eq!(last.search(Reading::Document), (0.0, vec![0, 0]));
+        let mut both = marked([1, 1]);
+        (both.potentials[1], both.potentials[2]) = (f64::NAN, 1025.0);
+        assert_eq!(both.search_verdict(2), Verdict::Admitted);
+        assert_eq!(states(&both), [[0, 0]]);
+        assert_eq!(both.search(Reading::Document), (0.0, vec![0, 0]));
+        both.marks = vec![1, 0];
+        assert_eq!(both.search_verdict(2), refused(17, Some(2)));
+        for marks in [vec![], vec![0], vec![0, 0, 0], vec![0, 2], vec![255, 0]] {
+            both.marks = marks;
+            assert_eq!(both.search_verdict(2), refused(1, None));
+        }
+    }
+
+    #[test]
+    fn a_position_without_a_glue_stands_for_a_blocked_one() {
+        let mut lent = bench(&[1, 2, 1], &[-0.5, -2.0]);
+        lent.marks = vec![0, 1, 1];
+        let copy = lent.without_blocked();
+        assert_eq!(
+            (copy.scaffold.clone(), copy.has_blocked()),
+            (vec![1, 0, 0], false)
+        );
+        assert_eq!(copy.count(), lent.count());
+        assert_eq!(
+            copy.search(Reading::Document),
+            lent.search(Reading::Document)
+        );
     }
 
     /// Where strand 0 is a friend, its bottom glue or a cell of column 0 is null's: 10, whatever its

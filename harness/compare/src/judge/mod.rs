@@ -7,9 +7,11 @@
 pub mod deck;
 pub mod design;
 pub mod parameters;
+pub mod ring;
 pub mod search;
 pub mod sequences;
 pub mod short;
+pub mod tables;
 pub mod temperature;
 
 use protocol::Reply;

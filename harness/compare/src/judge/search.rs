@@ -2,7 +2,7 @@
 //! are wrong, each in how it tells equals apart. Where a wrong reading ends elsewhere, a design ties
 //! so that the rule matters.
 
-use super::design::Lent;
+use super::design::{Bonds, Lent};
 
 #[derive(Debug, Clone, Copy, PartialEq, Eq)]
 pub enum Reading {
@@ -16,9 +16,9 @@ pub enum Reading {
 }
 
 /// "Each position keeps one entry per friend, then one for empty."
-struct Entry {
-    occupant: usize,
-    energy: f64,
+pub(super) struct Entry {
+    pub(super) occupant: usize,
+    pub(super) energy: f64,
     /// The place of its left choice in the row before; at position 0 there is none.
     left: usize,
 }
@@ -26,11 +26,11 @@ struct Entry {
 impl Lent {
     /// Energy and configuration of a design that is not refused.
     pub fn search(&self, reading: Reading) -> (f64, Vec<u8>) {
-        let mut rows: Vec<Vec<Entry>> = vec![];
-        for position in 0..self.positions() {
-            let row = self.row(position, rows.last(), reading);
-            rows.push(row);
-        }
+        self.search_over(self, reading)
+    }
+
+    pub fn search_over(&self, bonds: &dyn Bonds, reading: Reading) -> (f64, Vec<u8>) {
+        let rows = self.rows(bonds, None, reading);
         let Some(last) = rows.last() else {
             return (0.0, vec![]);
         };
@@ -43,44 +43,45 @@ impl Lent {
         (last[place].energy * self.rt, traced(&rows, place))
     }
 
-    fn row(&self, position: usize, before: Option<&Vec<Entry>>, reading: Reading) -> Vec<Entry> {
-        let mut options = self.friends(position);
-        options.push(0);
-        let entry = |strand: u8| {
-            let occupant = usize::from(strand);
-            let (left, energy) = match before {
-                None => (0, 0.0),
-                Some(before) => self.left_choice(before, occupant, reading),
+    /// The entries of all positions; at the first there may be one occupant alone.
+    pub(super) fn rows(
+        &self,
+        bonds: &dyn Bonds,
+        first: Option<u8>,
+        reading: Reading,
+    ) -> Vec<Vec<Entry>> {
+        let mut rows: Vec<Vec<Entry>> = vec![];
+        for position in 0..self.positions() {
+            let options = match first {
+                Some(occupant) if position == 0 => vec![occupant],
+                _ => self.options(position),
             };
-            let energy = match occupant {
-                0 => energy,
-                _ => energy + self.scaffold_bond(position, occupant) - self.potentials[occupant],
+            let entry = |strand: u8| {
+                let occupant = usize::from(strand);
+                let (left, energy) = match rows.last() {
+                    None => (0, 0.0),
+                    Some(before) => left_choice(bonds, before, occupant, reading),
+                };
+                let energy = match occupant {
+                    0 => energy,
+                    _ => energy + bonds.site(position, occupant) - self.potentials[occupant],
+                };
+                Entry {
+                    occupant,
+                    energy,
+                    left,
+                }
             };
-            Entry {
-                occupant,
-                energy,
-                left,
-            }
-        };
-        options.into_iter().map(entry).collect()
+            rows.push(options.into_iter().map(entry).collect());
+        }
+        rows
     }
 
-    /// "A friend compares left energies plus the strand bond, empty compares the left energies
-    /// alone; among equals the later entry is taken in both."
-    fn left_choice(&self, before: &[Entry], occupant: usize, reading: Reading) -> (usize, f64) {
-        let energy = |left: &Entry| match occupant {
-            0 => left.energy,
-            _ => left.energy + self.strand_bond(left.occupant, occupant),
-        };
-        let mut least = (0, energy(&before[0]));
-        for (place, left) in before.iter().enumerate().skip(1) {
-            let next = energy(left);
-            let equal_is_taken = reading != Reading::FirstOfEquals;
-            if next < least.1 || (equal_is_taken && next == least.1) {
-                least = (place, next);
-            }
-        }
-        least
+    /// Friends in order, then 0.
+    pub(super) fn options(&self, position: usize) -> Vec<u8> {
+        let mut options = self.friends(position);
+        options.push(0);
+        options
     }
 
     /// "The energies are multiplied by RT and the first smallest product wins."
@@ -94,7 +95,30 @@ impl Lent {
     }
 }
 
-fn traced(rows: &[Vec<Entry>], last: usize) -> Vec<u8> {
+/// "A friend compares left energies plus the strand bond, empty compares the left energies alone;
+/// among equals the later entry is taken in both."
+fn left_choice(
+    bonds: &dyn Bonds,
+    before: &[Entry],
+    occupant: usize,
+    reading: Reading,
+) -> (usize, f64) {
+    let energy = |left: &Entry| match occupant {
+        0 => left.energy,
+        _ => left.energy + bonds.pair(left.occupant, occupant),
+    };
+    let mut least = (0, energy(&before[0]));
+    for (place, left) in before.iter().enumerate().skip(1) {
+        let next = energy(left);
+        let equal_is_taken = reading != Reading::FirstOfEquals;
+        if next < least.1 || (equal_is_taken && next == least.1) {
+            least = (place, next);
+        }
+    }
+    least
+}
+
+pub(super) fn traced(rows: &[Vec<Entry>], last: usize) -> Vec<u8> {
     let mut configuration = vec![0; rows.len()];
     let mut place = last;
     for (position, row) in rows.iter().enumerate().rev() {
@@ -145,7 +169,7 @@ mod tests {
             (energy.to_bits(), configuration),
             ((-0.0f64).to_bits(), vec![1])
         );
-        lent.scaffold = vec![1, 1];
+        lent.open(vec![1, 1]);
         assert_eq!(lent.search(Reading::Document).0, 0.0);
     }
 }

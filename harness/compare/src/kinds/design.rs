@@ -4,7 +4,9 @@
 
 use super::{Ask, AskOracle, Kind};
 use crate::ambients::{self, Ambients, ROUND_RTS};
-use crate::designs::{ambient_line, design, lines_of_both, Ambient, Shape, Sort, SORTS};
+use crate::designs::{
+    ambient_line, design, lines_of_both, marks_line, Ambient, Shape, Sort, SORTS,
+};
 use crate::judge::design::{Lent, CELLS, MOST_STATES};
 use crate::judge::Verdict;
 use crate::parting::Parting;
@@ -116,6 +118,7 @@ impl Designs {
         let (kelvin, ambient) = *least.expect("prepared");
         let mut lent = Lent {
             scaffold: vec![1, 2],
+            marks: vec![0; 2],
             glues: vec![0, 0, 0, 0, 1, 3, 3, 2, 0],
             dg: vec![0.0; CELLS],
             ds: vec![0.0; CELLS],
@@ -131,18 +134,27 @@ impl Designs {
     }
 }
 
-/// All that is asked of a design that is admitted.
+/// All that is asked of a design that is admitted. The Rust knows no blocked positions: it is asked
+/// for the bonds of the design as it is, and for all else of the one whose blocked positions have no
+/// glue.
 pub fn ask_about(random: &mut Random, kelvin: f64, lent: Lent, glues: usize, ask: &mut Ask) {
     let lines = lines_of_both(&lent, glues);
-    let sent: Rc<str> = format!("{lines}{}", ambient_line(&lent)).into();
-    ask(Question {
-        port: format!("{sent}d.build"),
-        oracle: Some(format!("{lines}d.temp K {}\nd.build", bits(kelvin))),
+    let sent: Rc<str> = format!("{lines}{}{}", marks_line(&lent), ambient_line(&lent)).into();
+    let built = format!("d.temp K {}\nd.build", bits(kelvin));
+    let build = |port: String, lines: String, about: Option<Rc<str>>| Question {
+        port,
+        oracle: Some(format!("{lines}{built}")),
         expected: Expected::Judged(Verdict::Admitted),
-        about: None,
-    });
+        about,
+    };
+    ask(build(format!("{sent}d.build"), lines, None));
     let asked = Asked { lent, sent };
     asked.bonds(random, ask);
+    if asked.lent.has_blocked() {
+        let lines = lines_of_both(&asked.lent.without_blocked(), glues);
+        let about = Some(asked.sent.clone());
+        ask(build("d.build".to_string(), lines, about));
+    }
     asked.states(random, ask);
     asked.energies(random, ask);
     asked.search(ask);
@@ -171,7 +183,6 @@ impl Asked {
     /// Whole tables of small designs and now and then of large ones; of the rest some bonds.
     fn bonds(&self, random: &mut Random, ask: &mut Ask) {
         let (positions, strands) = (self.lent.positions(), self.lent.strands());
-        ask(self.both("friends".to_string(), Verdict::Admitted));
         if strands * (strands + positions) <= 80 || random.once_in(20) {
             ask(self.both("sbonds".to_string(), Verdict::Admitted));
             ask(self.both("cbonds".to_string(), Verdict::Admitted));
@@ -188,6 +199,7 @@ impl Asked {
     }
 
     fn states(&self, random: &mut Random, ask: &mut Ask) {
+        ask(self.both("friends".to_string(), Verdict::Admitted));
         let count = self.lent.count();
         if count <= WHOLE_LISTING {
             ask(self.both("states".to_string(), Verdict::Admitted));

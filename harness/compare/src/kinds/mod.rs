@@ -1,6 +1,7 @@
 //! The kinds of lines. A new kind is a file here, an entry in `all`, and a judge.
 
 pub mod ambient;
+pub mod blocked;
 pub mod deck;
 pub mod design;
 pub mod loops;
@@ -81,6 +82,7 @@ pub fn all() -> Vec<Box<dyn Kind>> {
         Box::new(parameters::ParameterSets),
         Box::new(design::Designs::default()),
         Box::new(ties::Ties::default()),
+        Box::new(blocked::Blocked::default()),
         Box::new(raw::RawDesigns),
     ]
 }

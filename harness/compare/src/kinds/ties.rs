@@ -99,6 +99,7 @@ fn blank(random: &mut Random, ambient: Ambient, positions: usize) -> Lent {
     let users = random.within(1..=4);
     let mut lent = Lent {
         scaffold: vec![1; positions],
+        marks: vec![0; positions],
         glues: vec![0; 3],
         dg: vec![0.0; CELLS],
         ds: vec![0.0; CELLS],

@@ -25,6 +25,7 @@ fn cell(row: usize, column: usize) -> usize {
 fn plain() -> Lent {
     let mut lent = Lent {
         scaffold: vec![1],
+        marks: vec![0; 1],
         glues: vec![0, 0, 0, 2, 1, 3],
         dg: vec![0.0; CELLS],
         ds: vec![0.0; CELLS],
@@ -80,7 +81,7 @@ fn at_the_ranges() -> Vec<Lent> {
     }
     // All at once at the far ends: no sum overflows.
     designs.push(with(|lent| {
-        lent.scaffold = vec![1; 128];
+        lent.open(vec![1; 128]);
         lent.rt = 0.125;
         lent.strand_excess = -1024.0;
         lent.scaffold_excess = -1024.0;
@@ -97,7 +98,7 @@ fn at_the_ranges() -> Vec<Lent> {
 fn at_the_sizes() -> Vec<Lent> {
     let mut designs = vec![];
     for positions in [0, 1, 20, 21, 127, 128] {
-        designs.push(with(|lent| lent.scaffold = vec![1; positions]));
+        designs.push(with(|lent| lent.open(vec![1; positions])));
     }
     for strands in [0, 1, 63, 64] {
         designs.push(with(|lent| {
@@ -154,7 +155,7 @@ fn friends_without_a_bond() -> Vec<Lent> {
 /// Three places, a strand for each, and two bonds between them.
 fn three_places(random: &mut Random) -> Lent {
     let mut lent = plain();
-    lent.scaffold = vec![1, 2, 3];
+    lent.open(vec![1, 2, 3]);
     lent.glues = vec![0, 0, 0, 10, 1, 11, 12, 2, 13, 14, 3, 15];
     lent.potentials = vec![0.0; 4];
     lent.rt = random.double(0.5, 0.7);

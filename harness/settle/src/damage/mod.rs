@@ -75,7 +75,7 @@ pub fn plant(
         11 => no_ambient(all),
         12 => strand_twice(random, all),
         13 => strands_62(design, all),
-        14 => positions_129(design, all),
+        14 => positions_129(random, design, all),
         15 => entries_1025(design, all),
         16 => long_name(random, all),
         17 => add(all, &["energy", "none", "seq", &"acgt".repeat(65)], 1),
@@ -89,7 +89,7 @@ pub fn plant(
         20 => add(
             all,
             &[
-                "scaffold",
+                random.pick(&["scaffold", "blocked"]),
                 "-",
                 random.pick(&["nowhere", "nowhere*", "x**"]),
             ],

@@ -12,9 +12,13 @@ pub fn strands_62(design: &Design, all: &mut Vec<Statement>) -> Option<Expected>
     refused(1, all.len() - 1)
 }
 
-pub fn positions_129(design: &Design, all: &mut Vec<Statement>) -> Option<Expected> {
+pub fn positions_129(
+    random: &mut Random,
+    design: &Design,
+    all: &mut Vec<Statement>,
+) -> Option<Expected> {
     for _ in design.scaffold.len()..129 {
-        all.push(split("scaffold -"));
+        all.push(split(random.pick(&["scaffold -", "blocked -"])));
     }
     refused(1, all.len() - 1)
 }
@@ -33,8 +37,9 @@ pub fn long_name(random: &mut Random, all: &mut Vec<Statement>) -> Option<Expect
     };
     let name = name.as_str();
     let (numbers, strand) = (["dg", "1", "ds", "0"], ["0"]);
-    let words: Vec<&str> = match random.below(5) {
+    let words: Vec<&str> = match random.below(6) {
         0 => [&["scaffold", name][..]].concat(),
+        5 => [&["blocked", "-", name][..]].concat(),
         1 => [&["energy", name][..], &numbers].concat(),
         2 => [&["pair", "x", name][..], &numbers].concat(),
         3 => [&["strand", "long", name, "-", "-"][..], &strand].concat(),

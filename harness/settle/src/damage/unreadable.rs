@@ -58,15 +58,20 @@ pub fn bad_number(random: &mut Random, all: &mut [Statement]) -> Option<Expected
     unreadable(at)
 }
 
+/// Any number of words may follow.
+fn is_positions(words: &Statement) -> bool {
+    is(words, b"scaffold") || is(words, b"blocked")
+}
+
 pub fn word_missing(random: &mut Random, all: &mut [Statement]) -> Option<Expected> {
-    let at = one(random, all, |words| !is(words, b"scaffold"))?;
+    let at = one(random, all, |words| !is_positions(words))?;
     let left = random.within(1..=all[at].len() - 1);
     all[at].truncate(left);
     unreadable(at)
 }
 
 pub fn word_too_many(random: &mut Random, all: &mut [Statement]) -> Option<Expected> {
-    let at = one(random, all, |words| !is(words, b"scaffold"))?;
+    let at = one(random, all, |words| !is_positions(words))?;
     for _ in 0..random.within(1..=3) {
         let word = random.pick(&["1", "-", "x", "seq", "strand", "\u{1}"]);
         all[at].push(word.as_bytes().to_vec());
@@ -86,6 +91,8 @@ pub fn no_statement(random: &mut Random, all: &mut Vec<Statement>) -> Option<Exp
         "\u{0}",
         "\u{e9}",
         "kelvin:",
+        "Blocked",
+        "block",
         "\"strand\"",
         "energy,",
     ];

@@ -5,10 +5,10 @@ use Rattle.answers.proofs.draw.print_strands.Statement.{statement}
 use Rattle.answers.proofs.draw.print_strands.Tie as tie
 
 abbrev Inv-loop : tie.InvT-loop
-Inv-loop text glue-starts glue-sizes name-starts name-sizes configuration from end i₀ t13 i = Unit {0}
+Inv-loop text glue-starts glue-sizes name-starts name-sizes configuration marks from end i₀ t13 i = Unit {0}
 
 abbrev μ-loop : tie.MeasureT-loop
-μ-loop text glue-starts glue-sizes name-starts name-sizes configuration from end i₀ t13 i = end - i
+μ-loop text glue-starts glue-sizes name-starts name-sizes configuration marks from end i₀ t13 i = end - i
 
 pub print-strands-spec : {M : Type 1} → statement M
 print-strands-spec =
@@ -16,8 +16,6 @@ print-strands-spec =
     (tie.spec
     Inv-loop
     μ-loop
-    (λ c. search needs)
-    (λ c κs. search needs)
     (λ c. search needs)
     (λ c κs. search needs)
     (λ c. search needs)

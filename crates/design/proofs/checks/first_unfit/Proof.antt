@@ -28,12 +28,12 @@ fitting true b e = e
 fitting false b e = refl
 
 abbrev Inv-loop : tie.InvT-loop
-Inv-loop scaffold glues dg ds potentials strands strand₀ strand =
+Inv-loop scaffold marks glues dg ds potentials strands strand₀ strand =
     (strand ≤ strands)
-    × (firstIndex (unfit scaffold glues dg ds potentials) (upTo strands) ≡ strand + firstIndex (unfit scaffold glues dg ds potentials) (drop strand (upTo strands)))
+    × (firstIndex (unfit scaffold marks glues dg ds potentials) (upTo strands) ≡ strand + firstIndex (unfit scaffold marks glues dg ds potentials) (drop strand (upTo strands)))
 
 abbrev μ-loop : tie.MeasureT-loop
-μ-loop scaffold glues dg ds potentials strands strand₀ strand = strands - strand
+μ-loop scaffold marks glues dg ds potentials strands strand₀ strand = strands - strand
 
 loop-holds : tie.Need-loop-holds Inv-loop μ-loop
 loop-holds c = search needs
@@ -50,9 +50,9 @@ is-friend-somewhere-requires c κs = search needs
 returns : tie.Need-returns Inv-loop μ-loop
 unfolding nearest neg ofBits
 returns c =
-    let a = c .before .before .before .before .before .before .before .before .before .before .before .before .args in
+    let a = c .before .before .before .before .before .before .before .before .before .before .before .before .before .args in
     let l = c .before .before .before .before .before .before in
-    let t = unfit (a .scaffold .now) (a .glues .now) (a .dg .now) (a .ds .now) (a .potentials .now) in
+    let t = unfit (a .scaffold .now) (a .marks .now) (a .glues .now) (a .dg .now) (a .ds .now) (a .potentials .now) in
     let range = c .before .before .before .in-range .ensures in
     let out = ap (beyond 1024) (sym (c .before .before .before .before .potential-of .ensures)) ∙ ap not (sym range) ∙ c .before .before .if1 .taken in
     let here = looked-at _ _ true (sym (c .before .is-friend-somewhere .ensures) ∙ c .if2 .taken) out in
@@ -67,9 +67,9 @@ loop-less c = search needs
 loop-again : tie.Need-loop-again Inv-loop μ-loop
 unfolding nearest neg ofBits
 loop-again c =
-    let a = c .before .before .before .before .before .before .before .before .before .before .args in
+    let a = c .before .before .before .before .before .before .before .before .before .before .before .args in
     let l = c .before .before .before .before in
-    let t = unfit (a .scaffold .now) (a .glues .now) (a .dg .now) (a .ds .now) (a .potentials .now) in
+    let t = unfit (a .scaffold .now) (a .marks .now) (a .glues .now) (a .dg .now) (a .ds .now) (a .potentials .now) in
     let out-is = ap (beyond 1024) (sym (c .before .before .potential-of .ensures)) ∙ ap not (sym (c .before .in-range .ensures)) in
     elim (c .if1 .came) [
       | inl w ↦ (
@@ -78,15 +78,15 @@ loop-again c =
       )
       | inr w ↦ (
         omega arith,
-        omega (arith, first-later t (a .strands) (l .loop .strand) (c .before .before .before .loop-test .taken) (fitting (somewhere (a .scaffold .now) (a .glues .now) (a .dg .now) (a .ds .now) (l .loop .strand)) _ (out-is ∙ w .left)), l .loop .inv .1),
+        omega (arith, first-later t (a .strands) (l .loop .strand) (c .before .before .before .loop-test .taken) (fitting (somewhere (a .scaffold .now) (a .marks .now) (a .glues .now) (a .dg .now) (a .ds .now) (l .loop .strand)) _ (out-is ∙ w .left)), l .loop .inv .1),
       )
     ]
 
 returns-2 : tie.Need-returns-2 Inv-loop μ-loop
 returns-2 c =
-    let a = c .before .before .before .before .before .before .before .args in
+    let a = c .before .before .before .before .before .before .before .before .args in
     let l = c .before in
-    let t = unfit (a .scaffold .now) (a .glues .now) (a .dg .now) (a .ds .now) (a .potentials .now) in
+    let t = unfit (a .scaffold .now) (a .marks .now) (a .glues .now) (a .dg .now) (a .ds .now) (a .potentials .now) in
     omega (arith, first-past t (a .strands) (l .loop .strand) (c .loop-test .left), l .loop .inv .1)
 
 pub first-unfit-spec : {M : Type 1} → statement M

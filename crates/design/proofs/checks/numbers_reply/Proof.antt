@@ -17,9 +17,9 @@ use Rattle.design.proofs.checks.numbers_reply.Tie as tie
 returns : tie.Need-returns
 unfolding potentialsOut badPotential
 returns c =
-    let a = c .before .before .before .before .before .before .before .before .before .args in
-    let d : Design = lent (a .scaffold) (a .glues) (a .dg) (a .ds) (a .potentials) (a .ambient) in
-    let out = found-below (unfit (d .scaffold) (d .glues) (d .dg) (d .ds) (d .potentials)) (strands d) (c .before .before .before .first-unfit .ensures) in
+    let a = c .before .before .before .before .before .before .before .before .before .before .args in
+    let d : Design = lent (a .scaffold) (a .marks) (a .glues) (a .dg) (a .ds) (a .potentials) (a .ambient) in
+    let out = found-below (unfit (d .scaffold) (d .marks) (d .glues) (d .dg) (d .ds) (d .potentials)) (strands d) (c .before .before .before .first-unfit .ensures) in
     let potentials : c .before .refused-at .result ≡ firstOf (PotentialOut if potentialsOut d at badPotential d ∷ []) = c .before .refused-at .ensures ∙ ap₂ (λ (b : Bool) (k : ℕ). firstOf (PotentialOut if b at k ∷ [])) out (c .before .before .before .first-unfit .ensures) in
     c .or .ensures ∙ ap₂ _orElse_ (c .before .before .ambient-reply .ensures) potentials
     ∙ joined (AmbientOut if ambientOut (d .ambient) at badAmbient (d .ambient) ∷ []) (PotentialOut if potentialsOut d at badPotential d ∷ [])

@@ -20,16 +20,16 @@ returns-2 c = simp (c .before .before .if1 .left, ← c .before .wrong-sizes .en
 
 cells-reply-requires : tie.Need-cells-reply-requires
 cells-reply-requires c κs =
-    let a = c .before .before .before .before .before .before .before .before .args in
-    tables-sized (a .scaffold .now) (a .glues .now) (a .dg .now) (a .ds .now) (a .potentials .now) (sym (c .before .wrong-sizes .ensures) ∙ c .if2 .left)
+    let a = c .before .before .before .before .before .before .before .before .before .args in
+    tables-sized (a .scaffold .now) (a .marks .now) (a .glues .now) (a .dg .now) (a .ds .now) (a .potentials .now) (sym (c .before .wrong-sizes .ensures) ∙ c .if2 .left)
 
 returns-3 : tie.Need-returns-3
 returns-3 c =
-    let a = c .before .before .before .before .before .before .before .before .before .before .before .before .args in
+    let a = c .before .before .before .before .before .before .before .before .before .before .before .before .before .args in
     let dg = a .dg .now in
     let ds = a .ds .now in
     let null = c .before .refused-if .ensures ∙ ap (λ (b : Bool). firstOf (NullBinds if b ∷ [])) (c .before .before .null-binds .ensures) in
-    let sizes : (a .own-size || wrongSizes (a .scaffold .now) (a .glues .now) dg ds (a .potentials .now)) ≡ false = simp (c .before .before .before .before .before .before .if1 .left, ← c .before .before .before .before .before .wrong-sizes .ensures, c .before .before .before .before .if2 .left) in
+    let sizes : (a .own-size || wrongSizes (a .scaffold .now) (a .marks .now) (a .glues .now) dg ds (a .potentials .now)) ≡ false = simp (c .before .before .before .before .before .before .if1 .left, ← c .before .before .before .before .before .wrong-sizes .ensures, c .before .before .before .before .if2 .left) in
     rw sizes (c .or .ensures ∙ ap₂ _orElse_ (c .before .before .before .cells-reply .ensures) null
     ∙ joined (OutOfRange if cellsOut dg ds at badCell dg ds ∷ []) (NullBinds if nullBinds (a .glues .now) dg ds ∷ []))
 

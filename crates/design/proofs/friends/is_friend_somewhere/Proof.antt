@@ -1,63 +1,68 @@
 -- The loop over the positions meets its contract. The invariant: whether the strand is a friend from a position on is whether it is one
 -- somewhere. Assumes nothing.
 use mathlib.Core.Path.{_≡_, refl, sym, ap, _∙_}
+use mathlib.Core.Logic.{inl, inr}
+use mathlib.Core.Bool.{Bool, true, false, not, _&&_}
 use Prim.Native.Nat.{ℕ, _≤_, _-_}
 use native.Mathlib.Omega.{arith}
 use lib.ListN.{length, drop}
 use borrow.Author.Needs.{needs}
+use borrow.Author.Tests.{not-true, not-false}
 use Rattle.lists.specs.Build.{upTo}
 use Rattle.lists.specs.Find.{any}
 use Rattle.lists.proofs.Build.{any-here, any-later, any-past}
-use Rattle.design.specs.Design.{befriends}
+use Rattle.design.specs.Design.{befriends, blockedAt}
 use Rattle.design.specs.Checks.{friendAt, somewhere}
 use Rattle.design.proofs.friends.is_friend_somewhere.Statement.{statement}
 use Rattle.design.proofs.friends.is_friend_somewhere.Tie as tie
 
+-- a position that is open, and one that is not
+open-is : {b t s : Bool} → b ≡ false → t ≡ s → (not b && t) ≡ s
+open-is e f = rw e f
+
+blocked-is : {b : Bool} (t : Bool) → b ≡ true → (not b && t) ≡ false
+blocked-is t e = rw e
+
 abbrev Inv-loop : tie.InvT-loop
-Inv-loop scaffold glues dg ds strand position₀ position =
-    (position ≤ length scaffold) × (somewhere scaffold glues dg ds strand ≡ any (friendAt scaffold glues dg ds strand) (drop position (upTo (length scaffold))))
+Inv-loop scaffold marks glues dg ds strand position₀ position =
+    (position ≤ length scaffold) × (somewhere scaffold marks glues dg ds strand ≡ any (friendAt scaffold marks glues dg ds strand) (drop position (upTo (length scaffold))))
 
 abbrev μ-loop : tie.MeasureT-loop
-μ-loop scaffold glues dg ds strand position₀ position = length scaffold - position
+μ-loop scaffold marks glues dg ds strand position₀ position = length scaffold - position
 
 loop-holds : tie.Need-loop-holds Inv-loop μ-loop
 unfolding somewhere
 loop-holds c = (omega arith, refl)
 
-byte-at-requires : tie.Need-byte-at-requires Inv-loop μ-loop
-byte-at-requires c κs = search needs
-
-is-friend-requires : tie.Need-is-friend-requires Inv-loop μ-loop
-is-friend-requires c κs = search needs
-
 returns : tie.Need-returns Inv-loop μ-loop
 returns c =
-    let a = c .before .before .before .before .before .before .before .before .before .args in
-    let l = c .before .before .before .before in
-    let t = friendAt (a .scaffold .now) (a .glues .now) (a .dg .now) (a .ds .now) (a .strand) in
-    let is = c .before .is-friend .ensures ∙ ap (λ (glue : ℕ). befriends glue (a .glues .now) (a .dg .now) (a .ds .now) (a .strand)) (c .before .before .byte-at .ensures) in
-    sym (l .loop .inv .1 ∙ any-here t (length (a .scaffold .now)) (l .loop .position) (c .before .before .before .loop-test .taken) (sym is ∙ c .if1 .taken))
-
-add-position : tie.Need-add-position Inv-loop μ-loop
-add-position c = search needs
-
-loop-less : tie.Need-loop-less Inv-loop μ-loop
-loop-less c = search needs
+    let a = c .before .before .before .before .before .before .before .before .before .before .before .before .args in
+    let l = c .before .before .before .before .before .before .loop in
+    let t = friendAt (a .scaffold .now) (a .marks .now) (a .glues .now) (a .dg .now) (a .ds .now) (a .strand) in
+    let glue = ap (λ (glue : ℕ). befriends glue (a .glues .now) (a .dg .now) (a .ds .now) (a .strand)) (c .before .before .byte-at .ensures) in
+    let free : blockedAt (a .marks .now) (l .position) ≡ false = sym (c .before .before .before .before .is-blocked .ensures) ∙ not-true _ (c .before .before .before .if1 .taken) in
+    let is : t (l .position) ≡ true = open-is free (sym (c .before .is-friend .ensures ∙ glue) ∙ c .if2 .taken) in
+    sym (l .inv .1 ∙ any-here t (length (a .scaffold .now)) (l .position) (c .before .before .before .before .before .loop-test .taken) is)
 
 loop-again : tie.Need-loop-again Inv-loop μ-loop
 loop-again c =
     let a = c .before .before .before .before .before .before .before .before .before .args in
-    let l = c .before .before .before .before in
-    let t = friendAt (a .scaffold .now) (a .glues .now) (a .dg .now) (a .ds .now) (a .strand) in
-    let is = c .before .is-friend .ensures ∙ ap (λ (glue : ℕ). befriends glue (a .glues .now) (a .dg .now) (a .ds .now) (a .strand)) (c .before .before .byte-at .ensures) in
-    (omega arith, l .loop .inv .1 ∙ any-later t (length (a .scaffold .now)) (l .loop .position) (c .before .before .before .loop-test .taken) (sym is ∙ c .if1 .left))
+    let l = c .before .before .before .loop in
+    let t = friendAt (a .scaffold .now) (a .marks .now) (a .glues .now) (a .dg .now) (a .ds .now) (a .strand) in
+    let is : t (l .position) ≡ false =
+    elim (c .if1 .came) [
+      | inl w ↦ let glue = ap (λ (glue : ℕ). befriends glue (a .glues .now) (a .dg .now) (a .ds .now) (a .strand)) (w .1 .ensures) in
+          open-is (sym (c .before .is-blocked .ensures) ∙ not-true _ (w .0 .taken)) (sym (w .2 .ensures ∙ glue) ∙ w .3 .left)
+      | inr w ↦ blocked-is _ (sym (c .before .is-blocked .ensures) ∙ not-false _ (w .left))
+    ] in
+    (omega arith, l .inv .1 ∙ any-later t (length (a .scaffold .now)) (l .position) (c .before .before .loop-test .taken) is)
 
 returns-2 : tie.Need-returns-2 Inv-loop μ-loop
 returns-2 c =
-    let a = c .before .before .before .before .before .before .args in
-    let l = c .before in
-    let t = friendAt (a .scaffold .now) (a .glues .now) (a .dg .now) (a .ds .now) (a .strand) in
-    sym (l .loop .inv .1 ∙ any-past t (length (a .scaffold .now)) (l .loop .position) (c .loop-test .left))
+    let a = c .before .before .before .before .before .before .before .args in
+    let l = c .before .loop in
+    let t = friendAt (a .scaffold .now) (a .marks .now) (a .glues .now) (a .dg .now) (a .ds .now) (a .strand) in
+    sym (l .inv .1 ∙ any-past t (length (a .scaffold .now)) (l .position) (c .loop-test .left))
 
 pub is-friend-somewhere-spec : {M : Type 1} → statement M
 is-friend-somewhere-spec =
@@ -66,10 +71,11 @@ is-friend-somewhere-spec =
     Inv-loop
     μ-loop
     loop-holds
-    byte-at-requires
-    is-friend-requires
+    (λ c κs. search needs)
+    (λ c κs. search needs)
+    (λ c κs. search needs)
     returns
-    add-position
-    loop-less
+    (λ c. search needs)
+    (λ c. search needs)
     loop-again
     returns-2)

@@ -110,7 +110,7 @@ same-length-3 c = ap length (c .before .loop .inv .3) ∙ stored-length (logTerm
 
 returns : tie.Need-returns Inv-loop μ-loop
 unfolding modelOf
-returns c =
+returns c marks =
     let l = c .before .loop in
     let past = c .loop-test .left in
     record {

@@ -7,7 +7,7 @@ use Rattle.exports.proofs.search.mj_search.Tie as tie
 returns : tie.Need-returns
 returns c =
     let answer = c .before .before .before .before .before in
-    let entries = answer .before .before .before .before .before .before .before .before .before .args .configuration .now in
+    let entries = answer .before .before .before .before .before .before .before .before .before .before .args .configuration .now in
     let ambient = answer .before .before .ambient .ensures in
     let ensured = answer .mfe-configuration .ensures in
     let told = rw (ensured .0) at (c .tell-energy .ensures) in (

@@ -1,5 +1,7 @@
 -- `replay::about::of_own` is safe. Assumes nothing.
 use mathlib.Core.Path.{sym}
+use native.Mathlib.Omega.{arith}
+use lib.ListN.{replicate}
 use lib.Seq.{length-take-le}
 use borrow.Author.Needs.{needs}
 use Rattle.replay.proofs.about.of_own.Statement.{statement}
@@ -20,23 +22,29 @@ array-share-prefix-scaffold c = search needs
 slice-aggregate-says-of : tie.Need-slice-aggregate-says-of
 slice-aggregate-says-of c = sym (length-take-le _ _ (search needs))
 
+array-share-prefix-marks : tie.Need-array-share-prefix-marks
+array-share-prefix-marks c = search needs
+
+slice-aggregate-says-of-2 : tie.Need-slice-aggregate-says-of-2
+slice-aggregate-says-of-2 c = sym (length-take-le _ (replicate 128 0) (omega arith))
+
 array-share-prefix-glues : tie.Need-array-share-prefix-glues
 array-share-prefix-glues c = search needs
 
-slice-aggregate-says-of-2 : tie.Need-slice-aggregate-says-of-2
-slice-aggregate-says-of-2 c = sym (length-take-le _ _ (search needs))
-
 slice-aggregate-says-of-3 : tie.Need-slice-aggregate-says-of-3
-slice-aggregate-says-of-3 c = search needs
+slice-aggregate-says-of-3 c = sym (length-take-le _ _ (search needs))
 
 slice-aggregate-says-of-4 : tie.Need-slice-aggregate-says-of-4
 slice-aggregate-says-of-4 c = search needs
 
+slice-aggregate-says-of-5 : tie.Need-slice-aggregate-says-of-5
+slice-aggregate-says-of-5 c = search needs
+
 array-share-prefix-potentials : tie.Need-array-share-prefix-potentials
 array-share-prefix-potentials c = search needs
 
-slice-aggregate-says-of-5 : tie.Need-slice-aggregate-says-of-5
-slice-aggregate-says-of-5 c = sym (length-take-le _ _ (search needs))
+slice-aggregate-says-of-6 : tie.Need-slice-aggregate-says-of-6
+slice-aggregate-says-of-6 c = sym (length-take-le _ _ (search needs))
 
 says-of-requires : tie.Need-says-of-requires
 says-of-requires c κs = search needs
@@ -53,11 +61,13 @@ of-own-spec =
     mul-sides
     array-share-prefix-scaffold
     slice-aggregate-says-of
-    array-share-prefix-glues
+    array-share-prefix-marks
     slice-aggregate-says-of-2
+    array-share-prefix-glues
     slice-aggregate-says-of-3
     slice-aggregate-says-of-4
-    array-share-prefix-potentials
     slice-aggregate-says-of-5
+    array-share-prefix-potentials
+    slice-aggregate-says-of-6
     says-of-requires
     returns-3)

@@ -11,11 +11,11 @@ use Rattle.statements.proofs.grammar.item_at.Tie as tie
 
 returns : tie.Need-returns
 unfolding itemOf
-returns c = (simp (le-ltb (c .before .args .kind) 11 (c .if1 .taken)), tt)
+returns c = (simp (le-ltb (c .before .args .kind) 12 (c .if1 .taken)), tt)
 
 returns-2 : tie.Need-returns-2
 unfolding itemOf
-returns-2 c = (simp (lt-ltb (c .before .before .args .kind) 11 (c .before .if1 .left), le-ltb (c .before .before .args .place) 6 (c .if2 .taken)), tt)
+returns-2 c = (simp (lt-ltb (c .before .before .args .kind) 12 (c .before .if1 .left), le-ltb (c .before .before .args .place) 6 (c .if2 .taken)), tt)
 
 returns-3 : tie.Need-returns-3
 unfolding itemOf shapes
@@ -23,7 +23,7 @@ returns-3 c =
     let a = c .before .before .before .before .before .args in
     let d = c .decoded in
     let table = d .ensures .0 ∙ ap (λ (row : ℕ). decoded (getD (getD shapes row []) (a .place) 0)) (c .before .before .wide .ensures) in
-    (simp (lt-ltb (a .kind) 11 (c .before .before .before .before .if1 .left), lt-ltb (a .place) 6 (c .before .before .before .if2 .left)) table, d .ensures .1)
+    (simp (lt-ltb (a .kind) 12 (c .before .before .before .before .if1 .left), lt-ltb (a .place) 6 (c .before .before .before .if2 .left)) table, d .ensures .1)
 
 pub item-at-spec : {M : Type 1} → statement M
 item-at-spec =

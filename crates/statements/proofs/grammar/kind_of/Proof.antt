@@ -4,7 +4,7 @@ use mathlib.Core.Path.{_≡_, sym, _∙_}
 use mathlib.Core.Bool.{true, false}
 use denote.Ref.{now}
 use Rattle.sdc_common.specs.Names.{sameName}
-use Rattle.statements.specs.Grammar.{kindOf, kelvinBytes, ambientBytes, strandBytes, quencherBytes, reporterBytes, scaffoldBytes, energyBytes, pairBytes, penaltyBytes}
+use Rattle.statements.specs.Grammar.{kindOf, kelvinBytes, ambientBytes, strandBytes, quencherBytes, reporterBytes, scaffoldBytes, energyBytes, pairBytes, penaltyBytes, blockedBytes}
 use Rattle.statements.proofs.grammar.kind_of.Statement.{statement}
 use Rattle.statements.proofs.grammar.kind_of.Tie as tie
 
@@ -110,17 +110,34 @@ returns-9 c =
 returns-10 : tie.Need-returns-10
 unfolding kindOf
 returns-10 c =
-    let word = now (c .before .before .before .before .before .before .before .before .before .before .before .before .before .before .before .before .before .before .before .before .before .before .before .before .before .before .before .before .args .word) in
-    let e1 : sameName word kelvinBytes ≡ false = sym (c .before .before .before .before .before .before .before .before .before .before .before .before .before .before .before .before .before .before .before .before .before .before .before .before .before .same-bytes .ensures) ∙ c .before .before .before .before .before .before .before .before .before .before .before .before .before .before .before .before .before .before .before .before .before .before .before .before .if1 .left in
-    let e2 : sameName word ambientBytes ≡ false = sym (c .before .before .before .before .before .before .before .before .before .before .before .before .before .before .before .before .before .before .before .before .before .before .same-bytes2 .ensures) ∙ c .before .before .before .before .before .before .before .before .before .before .before .before .before .before .before .before .before .before .before .before .before .if2 .left in
-    let e3 : sameName word strandBytes ≡ false = sym (c .before .before .before .before .before .before .before .before .before .before .before .before .before .before .before .before .before .before .before .same-bytes3 .ensures) ∙ c .before .before .before .before .before .before .before .before .before .before .before .before .before .before .before .before .before .before .if3 .left in
-    let e4 : sameName word quencherBytes ≡ false = sym (c .before .before .before .before .before .before .before .before .before .before .before .before .before .before .before .before .same-bytes4 .ensures) ∙ c .before .before .before .before .before .before .before .before .before .before .before .before .before .before .before .if4 .left in
-    let e5 : sameName word reporterBytes ≡ false = sym (c .before .before .before .before .before .before .before .before .before .before .before .before .before .same-bytes5 .ensures) ∙ c .before .before .before .before .before .before .before .before .before .before .before .before .if5 .left in
-    let e6 : sameName word scaffoldBytes ≡ false = sym (c .before .before .before .before .before .before .before .before .before .before .same-bytes6 .ensures) ∙ c .before .before .before .before .before .before .before .before .before .if6 .left in
-    let e7 : sameName word energyBytes ≡ false = sym (c .before .before .before .before .before .before .before .same-bytes7 .ensures) ∙ c .before .before .before .before .before .before .if7 .left in
-    let e8 : sameName word pairBytes ≡ false = sym (c .before .before .before .before .same-bytes8 .ensures) ∙ c .before .before .before .if8 .left in
-    let e9 : sameName word penaltyBytes ≡ false = sym (c .before .same-bytes9 .ensures) ∙ c .if9 .left in
-    simp (e1, e2, e3, e4, e5, e6, e7, e8, e9)
+    let word = now (c .before .before .before .before .before .before .before .before .before .before .before .before .before .before .before .before .before .before .before .before .before .before .before .before .before .before .before .before .before .before .before .args .word) in
+    let e1 : sameName word kelvinBytes ≡ false = sym (c .before .before .before .before .before .before .before .before .before .before .before .before .before .before .before .before .before .before .before .before .before .before .before .before .before .before .before .before .same-bytes .ensures) ∙ c .before .before .before .before .before .before .before .before .before .before .before .before .before .before .before .before .before .before .before .before .before .before .before .before .before .before .before .if1 .left in
+    let e2 : sameName word ambientBytes ≡ false = sym (c .before .before .before .before .before .before .before .before .before .before .before .before .before .before .before .before .before .before .before .before .before .before .before .before .before .same-bytes2 .ensures) ∙ c .before .before .before .before .before .before .before .before .before .before .before .before .before .before .before .before .before .before .before .before .before .before .before .before .if2 .left in
+    let e3 : sameName word strandBytes ≡ false = sym (c .before .before .before .before .before .before .before .before .before .before .before .before .before .before .before .before .before .before .before .before .before .before .same-bytes3 .ensures) ∙ c .before .before .before .before .before .before .before .before .before .before .before .before .before .before .before .before .before .before .before .before .before .if3 .left in
+    let e4 : sameName word quencherBytes ≡ false = sym (c .before .before .before .before .before .before .before .before .before .before .before .before .before .before .before .before .before .before .before .same-bytes4 .ensures) ∙ c .before .before .before .before .before .before .before .before .before .before .before .before .before .before .before .before .before .before .if4 .left in
+    let e5 : sameName word reporterBytes ≡ false = sym (c .before .before .before .before .before .before .before .before .before .before .before .before .before .before .before .before .same-bytes5 .ensures) ∙ c .before .before .before .before .before .before .before .before .before .before .before .before .before .before .before .if5 .left in
+    let e6 : sameName word scaffoldBytes ≡ false = sym (c .before .before .before .before .before .before .before .before .before .before .before .before .before .same-bytes6 .ensures) ∙ c .before .before .before .before .before .before .before .before .before .before .before .before .if6 .left in
+    let e7 : sameName word energyBytes ≡ false = sym (c .before .before .before .before .before .before .before .before .before .before .same-bytes7 .ensures) ∙ c .before .before .before .before .before .before .before .before .before .if7 .left in
+    let e8 : sameName word pairBytes ≡ false = sym (c .before .before .before .before .before .before .before .same-bytes8 .ensures) ∙ c .before .before .before .before .before .before .if8 .left in
+    let e9 : sameName word penaltyBytes ≡ false = sym (c .before .before .before .before .same-bytes9 .ensures) ∙ c .before .before .before .if9 .left in
+    let e10 : sameName word blockedBytes ≡ true = sym (c .before .same-bytes10 .ensures) ∙ c .if10 .taken in
+    simp (e1, e2, e3, e4, e5, e6, e7, e8, e9, e10)
+
+returns-11 : tie.Need-returns-11
+unfolding kindOf
+returns-11 c =
+    let word = now (c .before .before .before .before .before .before .before .before .before .before .before .before .before .before .before .before .before .before .before .before .before .before .before .before .before .before .before .before .before .before .before .args .word) in
+    let e1 : sameName word kelvinBytes ≡ false = sym (c .before .before .before .before .before .before .before .before .before .before .before .before .before .before .before .before .before .before .before .before .before .before .before .before .before .before .before .before .same-bytes .ensures) ∙ c .before .before .before .before .before .before .before .before .before .before .before .before .before .before .before .before .before .before .before .before .before .before .before .before .before .before .before .if1 .left in
+    let e2 : sameName word ambientBytes ≡ false = sym (c .before .before .before .before .before .before .before .before .before .before .before .before .before .before .before .before .before .before .before .before .before .before .before .before .before .same-bytes2 .ensures) ∙ c .before .before .before .before .before .before .before .before .before .before .before .before .before .before .before .before .before .before .before .before .before .before .before .before .if2 .left in
+    let e3 : sameName word strandBytes ≡ false = sym (c .before .before .before .before .before .before .before .before .before .before .before .before .before .before .before .before .before .before .before .before .before .before .same-bytes3 .ensures) ∙ c .before .before .before .before .before .before .before .before .before .before .before .before .before .before .before .before .before .before .before .before .before .if3 .left in
+    let e4 : sameName word quencherBytes ≡ false = sym (c .before .before .before .before .before .before .before .before .before .before .before .before .before .before .before .before .before .before .before .same-bytes4 .ensures) ∙ c .before .before .before .before .before .before .before .before .before .before .before .before .before .before .before .before .before .before .if4 .left in
+    let e5 : sameName word reporterBytes ≡ false = sym (c .before .before .before .before .before .before .before .before .before .before .before .before .before .before .before .before .same-bytes5 .ensures) ∙ c .before .before .before .before .before .before .before .before .before .before .before .before .before .before .before .if5 .left in
+    let e6 : sameName word scaffoldBytes ≡ false = sym (c .before .before .before .before .before .before .before .before .before .before .before .before .before .same-bytes6 .ensures) ∙ c .before .before .before .before .before .before .before .before .before .before .before .before .if6 .left in
+    let e7 : sameName word energyBytes ≡ false = sym (c .before .before .before .before .before .before .before .before .before .before .same-bytes7 .ensures) ∙ c .before .before .before .before .before .before .before .before .before .if7 .left in
+    let e8 : sameName word pairBytes ≡ false = sym (c .before .before .before .before .before .before .before .same-bytes8 .ensures) ∙ c .before .before .before .before .before .before .if8 .left in
+    let e9 : sameName word penaltyBytes ≡ false = sym (c .before .before .before .before .same-bytes9 .ensures) ∙ c .before .before .before .if9 .left in
+    let e10 : sameName word blockedBytes ≡ false = sym (c .before .same-bytes10 .ensures) ∙ c .if10 .left in
+    simp (e1, e2, e3, e4, e5, e6, e7, e8, e9, e10)
 
 pub kind-of-spec : {M : Type 1} → statement M
 kind-of-spec =
@@ -153,4 +170,7 @@ kind-of-spec =
     (λ c. search needs)
     (λ c κs. search needs)
     returns-9
-    returns-10)
+    (λ c. search needs)
+    (λ c κs. search needs)
+    returns-10
+    returns-11)

@@ -29,7 +29,7 @@ unfolding rowsBy
 lay-positions-requires c κs =
     let a = c .before .before .before .before .before .before .before .before .before .before .before .before .before .args in
     let each = ap length (rows-by (now (a .line)) (a .at) (c .before .before .before .before .before .before .before .statement-of .result) (c .before .before .before .before .before .before .before .statement-of .ensures) _ (c .before .before .before .before .before .outcome .given .1) (a .number)) in
-    let as-many = length-map (wordsIn (now (a .line)) (c .before .before .before .before .before .outcome .given .0 .0)) (positionRow (now (a .line)) (a .number)) in
+    let as-many = length-map (wordsIn (now (a .line)) (c .before .before .before .before .before .outcome .given .0 .1 .0)) (positionRow (c .before .before .before .before .before .outcome .given .0 .0) (now (a .line)) (a .number)) in
     (c .before .before .before .before .before .before .before .before .before .before .before .before .before .pre .0, omega (arith, c .before .before .before .before .before .before .before .before .before .before .before .before .before .pre .1))
 
 returns : tie.Need-returns
@@ -54,7 +54,7 @@ returns-3 c =
     let a = c .before .before .before .before .before .before .before .before .before .before .before .before .before .before .before .before .before .before .before .before .before .before .args in
     let each = rows-by (now (a .line)) (a .at) (c .before .before .before .before .before .before .before .before .before .before .before .before .before .before .before .before .statement-of .result) (c .before .before .before .before .before .before .before .before .before .before .before .before .before .before .before .before .statement-of .ensures) _ (c .before .before .before .before .before .before .before .before .before .before .before .before .before .before .outcome .given .1) (a .number) in
     let count = ap length each in
-    let as-many = length-map (wordsIn (now (a .line)) (c .before .before .before .before .before .before .before .before .before .before .before .before .before .before .outcome .given .0 .0)) (positionRow (now (a .line)) (a .number)) in
+    let as-many = length-map (wordsIn (now (a .line)) (c .before .before .before .before .before .before .before .before .before .before .before .before .before .before .outcome .given .0 .1 .0)) (positionRow (c .before .before .before .before .before .before .before .before .before .before .before .before .before .before .outcome .given .0 .0) (now (a .line)) (a .number)) in
     (omega arith, rw (sym each) (c .before .before .before .before .before .before .before .before .lay-positions .ensures .1))
 
 returns-4 : tie.Need-returns-4

@@ -7,7 +7,6 @@ use native.Mathlib.Omega.{arith}
 use lib.ListN.{length}
 use denote.Ref.{now}
 use Rattle.statements.specs.Words.{wordsIn, spelled}
-use Rattle.statements.specs.Grammar.{position}
 use Rattle.statements.specs.Layout.{roomOf, Equal}
 use Rattle.statements.specs.Statement.{blank, accepted}
 use Rattle.statements.specs.Rows.{rowOf, positionRow, laid}
@@ -19,13 +18,13 @@ use Rattle.statements.proofs.rows.lay_positions.Statement.{statement}
 use Rattle.statements.proofs.rows.lay_positions.Tie as tie
 
 abbrev Inv-loop : tie.InvT-loop
-Inv-loop line at number i kinds₀ lines₀ words₀ numbers₀ next₀ from₀ kinds lines words numbers next from =
+Inv-loop kind line at number i kinds₀ lines₀ words₀ numbers₀ next₀ from₀ kinds lines words numbers next from =
     Equal (roomOf kinds lines words numbers) × (length kinds ≡ length kinds₀) × (next + length (wordsIn line from) ≡ i + length (wordsIn line at))
-    × (laid (roomOf kinds lines words numbers) next (map (positionRow line number) (wordsIn line from))
-    ≡ laid (roomOf kinds₀ lines₀ words₀ numbers₀) i (map (positionRow line number) (wordsIn line at)))
+    × (laid (roomOf kinds lines words numbers) next (map (positionRow kind line number) (wordsIn line from))
+    ≡ laid (roomOf kinds₀ lines₀ words₀ numbers₀) i (map (positionRow kind line number) (wordsIn line at)))
 
 abbrev μ-loop : tie.MeasureT-loop
-μ-loop line at number i kinds₀ lines₀ words₀ numbers₀ next₀ from₀ kinds lines words numbers next from = length line - from
+μ-loop kind line at number i kinds₀ lines₀ words₀ numbers₀ next₀ from₀ kinds lines words numbers next from = length line - from
 
 loop-holds : tie.Need-loop-holds Inv-loop μ-loop
 loop-holds c = (c .before .before .before .before .before .pre .0, refl, refl, refl)
@@ -62,10 +61,10 @@ loop-less c =
     omega arith
 
 -- the row that the code makes of a word
-made : (line : List ℕ) (number : ℕ) (word : Word) (bytes : List ℕ) → bytes ≡ spelled line word → (row : Statement) → row ≡ blank position → (after : Statement)
-    → after ≡ accepted bytes (Glue 0) word row → rowOf number after ≡ positionRow line number word
+made : (kind : ℕ) (line : List ℕ) (number : ℕ) (word : Word) (bytes : List ℕ) → bytes ≡ spelled line word → (row : Statement) → row ≡ blank kind → (after : Statement)
+    → after ≡ accepted bytes (Glue 0) word row → rowOf number after ≡ positionRow kind line number word
 unfolding positionRow
-made line number word bytes b row r after a =
+made kind line number word bytes b row r after a =
     ap (rowOf number) (a ∙ ap (λ (s : List ℕ). accepted s (Glue 0) word row) b ∙ ap (accepted (spelled line word) (Glue 0) word) r)
 
 loop-again : tie.Need-loop-again Inv-loop μ-loop
@@ -76,11 +75,11 @@ loop-again c =
     let word = c .before .before .before .before .before .before .before .before .before .before .before .before .before .before .before .before .before .before .before .next-word .result in
     let more = c .before .before .before .before .before .before .before .before .before .before .before .before .before .before .before .before .before .before .before .next-word .ensures .more (omega arith) in
     let count = ap length more in
-    let row = made line (a .number) word (now (c .before .before .before .before .before .before .before .before .before .before .before .before .before .before .before .bytes .result)) (c .before .before .before .before .before .before .before .before .before .before .before .before .before .before .before .bytes .ensures) (c .before .before .before .before .before .before .before .before .before .before .before .before .before .before .before .before .blank .result) (c .before .before .before .before .before .before .before .before .before .before .before .before .before .before .before .before .blank .ensures) (c .before .before .before .before .before .before .before .before .before .before .before .before .before .before .accept .result) (c .before .before .before .before .before .before .before .before .before .before .before .before .before .before .accept .ensures) in (
+    let row = made (a .kind) line (a .number) word (now (c .before .before .before .before .before .before .before .before .before .before .before .before .before .before .before .bytes .result)) (c .before .before .before .before .before .before .before .before .before .before .before .before .before .before .before .bytes .ensures) (c .before .before .before .before .before .before .before .before .before .before .before .before .before .before .before .before .blank .result) (c .before .before .before .before .before .before .before .before .before .before .before .before .before .before .before .before .blank .ensures) (c .before .before .before .before .before .before .before .before .before .before .before .before .before .before .accept .result) (c .before .before .before .before .before .before .before .before .before .before .before .before .before .before .accept .ensures) in (
       record { lines = omega arith; words = omega arith; numbers = omega arith },
       omega arith,
       omega arith,
-      position-step (positionRow line (a .number)) (wordsIn line (l .from)) (wordsIn line (word .start + word .size)) word more _ _ (l .next) _ (c .before .before .before .before .before .before .before .before .before .lay-row .ensures) row ∙ l .inv .3,
+      position-step (positionRow (a .kind) line (a .number)) (wordsIn line (l .from)) (wordsIn line (word .start + word .size)) word more _ _ (l .next) _ (c .before .before .before .before .before .before .before .before .before .lay-row .ensures) row ∙ l .inv .3,
     )
 
 pub lay-positions-spec : {M : Type 1} → statement M

@@ -24,7 +24,7 @@ other : (o : Outcome) → OneOf (0 ∷ 2 ∷ 3 ∷ []) (tagOf outcome.the-type o
 unfolding goesOn
 other Nothing k = refl
 other Whole k = absurd (miss (0 ∷ 2 ∷ 3 ∷ []) 1 tt k)
-other (Positions at) k = refl
+other (Positions kind at) k = refl
 other (Fault word reason) k = refl
 
 returns-2 : tie.Need-returns-2

@@ -22,8 +22,20 @@ pub fn of_a_design(random: &mut Random, lent: &mut Lent) {
             *x = odd;
         }
     };
-    match random.below(12) {
-        0 => lent.scaffold.push(random.below(256) as u8),
+    match random.below(13) {
+        0 => {
+            lent.scaffold.push(random.below(256) as u8);
+            if !random.once_in(4) {
+                lent.marks.push(0);
+            }
+        }
+        12 => {
+            let mark = random.pick(&[1, 1, 2, 255]);
+            match lent.marks.last_mut() {
+                Some(last) if !random.once_in(4) => *last = mark,
+                _ => lent.marks.push(mark),
+            }
+        }
         1 => lent.glues.truncate(lent.glues.len().saturating_sub(1)),
         2 => lent.glues.push(0),
         3 => lent.dg.truncate(random.below(CELLS)),

@@ -9,9 +9,12 @@ use crate::kinds::Ask;
 type Fault = fn(&mut Lent);
 
 /// Each number of a design that a call may refuse, at each of its places; strands 0 and 3 are nowhere
-/// friends, and more than 1,048,576 states or no position are refused by some calls alone.
-const FAULTS: [Fault; 19] = [
+/// friends, a strand whose places are blocked is none, and more than 1,048,576 states or no position are refused by some calls alone.
+const FAULTS: [Fault; 22] = [
     |lent| lent.scaffold[1] = 64,
+    |lent| lent.marks[2] = 2,
+    |lent| lent.marks[1] = 1,
+    |lent| (lent.marks[0], lent.marks[2]) = (1, 1),
     |lent| lent.dg[0] = f64::NAN,
     |lent| lent.dg[65] = f64::INFINITY,
     |lent| lent.ds[0] = 9.0,
@@ -27,8 +30,11 @@ const FAULTS: [Fault; 19] = [
     |lent| lent.potentials[1] = f64::NAN,
     |lent| lent.potentials[2] = -1025.0,
     |lent| lent.potentials[3] = 0.0,
-    |lent| lent.scaffold.resize(24, 1),
-    |lent| lent.scaffold.clear(),
+    |lent| {
+        lent.scaffold.resize(24, 1);
+        lent.marks.resize(24, 0);
+    },
+    |lent| lent.open(vec![]),
     |_| {},
 ];
 

@@ -9,6 +9,7 @@ use crate::kinds::Ask;
 pub fn base() -> Lent {
     let mut lent = Lent {
         scaffold: vec![1, 2, 1],
+        marks: vec![0; 3],
         glues: vec![0, 0, 0, 3, 1, 4, 4, 2, 3, 0, 5, 0],
         dg: vec![0.0; CELLS],
         ds: vec![0.0; CELLS],
@@ -32,7 +33,17 @@ fn changed(ask: &mut Ask, change: impl FnOnce(&mut Lent)) {
 
 pub fn every_size(ask: &mut Ask) {
     for length in [0, 1, 2, 4, 127, 128, 129, 200, 256, 1000] {
+        changed(ask, |lent| {
+            lent.scaffold.resize(length, 0);
+            lent.marks.resize(length, 0);
+        });
         changed(ask, |lent| lent.scaffold.resize(length, 0));
+        changed(ask, |lent| lent.marks.resize(length, 0));
+    }
+    for mark in [1, 2, 3, 128, 255] {
+        for index in 0..3 {
+            changed(ask, |lent| lent.marks[index] = mark);
+        }
     }
     for length in [0, 1, 3, 9, 10, 11, 13, 14, 15, 24] {
         changed(ask, |lent| lent.glues.resize(length, 0));
@@ -128,13 +139,21 @@ pub fn every_null(ask: &mut Ask) {
     }
 }
 
+/// With each choice of blocked positions.
 pub fn every_argument(ask: &mut Ask) {
-    let lent = base();
-    let usual = Arguments::usual(&lent);
+    for marks in 0..8u8 {
+        let mut lent = base();
+        lent.marks = (0..3).map(|position| (marks >> position) & 1).collect();
+        arguments_of(&lent, ask);
+    }
+}
+
+fn arguments_of(lent: &Lent, ask: &mut Ask) {
+    let usual = Arguments::usual(lent);
     let mut put = |change: &dyn Fn(&mut Arguments)| {
         let mut arguments = usual.clone();
         change(&mut arguments);
-        ask_every_call(&lent, &arguments, ask);
+        ask_every_call(lent, &arguments, ask);
     };
     for strand in (0..6).chain([63, 64, 255]) {
         put(&|it| it.pair.0 = strand);
@@ -169,7 +188,7 @@ pub fn every_argument(ask: &mut Ask) {
 pub fn counts(ask: &mut Ask) {
     let mut put = |positions: usize, friends: usize| {
         let mut lent = base();
-        lent.scaffold = vec![1; positions];
+        lent.open(vec![1; positions]);
         lent.glues = vec![0; 3];
         lent.potentials = vec![0.0; friends + 1];
         for _ in 0..friends {

@@ -8,7 +8,7 @@ mod fixed;
 
 use super::design::WALKED;
 use super::{Ask, Kind};
-use crate::designs::{design, raw_lines, Ambient, Shape, SORTS};
+use crate::designs::{blocks, marked, raw_lines, Ambient, Shape, SORTS};
 use crate::judge::design::{Lent, FRIENDS_LENT};
 use crate::judge::search::Reading;
 use crate::judge::Verdict;
@@ -52,7 +52,11 @@ impl Kind for RawDesigns {
             };
             let ambient = Ambient::any(random);
             let sort = random.pick(&SORTS);
-            let mut lent = design(random, sort, &shape, ambient);
+            let marks = match random.once_in(2) {
+                true => blocks(random, shape.positions),
+                false => vec![0; shape.positions],
+            };
+            let mut lent = marked(random, sort, &shape, ambient, marks);
             for _ in 0..random.below(4) {
                 damage::of_a_design(random, &mut lent);
             }

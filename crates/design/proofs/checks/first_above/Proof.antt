@@ -1,21 +1,21 @@
--- The search for a glue above 63 meets its contract. The invariant: what is found from i on, i places further, is what is found. Assumes nothing.
+-- The search for a number above a limit meets its contract. The invariant: what is found from i on, i places further, is what is found. Assumes nothing.
 use mathlib.Core.Path.{_≡_}
 use Prim.Native.Nat.{_≤_, _+_, _-_}
 use native.Mathlib.Omega.{arith}
+use lib.Dec.{ltb}
 use lib.ListN.{length, drop}
 use borrow.Author.Needs.{needs}
 use borrow.Author.Tests.{lt-ltb, le-ltb}
 use Rattle.lists.specs.Find.{firstIndex}
 use Rattle.lists.proofs.Find.{first-here, first-later, first-past}
-use Rattle.design.specs.Checks.{highGlue}
-use Rattle.design.proofs.checks.first_high_glue.Statement.{statement}
-use Rattle.design.proofs.checks.first_high_glue.Tie as tie
+use Rattle.design.proofs.checks.first_above.Statement.{statement}
+use Rattle.design.proofs.checks.first_above.Tie as tie
 
 abbrev Inv-loop : tie.InvT-loop
-Inv-loop glues i₀ i = (i ≤ length glues) × (firstIndex highGlue glues ≡ i + firstIndex highGlue (drop i glues))
+Inv-loop most numbers i₀ i = (i ≤ length numbers) × (firstIndex (ltb most) numbers ≡ i + firstIndex (ltb most) (drop i numbers))
 
 abbrev μ-loop : tie.MeasureT-loop
-μ-loop glues i₀ i = length glues - i
+μ-loop most numbers i₀ i = length numbers - i
 
 loop-holds : tie.Need-loop-holds Inv-loop μ-loop
 loop-holds c = search needs
@@ -26,7 +26,7 @@ shared-slice-read-if1 c = search needs
 returns : tie.Need-returns Inv-loop μ-loop
 returns c =
     let l = c .before .before .before in
-    omega (arith, first-here highGlue (l .before .args .glues .now) (l .loop .i) 0 (omega arith) (lt-ltb _ _ (c .if1 .taken)), l .loop .inv .1)
+    omega (arith, first-here (ltb (l .before .args .most)) (l .before .args .numbers .now) (l .loop .i) 0 (omega arith) (lt-ltb _ _ (c .if1 .taken)), l .loop .inv .1)
 
 add-i : tie.Need-add-i Inv-loop μ-loop
 add-i c = search needs
@@ -37,15 +37,15 @@ loop-less c = search needs
 loop-again : tie.Need-loop-again Inv-loop μ-loop
 loop-again c =
     let l = c .before .before .before in
-    (omega arith, omega (arith, first-later highGlue (l .before .args .glues .now) (l .loop .i) 0 (omega arith) (le-ltb _ _ (c .if1 .left)), l .loop .inv .1))
+    (omega arith, omega (arith, first-later (ltb (l .before .args .most)) (l .before .args .numbers .now) (l .loop .i) 0 (omega arith) (le-ltb _ _ (c .if1 .left)), l .loop .inv .1))
 
 returns-2 : tie.Need-returns-2 Inv-loop μ-loop
 returns-2 c =
     let l = c .before in
-    omega (arith, first-past highGlue (l .before .args .glues .now) (l .loop .i) (omega arith), l .loop .inv .1)
+    omega (arith, first-past (ltb (l .before .args .most)) (l .before .args .numbers .now) (l .loop .i) (omega arith), l .loop .inv .1)
 
-pub first-high-glue-spec : {M : Type 1} → statement M
-first-high-glue-spec =
+pub first-above-spec : {M : Type 1} → statement M
+first-above-spec =
     tie.close
     (tie.spec
     Inv-loop
