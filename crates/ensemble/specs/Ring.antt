@@ -1,11 +1,11 @@
--- What the search for rings reads of a model besides, and what it gives.
+-- What a ring reads of a model besides, and what its search gives.
 use mathlib.Core.Path.{_≡_}
 use mathlib.Core.List.{List}
-use Prim.Native.Nat.{ℕ, suc, _+_, _*_}
-use lib.ListN.{getD}
+use Prim.Native.Nat.{ℕ, suc, _+_, _-_, _*_}
+use lib.ListN.{length, getD}
 use lib.Ieee.{Float, nan}
 use Rattle.model.specs.Model as Model
-use Rattle.model.specs.Model.{Model, Friend}
+use Rattle.model.specs.Model.{Model, Friend, occupant}
 use Rattle.model.specs.Ring.{ringSearch}
 
 -- The cells by which a ring is closed are the model's: strand bonds of the last position's friends with those of the first.
@@ -17,3 +17,7 @@ ClosingCells m strands strandBonds =
 pub record FoundRing (m : Model) (configuration : List ℕ) (energy : Float) : Type 0 where
   pub shown : configuration ≡ ringSearch m .configuration
   pub least : energy ≡ ringSearch m .energy
+
+-- the term by which a configuration's ring is closed is the model's, where both ends are occupied
+abbrev pub ClosingTerm : Model → List ℕ → Float → Type 0
+ClosingTerm m s closing = (occupant s 0 ≡ 0 → ⊥) → (occupant s (length s - 1) ≡ 0 → ⊥) → closing ≡ m .pair (occupant s (length s - 1)) (occupant s 0)
