@@ -1,0 +1,5 @@
+pub mod Loss
+pub mod Cuts
+pub mod Exact
+pub mod Passed
+pub mod Constraint

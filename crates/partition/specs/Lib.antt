@@ -1,0 +1,3 @@
+pub mod Constraint
+pub mod Terms
+pub mod Pass
