@@ -1,0 +1,3 @@
+pub mod Frac
+pub mod Number
+pub mod Weight
