@@ -5,6 +5,7 @@ use mathlib.Core.List.{List, [], _∷_, _++_, map}
 use Prim.Native.Nat.{ℕ, zero, suc}
 use lib.ListN.{length}
 use native.Mathlib.Nat.{suc-ne-zero, suc-inj}
+use native.Mathlib.Omega.{arith}
 use Rattle.lists.specs.Build.{keep}
 use Rattle.model.specs.States.{eachBefore, listing}
 use Rattle.partition.specs.Constraint.{allows, meets}
@@ -64,3 +65,14 @@ unfolding noneLeft listing eachBefore
 none-left [] e = absurd (true≢false (sym e))
 none-left ([] ∷ options) e = refl
 none-left ((x ∷ here) ∷ options) e = ap (eachBefore (x ∷ here)) (none-left options e) ∙ none-each (x ∷ here)
+
+-- and some, where each position has an option
+pub some-state : (options : List (List ℕ)) → noneLeft options ≡ false → (listing options ≡ [] → ⊥)
+unfolding noneLeft listing eachBefore
+some-state [] e z = let g : _≡_ {A = ℕ} 0 1 = cc in omega arith
+some-state ([] ∷ options) e z = true≢false e
+some-state ((x ∷ here) ∷ options) e z = go (listing options) (some-state options e) z
+  where
+    go : (tails : List (List ℕ)) → (tails ≡ [] → ⊥) → map (x ∷_) tails ++ eachBefore here tails ≡ [] → ⊥
+    go [] h f = h refl
+    go (t ∷ tails) h f = let g : _≡_ {A = ℕ} 0 1 = cc in omega arith
