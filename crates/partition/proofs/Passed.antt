@@ -8,6 +8,7 @@ use lib.ListN.{length}
 use Rattle.partition.specs.declared.Term.{Term}
 use Rattle.partition.specs.Terms.{size, Normal, times, plus}
 use Rattle.partition.specs.Pass.{sumFrom, sumTerms, passed, passedWhole}
+use Rattle.partition.specs.inner.Used.{Fit}
 use Rattle.partition.proofs.Loss.{Loses, loses-none, loses-then, loses-times, loses-plus, loses-more, one-part}
 use Rattle.partition.proofs.Cuts.{times-cut, plus-cut}
 use Rattle.partition.proofs.Exact.{sumOver, onward, whole, sumOfStates, whole-states}
@@ -63,11 +64,6 @@ module _ (k m : ℕ) (f : ℕ → Term) (g : ℕ → ℕ) where
       (sumTerms-holds 63 (s .first) (s .rest) (s .few) (λ y e. h y (subst (λ (z : List ℕ). List·Memᴰ y z) (sym (s .split)) e)))
 
 -- ---- the pass
--- a factor in form, of a power that is bounded
-pub record Fit (most : ℕ) (t : Term) : Type 0 where
-  pub form : Normal t
-  pub low : t .power ≤ most
-
 pub fit-holds : {most : ℕ} {t : Term} → Fit most t → Holds 0 (size t) most t
 fit-holds {most} {t} f = record { form = f .form; near = loses-none (size t); low = f .low }
 

@@ -24,9 +24,9 @@ use Rattle.partition.specs.Constraint.{allows, meets}
 use Rattle.partition.specs.Pass.{passedWhole, allowed, noneLeft}
 use Rattle.partition.specs.Sum.{placeFactor, pairFactor, sumOver, zeroWeight, SumAnswered, SumWithin}
 use Rattle.partition.specs.Summed.{lifted, liftedTerm, oneTerm, lowered, factors, placeTerm, pairTerm, passedSum, summed}
-use Rattle.partition.specs.inner.Used.{Weighs, PlaceFit, PairFit, Used}
+use Rattle.partition.specs.inner.Used.{Fit, Weighs, PlaceFit, PairFit, Used}
 use Rattle.partition.proofs.Constraint.{keep-listing, none-left, some-state}
-use Rattle.partition.proofs.Passed.{Usable, Some, Fit, whole-holds}
+use Rattle.partition.proofs.Passed.{Usable, Some, whole-holds}
 use Rattle.partition.proofs.Units.{Scaled, Counted}
 use Rattle.partition.proofs.Lifted.{lifted-scaled, one-scaled, sum-within}
 

@@ -49,8 +49,8 @@ occupied {x} friends some m = go (List·Memᴰ·append-cases friends m)
 -- ---- a weight in its form
 
 exponent-reaches : (z : ℤ) → exponentFits z ≡ true → Reaches 400000 z × (lifted 400000 z ≤ 2 * 400000)
-exponent-reaches (pos k) e = let h : k ≤ 400000 = leb-true k 400000 e in (tt, omega arith)
-exponent-reaches (negsuc k) e = let h : k < 400000 = ltb-true k 400000 e in (h, omega arith)
+exponent-reaches (pos k) e = let h : k ≤ 400000 = leb-true k 400000 (both true (leb k 400000) e .1) in (tt, omega arith)
+exponent-reaches (negsuc k) e = let h : k ≤ 399999 = leb-true k 399999 (both (leb k 399999) true e .0) in (omega arith, omega arith)
 
 module _ (w : Weights) where
   formed : (v : Weight) → unformed v ≡ false → Weighs 400000 v

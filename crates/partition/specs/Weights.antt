@@ -5,6 +5,7 @@ use Prim.Native.Nat.{ℕ, _+_, _*_, _^_}
 use lib.Dec.{leb, ltb}
 use lib.IntN.{ℤ, pos, negsuc}
 use lib.ListN.{length, getD}
+use lib.Signed.{leZ}
 use Rattle.lists.specs.Build.{upTo, tabulate}
 use Rattle.lists.specs.Find.{any}
 use Rattle.fractions.specs.Frac.{Frac}
@@ -43,8 +44,7 @@ pairWorth w x y = worth (pairWeight w x y)
 
 -- an exponent from −400,000 to 400,000
 abbrev pub exponentFits : ℤ → Bool
-exponentFits (pos k) = leb k 400000
-exponentFits (negsuc k) = ltb k 400000
+exponentFits power = leZ (negsuc 399999) power && leZ power (pos 400000)
 
 -- Document 02's form: a whole number from 2^30 up to, not including, 2^31, times a power of two with such an exponent.
 unfoldable pub unformed : Weight → Bool

@@ -1,10 +1,12 @@
--- The weights that the states of some options use are in form.
+-- Weights and terms in form, and what holds of all that the states of some options use.
 use mathlib.Core.Path.{_≡_}
 use mathlib.Core.List.{List, [], _∷_, List·Memᴰ}
 use Prim.Native.Nat.{ℕ, suc, _*_, _≤_}
 use lib.IntN.{ℤ, pos, negsuc}
 use Rattle.fractions.specs.declared.Weight.{Weight}
 use Rattle.fractions.specs.Weight.{InForm}
+use Rattle.partition.specs.declared.Term.{Term}
+use Rattle.partition.specs.Terms.{Normal}
 use Rattle.partition.specs.Weights.{Weights, placeWeight, pairWeight}
 use Rattle.partition.specs.Summed.{lifted}
 
@@ -18,6 +20,11 @@ pub record Weighs (bias : ℕ) (w : Weight) : Type 0 where
   pub form : InForm w
   pub reaches : Reaches bias (w .power)
   pub low : lifted bias (w .power) ≤ 2 * bias
+
+-- a term has 31 digits, and a power that is not above a bound
+pub record Fit (most : ℕ) (t : Term) : Type 0 where
+  pub form : Normal t
+  pub low : t .power ≤ most
 
 -- the weight of a strand at a position is in form, or the place is empty
 abbrev pub PlaceFit : ℕ → (ℕ → ℕ → Weight) → ℕ → ℕ → Type 0

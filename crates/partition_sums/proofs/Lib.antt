@@ -1,0 +1,4 @@
+pub mod Signed
+pub mod Forms
+pub mod Factored
+pub mod Rowed
