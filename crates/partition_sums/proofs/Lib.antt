@@ -2,3 +2,4 @@ pub mod Signed
 pub mod Forms
 pub mod Factored
 pub mod Rowed
+pub mod Positions

@@ -35,7 +35,7 @@ module _ (f : ℕ → Term) where
   sum-done xs t k h = rw (drop-of-length-le xs h) refl
 
 -- ---- a sum over options has its form
-mem-index : {y : ℕ} (xs : List ℕ) → List·Memᴰ y xs → (k : ℕ) × (k < length xs) × (y ≡ getD xs k 0)
+pub mem-index : {y : ℕ} (xs : List ℕ) → List·Memᴰ y xs → (k : ℕ) × (k < length xs) × (y ≡ getD xs k 0)
 mem-index [] m = absurd (List·Memᴰ·not-nil m)
 mem-index {y} (x ∷ xs) m = go (List·Memᴰ·cases-cons m) (λ l. mem-index xs l)
   where

@@ -2,4 +2,5 @@
 // document 02's, in `partition`.
 mod factors;
 mod rows;
+pub mod sums;
 mod terms;

@@ -1,12 +1,14 @@
 // Terms: their products and sums, cut to 31 digits, and exponents moved up and back.
+use fractions::Weight;
 use partition::Term;
 ghost use mathlib.Core.Path.{_≡_};
-ghost use Prim.Native.Nat.{_^_, _≤_};
+ghost use Prim.Native.Nat.{_^_, _<_, _≤_};
 ghost use lib.IntN.{subℕ};
 ghost use Rattle.fractions.specs.Weight.{weight};
 ghost use Rattle.partition.specs.Terms.{Normal, times, plusLower, plus};
 ghost use Rattle.partition.specs.Weights as Weights;
-ghost use Rattle.partition.specs.Summed.{lifted};
+ghost use Rattle.partition.specs.Summed as Summed;
+ghost use Rattle.partition.specs.Summed.{lifted, factors};
 ghost use Rattle.partition_sums.specs.inner.Rows.{Low};
 
 // The product, cut to 31 digits.
@@ -81,6 +83,20 @@ pub(crate) fn lower(power: u64, down: u64) -> i32
     ensures { λ r. ⌜ r ≡ subℕ power down ⌝ }
 {
     (power as i64 - down as i64) as i32
+}
+
+// A term of a state of so many positions, as a weight: each of its factors was moved up.
+pub(crate) fn lowered(t: Term, positions: usize) -> Weight
+    requires { ⌜ t .digits < 2 ^ 31 ⌝ }
+    requires { ⌜ t .power ≤ 2 ^ 30 ⌝ }
+    requires { ⌜ (0 < positions) × (positions ≤ 128) ⌝ }
+    ensures { λ r. ⌜ r ≡ Summed.lowered 400000 (factors positions) t ⌝ }
+{
+    let moved = 400000 * (2 * positions as u64 - 1);
+    Weight {
+        digits: t.digits as u32,
+        power: lower(t.power, moved),
+    }
 }
 
 // Whether a weight is outside its form.
