@@ -1,0 +1,9 @@
+pub mod Loss
+pub mod Cuts
+pub mod Exact
+pub mod Passed
+pub mod Constraint
+pub mod Units
+pub mod Lifted
+pub mod Summed
+pub mod Sums

@@ -1,0 +1,5 @@
+pub mod Signed
+pub mod Forms
+pub mod Factored
+pub mod Rowed
+pub mod Positions
