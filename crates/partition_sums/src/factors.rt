@@ -94,12 +94,26 @@ fn following(
     requires { ⌜ ((k : ℕ) → k < length (now options) → Joins (now digits) (now powers) «beside_empty» (now «row_digits») (now «row_powers») (getD (now options) k 0)) ⌝ }
     ensures { λ r. ⌜ r ≡ sumTerms (joined (now (digits .entry)) (now (powers .entry)) «beside_empty» (now («row_digits» .entry)) (now («row_powers» .entry))) (now (options .entry)) ⌝ }
 {
-    let mut sum = join(digits, powers, beside_empty, row_digits, row_powers, options[0]);
+    let mut sum = join(
+        digits,
+        powers,
+        beside_empty,
+        row_digits,
+        row_powers,
+        options[0],
+    );
     let mut k = 1;
     while k < options.len() {
         sum = term_plus(
             sum,
-            join(digits, powers, beside_empty, row_digits, row_powers, options[k]),
+            join(
+                digits,
+                powers,
+                beside_empty,
+                row_digits,
+                row_powers,
+                options[k],
+            ),
         );
         k += 1;
     }
