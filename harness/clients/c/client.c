@@ -125,10 +125,14 @@ static void loops(void)
     a_loop(30, 0, 0, 6.6);
     a_loop(3, 1, 0, 3.1);
     a_loop(12, 2, 0, 5.0);
-    a_loop(31, 0, 5, 0.0);
     a_loop(2, 1, 5, 0.0);
+    a_loop(255, 0, 5, 0.0);
     a_loop(3, 3, 5, 0.0);
     a_loop(SIZE_MAX, 0, 5, 0.0);
+    /* Between the table's lengths: 6.6 + 0.00198720425864083 x 310.15 x 2.44 x ln(31 / 30). */
+    double dg = unwritten;
+    reply("a loop of 31", mj_loop_penalty(31, 0, &dg), 0);
+    count("its dG", fabs(dg - 6.649310929736642) < 0x1p-29);
 }
 
 static void refused_excess(double excess)

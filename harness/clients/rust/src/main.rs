@@ -158,7 +158,12 @@ fn loops(checks: &mut Checks) {
         checks.reply("a loop", number, 0);
         checks.figure("its dG", dg, expected);
     }
-    for (length, kind) in [(31, 0), (2, 1), (3, 3), (usize::MAX, 0)] {
+    // Between the table's lengths: 6.6 + 0.00198720425864083 x 310.15 x 2.44 x ln(31 / 30).
+    let mut dg = DOUBLE;
+    checks.reply("a loop of 31", mj::loop_penalty(31, 0, &mut dg), 0);
+    let near = (dg - 6.649310929736642).abs() < f64::from_bits(0x3e20_0000_0000_0000);
+    checks.count("its dG", near, format!("{dg}"));
+    for (length, kind) in [(2, 1), (255, 0), (3, 3), (usize::MAX, 0)] {
         let mut dg = DOUBLE;
         let number = mj::loop_penalty(length, kind, &mut dg);
         checks.reply("a refused loop", number, 5);
