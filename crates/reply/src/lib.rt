@@ -36,6 +36,8 @@ pub enum Refusal {
     RankTooHigh,
     // deck: a stored configuration that breaks the word rules
     BadDeck,
+    // stars: a strand or entry name that ends in two or more stars, in an ordinary build
+    TwoStars,
 }
 
 // Where a refusal lies, for those that say so.
@@ -70,6 +72,7 @@ impl Refusal {
             Refusal::TooManyStates => 12,
             Refusal::RankTooHigh => 13,
             Refusal::BadDeck => 14,
+            Refusal::TwoStars => 21,
         }
     }
 }
