@@ -8,5 +8,4 @@ pub mod Positions
 pub mod Lent
 pub mod Swept
 pub mod LastLeast
-pub mod Ringed
-pub mod FirstOccupants
+pub mod Passing

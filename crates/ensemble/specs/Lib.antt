@@ -1,3 +1,3 @@
 pub mod Layout
-pub mod Ring
+pub mod Ceiling
 pub mod inner

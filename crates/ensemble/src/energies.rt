@@ -1,14 +1,12 @@
 // Both energies of a configuration, from the terms of its places, summed in the Rust's order from 0.0.
 ghost use mathlib.Core.Path.{_≡_};
-ghost use Prim.Native.Nat.{_+_, _-_, _<_, _≤_};
+ghost use Prim.Native.Nat.{_+_, _<_, _≤_};
 ghost use lib.ListN.{length, getD, drop};
 ghost use Rattle.doubles.specs.Decimal.{zero};
 ghost use Rattle.doubles.specs.Sum.{sumFrom};
 ghost use Rattle.model.specs.Model.{Model};
 ghost use Rattle.model.specs.Energy.{statePlace, stateTerms, leftOf, chainPlace, chainEnergy};
-ghost use Rattle.model.specs.Ring.{closed};
 ghost use Rattle.ensemble.specs.Layout.{PlaceTerms};
-ghost use Rattle.ensemble.specs.Ring.{ClosingTerm};
 
 // The state sum after one more place.
 fn add_place(
@@ -96,29 +94,4 @@ pub fn chain_sum(configuration: &[u8], sites: &[f64], pairs: &[f64], logs: &[f64
         position += 1;
     }
     sum
-}
-
-// The ring's sum over all places, before the product with RT: the chain's, and the bond from the last to the first occupant where both places are occupied.
-pub fn ring_sum(
-    configuration: &[u8],
-    sites: &[f64],
-    pairs: &[f64],
-    logs: &[f64],
-    closing: f64,
-) -> f64
-    requires { ⌜ 0 < length (now configuration) ⌝ }
-    requires { ⌜ length (now configuration) ≤ length (now sites) ⌝ }
-    requires { ⌜ length (now configuration) ≤ length (now pairs) ⌝ }
-    requires { ⌜ length (now configuration) ≤ length (now logs) ⌝ }
-    ensures { λ r. ⌜ ((m : Model) → PlaceTerms m (now (configuration .entry)) (now (sites .entry)) (now (pairs .entry)) (now (logs .entry)) → ClosingTerm m (now (configuration .entry)) closing → r ≡ closed m (getD (now (configuration .entry)) 0 0) (getD (now (configuration .entry)) (length (now (configuration .entry)) - 1) 0) (chainEnergy m (now (configuration .entry)))) ⌝ }
-{
-    let sum = chain_sum(configuration, sites, pairs, logs);
-    if configuration[0] == 0 {
-        return sum;
-    }
-    let last = configuration.len() - 1;
-    if configuration[last] == 0 {
-        return sum;
-    }
-    sum + closing
 }

@@ -2,8 +2,8 @@
 // options and bonds, and knows no glues: a design, tables of bonds that are lent, and a ring use the same functions.
 mod attach;
 mod bonds;
+pub mod ceiling;
 pub mod energies;
 pub mod lowest;
-pub mod rings;
 pub mod states;
 mod sums;

@@ -17,7 +17,7 @@ ghost use Rattle.ensemble.specs.Layout.{Searchable, OptionRows, BondCell
 ghost use Rattle.ensemble.specs.inner.Entries.{Chosen, Known, tableBond, Attachments, Low, settledOf, Energies, choiceIn, LowTable, tracedBack};
 
 // The left choice of each friend, and the energy that it was compared with, by its strand.
-pub(crate) fn best_energies(
+fn best_energies(
     left: &[u8],
     energies: &[f64],
     strand_bonds: &[f64],
@@ -45,7 +45,7 @@ pub(crate) fn best_energies(
 }
 
 // The energies of a position's friends: to what was compared the scaffold bond is added, and the potential subtracted.
-pub(crate) fn mfe_next_vector(
+fn mfe_next_vector(
     sites: &[f64],
     potentials: &[f64],
     friends: &[u8],
@@ -97,7 +97,7 @@ fn lowest_product(last: &[u8], energies: &[f64], rt: KcalPerMol) -> Attached
 }
 
 // From the last position to the first: each occupant is the left choice of the one to its right.
-pub(crate) fn trace(choice: [[u8; 64]; 128], empty: [u8; 128], last: u8, configuration: &mut [u8])
+fn trace(choice: [[u8; 64]; 128], empty: [u8; 128], last: u8, configuration: &mut [u8])
     requires { ⌜ length (now configuration) ≤ 128 ⌝ }
     requires { ⌜ last < 64 ⌝ }
     requires { ⌜ LowTable choice empty ⌝ }
