@@ -19,5 +19,6 @@ pub(crate) fn print_trade_word(refusal: Refusal) {
         Refusal::TooManyStates => print(b"many"),
         Refusal::RankTooHigh => print(b"rank"),
         Refusal::BadDeck => print(b"deck"),
+        Refusal::TooDilute => print(b"dilute"),
     }
 }

@@ -1,7 +1,9 @@
-// The natural logarithm, near the exact one, which specs/Logarithm.antt defines by fractions.
+// The natural logarithm of a double, within 2^-40 of the exact one, which specs/Logarithm.antt defines by fractions.
 ghost use mathlib.Core.Path.{_≡_};
 ghost use Prim.Native.Nat.{_+_, _-_, _*_, _/_, _^_, _<_, _≤_};
 ghost use Rattle.logarithm.specs.Figure.{mulUnits, lnSeries, lnReduced, lnRatio, lnWhole};
+ghost use Rattle.logarithm.specs.Answer.{lnFigures, lnAnswer};
+use reply::Refusal;
 
 // ln (32 / 32), ln (33 / 32), .. , ln (64 / 32), in units of 2^-54.
 const STEPS: [u64; 33] = [
@@ -118,4 +120,44 @@ pub fn ln_whole(a: u64, b: u64) -> u64
         k += 1;
     }
     ln_ratio(a, doubled, k)
+}
+
+// The same as ln_ratio of m / 2^52, for m from 2^52 to 2^53: the ratio's parts divided by 32 beforehand.
+fn from_one(m: u64, k: u64) -> u64
+    requires { ⌜ (2 ^ 52 ≤ m) × (m < 2 ^ 53) × (k ≤ 60) ⌝ }
+    ensures { λ r. ⌜ r ≡ lnRatio m (2 ^ 52) k ⌝ }
+{
+    let c = m / 140737488355328;
+    reduced(c, quotient(m - c * 140737488355328, m), k)
+}
+
+// The same as ln_ratio of 2^53 / m: dividing by a power of two takes no digits.
+fn below_one(m: u64, k: u64) -> u64
+    requires { ⌜ (2 ^ 52 ≤ m) × (m < 2 ^ 53) × (k ≤ 60) ⌝ }
+    ensures { λ r. ⌜ r ≡ lnRatio (2 ^ 53) m k ⌝ }
+{
+    let c = 288230376151711744 / m;
+    reduced(c, (288230376151711744 - c * m) / 16, k)
+}
+
+// What the logarithm call answers.
+pub enum LnAnswer {
+    Logarithm(f64),
+    Refused(Refusal),
+}
+
+// The natural logarithm of x, from 2^-60 to 2^10.
+pub fn ln(x: f64) -> LnAnswer
+    ensures { λ r. ⌜ lnFigures r ≡ lnAnswer x ⌝ }
+{
+    if 0.0000000000000000008673617379884035 <= x && x <= 1024.0 {
+        let bits = f64::to_bits(x);
+        let e = bits / 4503599627370496;
+        let m = bits % 4503599627370496 + 4503599627370496;
+        if e < 1023 {
+            return LnAnswer::Logarithm(-(below_one(m, 1022 - e) as f64 / 70368744177664.0));
+        }
+        return LnAnswer::Logarithm(from_one(m, e - 1023) as f64 / 70368744177664.0);
+    }
+    LnAnswer::Refused(Refusal::TooDilute)
 }

@@ -6,7 +6,7 @@ use lib.Dec.{lit≤}
 use Rattle.reply.specs.Number.{numberOf, answered}
 use Rattle.reply.specs.First.{answer}
 use Rattle.reply.specs.declared.Refusal.{Refusal}
-use Rattle.reply.specs.declared.Refusal.the-variants.{WrongSize, NotABase, TooShort, UnequalLengths, NoSuchLoop, UnknownName, TooManyGlues, DuplicatePair, OutOfRange, NullBinds, NotAFriend, TooManyStates, RankTooHigh, BadDeck}
+use Rattle.reply.specs.declared.Refusal.the-variants.{WrongSize, NotABase, TooShort, UnequalLengths, NoSuchLoop, UnknownName, TooManyGlues, DuplicatePair, OutOfRange, NullBinds, NotAFriend, TooManyStates, RankTooHigh, BadDeck, TooDilute}
 use Rattle.reply.specs.declared.Place.{Place}
 use Rattle.reply.specs.declared.Reply.{Reply}
 use Rattle.reply.specs.declared.Reply.the-variants.{Admitted, Refused}
@@ -27,6 +27,7 @@ number-positive NotAFriend = lit≤ tt
 number-positive TooManyStates = lit≤ tt
 number-positive RankTooHigh = lit≤ tt
 number-positive BadDeck = lit≤ tt
+number-positive TooDilute = lit≤ tt
 
 -- over any figures that have a number
 module _ {A : Type 0} (number : A → ℕ) (refused : ℕ → A) (numbered : (n : ℕ) → number (refused n) ≡ n) (given : A) where

@@ -11,7 +11,7 @@ use lib.ListN.{getD}
 use Rattle.reply.specs.Number.{numberOf}
 use Rattle.reply.specs.First.{Check, firstOf, sorted, AppliesAt, Applies, LowestGiven}
 use Rattle.reply.specs.declared.Refusal.{Refusal}
-use Rattle.reply.specs.declared.Refusal.the-variants.{WrongSize, NotABase, TooShort, UnequalLengths, NoSuchLoop, UnknownName, TooManyGlues, DuplicatePair, OutOfRange, NullBinds, NotAFriend, TooManyStates, RankTooHigh, BadDeck}
+use Rattle.reply.specs.declared.Refusal.the-variants.{WrongSize, NotABase, TooShort, UnequalLengths, NoSuchLoop, UnknownName, TooManyGlues, DuplicatePair, OutOfRange, NullBinds, NotAFriend, TooManyStates, RankTooHigh, BadDeck, TooDilute}
 use Rattle.reply.specs.declared.Place.{Place}
 use Rattle.reply.specs.declared.Place.the-variants.{Nowhere}
 use Rattle.reply.specs.declared.Reply.{Reply}
@@ -20,9 +20,9 @@ use Rattle.reply.specs.declared.Reply.the-variants.{Admitted, Refused}
 -- the refusal with a given number
 refusalOf : ℕ → Refusal
 refusalOf n =
-    getD (WrongSize ∷ NotABase ∷ TooShort ∷ UnequalLengths ∷ NoSuchLoop ∷ UnknownName ∷ TooManyGlues ∷ DuplicatePair ∷ OutOfRange ∷ NullBinds ∷ NotAFriend ∷ TooManyStates ∷ RankTooHigh ∷ [])
+    getD (WrongSize ∷ NotABase ∷ TooShort ∷ UnequalLengths ∷ NoSuchLoop ∷ UnknownName ∷ TooManyGlues ∷ DuplicatePair ∷ OutOfRange ∷ NullBinds ∷ NotAFriend ∷ TooManyStates ∷ RankTooHigh ∷ BadDeck ∷ [])
     (n - 1)
-    BadDeck
+    TooDilute
 
 numbered : (r : Refusal) → refusalOf (numberOf r) ≡ r
 unfolding refusalOf
@@ -40,6 +40,7 @@ numbered NotAFriend = refl
 numbered TooManyStates = refl
 numbered RankTooHigh = refl
 numbered BadDeck = refl
+numbered TooDilute = refl
 
 -- no two refusals share a number
 pub same-number : {r q : Refusal} → numberOf r ≡ numberOf q → r ≡ q

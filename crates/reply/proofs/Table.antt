@@ -20,4 +20,5 @@ reply-table =
       many = refl;
       rank = refl;
       deck = refl;
+      dilute = refl;
     }

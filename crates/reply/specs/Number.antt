@@ -1,7 +1,7 @@
 -- Document 01's table of replies: the number of each refusal, and 0 for an answer.
 use Prim.Native.Nat.{ℕ}
 use Rattle.reply.specs.declared.Refusal.{Refusal}
-use Rattle.reply.specs.declared.Refusal.the-variants.{WrongSize, NotABase, TooShort, UnequalLengths, NoSuchLoop, UnknownName, TooManyGlues, DuplicatePair, OutOfRange, NullBinds, NotAFriend, TooManyStates, RankTooHigh, BadDeck}
+use Rattle.reply.specs.declared.Refusal.the-variants.{WrongSize, NotABase, TooShort, UnequalLengths, NoSuchLoop, UnknownName, TooManyGlues, DuplicatePair, OutOfRange, NullBinds, NotAFriend, TooManyStates, RankTooHigh, BadDeck, TooDilute}
 use Rattle.reply.specs.declared.Reply.{Reply}
 use Rattle.reply.specs.declared.Reply.the-variants.{Admitted, Refused}
 
@@ -21,6 +21,7 @@ numberOf NotAFriend = 11
 numberOf TooManyStates = 12
 numberOf RankTooHigh = 13
 numberOf BadDeck = 14
+numberOf TooDilute = 15
 
 -- the number of a call that is answered
 abbrev pub answered : ℕ

@@ -1,7 +1,7 @@
 -- Document 01's table of replies as numerals, under its trade words, to be held against the table line by line.
 use mathlib.Core.Path.{_≡_}
 use Rattle.reply.specs.Number.{numberOf, replyNumber}
-use Rattle.reply.specs.declared.Refusal.the-variants.{WrongSize, NotABase, TooShort, UnequalLengths, NoSuchLoop, UnknownName, TooManyGlues, DuplicatePair, OutOfRange, NullBinds, NotAFriend, TooManyStates, RankTooHigh, BadDeck}
+use Rattle.reply.specs.declared.Refusal.the-variants.{WrongSize, NotABase, TooShort, UnequalLengths, NoSuchLoop, UnknownName, TooManyGlues, DuplicatePair, OutOfRange, NullBinds, NotAFriend, TooManyStates, RankTooHigh, BadDeck, TooDilute}
 use Rattle.reply.specs.declared.Reply.the-variants.{Admitted}
 
 -- the numbers that the definitions give are the table's; proofs/Table.antt shows it
@@ -21,3 +21,4 @@ pub record ReplyTable : Type 0 where
   pub many : numberOf TooManyStates ≡ 12
   pub rank : numberOf RankTooHigh ≡ 13
   pub deck : numberOf BadDeck ≡ 14
+  pub dilute : numberOf TooDilute ≡ 15

@@ -36,6 +36,8 @@ pub enum Refusal {
     RankTooHigh,
     // deck: a stored configuration that breaks the word rules
     BadDeck,
+    // dilute: a concentration, or an argument of the logarithm, outside 2^-60 to 2^10
+    TooDilute,
 }
 
 // Where a refusal lies, for those that say so.
@@ -70,6 +72,7 @@ impl Refusal {
             Refusal::TooManyStates => 12,
             Refusal::RankTooHigh => 13,
             Refusal::BadDeck => 14,
+            Refusal::TooDilute => 15,
         }
     }
 }
