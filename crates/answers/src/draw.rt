@@ -9,8 +9,9 @@ use crate::print::print_bytes;
 use crate::print::print_count;
 use crate::print::width;
 use crate::reads::part;
+use crate::reads::size_of;
+use crate::reads::start_of;
 use design::reads::byte_at;
-use statements::words::place_at;
 
 // What a line of a stretch holds beside its head.
 const LINE: usize = 66;
@@ -43,27 +44,23 @@ fn glue_width(text: &[u8], start: usize, size: usize) -> usize {
 // The width of a column, which holds a strand and the position under it.
 fn column(
     text: &[u8],
-    glue_starts: &[usize],
-    glue_sizes: &[usize],
-    name_starts: &[usize],
-    name_sizes: &[usize],
+    glues: &[usize],
+    names: &[usize],
     configuration: &[u8],
     i: usize,
 ) -> usize {
-    let occupant = occupant_of(byte_at(configuration, i) as usize, name_starts.len());
+    let occupant = occupant_of(byte_at(configuration, i) as usize, names.len() / 3);
     larger(
-        occupant_width(occupant, text, name_starts, name_sizes),
-        glue_width(text, place_at(glue_starts, i), place_at(glue_sizes, i)),
+        occupant_width(occupant, text, names),
+        glue_width(text, start_of(glues, i), size_of(glues, i)),
     )
 }
 
 // The position after the last that has room on a line which begins with position `from`.
 fn stretch_end(
     text: &[u8],
-    glue_starts: &[usize],
-    glue_sizes: &[usize],
-    name_starts: &[usize],
-    name_sizes: &[usize],
+    glues: &[usize],
+    names: &[usize],
     configuration: &[u8],
     from: usize,
 ) -> usize {
@@ -71,10 +68,8 @@ fn stretch_end(
     for i in from..configuration.len() {
         let wide = column(
             text,
-            glue_starts,
-            glue_sizes,
-            name_starts,
-            name_sizes,
+            glues,
+            names,
             configuration,
             i,
         );
@@ -97,27 +92,23 @@ fn print_gap(column: usize, wide: usize) {
 // The strands of a stretch, on one line.
 fn print_strands(
     text: &[u8],
-    glue_starts: &[usize],
-    glue_sizes: &[usize],
-    name_starts: &[usize],
-    name_sizes: &[usize],
+    glues: &[usize],
+    names: &[usize],
     configuration: &[u8],
     from: usize,
     end: usize,
 ) {
     print(b"    strands   ");
     for i in from..end {
-        let occupant = occupant_of(byte_at(configuration, i) as usize, name_starts.len());
-        print_occupant(occupant, text, name_starts, name_sizes, Style::People);
+        let occupant = occupant_of(byte_at(configuration, i) as usize, names.len() / 3);
+        print_occupant(occupant, text, names, Style::People);
         if i + 1 < end {
-            let wide = occupant_width(occupant, text, name_starts, name_sizes);
+            let wide = occupant_width(occupant, text, names);
             print_gap(
                 column(
                     text,
-                    glue_starts,
-                    glue_sizes,
-                    name_starts,
-                    name_sizes,
+                    glues,
+                    names,
                     configuration,
                     i,
                 ),
@@ -131,28 +122,24 @@ fn print_strands(
 // The glues of a stretch, on one line.
 fn print_glues(
     text: &[u8],
-    glue_starts: &[usize],
-    glue_sizes: &[usize],
-    name_starts: &[usize],
-    name_sizes: &[usize],
+    glues: &[usize],
+    names: &[usize],
     configuration: &[u8],
     from: usize,
     end: usize,
 ) {
     print(b"    scaffold  ");
     for i in from..end {
-        let start = place_at(glue_starts, i);
-        let size = place_at(glue_sizes, i);
+        let start = start_of(glues, i);
+        let size = size_of(glues, i);
         print_glue(text, start, size);
         if i + 1 < end {
             let wide = glue_width(text, start, size);
             print_gap(
                 column(
                     text,
-                    glue_starts,
-                    glue_sizes,
-                    name_starts,
-                    name_sizes,
+                    glues,
+                    names,
                     configuration,
                     i,
                 ),
@@ -179,39 +166,31 @@ fn print_range(first: usize, last: usize) {
 // One stretch, and where the next begins.
 fn print_stretch(
     text: &[u8],
-    glue_starts: &[usize],
-    glue_sizes: &[usize],
-    name_starts: &[usize],
-    name_sizes: &[usize],
+    glues: &[usize],
+    names: &[usize],
     configuration: &[u8],
     from: usize,
 ) -> usize {
     let end = stretch_end(
         text,
-        glue_starts,
-        glue_sizes,
-        name_starts,
-        name_sizes,
+        glues,
+        names,
         configuration,
         from,
     );
     print_range(std::num::wrapping_add_usize(from, 1), end);
     print_strands(
         text,
-        glue_starts,
-        glue_sizes,
-        name_starts,
-        name_sizes,
+        glues,
+        names,
         configuration,
         from,
         end,
     );
     print_glues(
         text,
-        glue_starts,
-        glue_sizes,
-        name_starts,
-        name_sizes,
+        glues,
+        names,
         configuration,
         from,
         end,
@@ -222,10 +201,8 @@ fn print_stretch(
 // A stretch has one position at least, so there are no more stretches than positions.
 pub(crate) fn draw(
     text: &[u8],
-    glue_starts: &[usize],
-    glue_sizes: &[usize],
-    name_starts: &[usize],
-    name_sizes: &[usize],
+    glues: &[usize],
+    names: &[usize],
     configuration: &[u8],
 ) {
     let mut from = 0;
@@ -233,10 +210,8 @@ pub(crate) fn draw(
         if from < configuration.len() {
             from = print_stretch(
                 text,
-                glue_starts,
-                glue_sizes,
-                name_starts,
-                name_sizes,
+                glues,
+                names,
                 configuration,
                 from,
             );

@@ -12,6 +12,7 @@ use draw::draw;
 use names::Occupant;
 use names::occupant_of;
 use names::print_occupant;
+use outcome::States;
 use print::Style;
 use print::print;
 use print::print_bytes;
@@ -29,12 +30,6 @@ pub struct Spot {
     pub line: usize,
     pub start: usize,
     pub size: usize,
-}
-
-// How many states a design has, where that many are listed.
-pub enum States {
-    Number(u64),
-    TooMany,
 }
 
 // How much of a word is shown.
@@ -225,31 +220,28 @@ fn print_json_numbers(configuration: &[u8]) {
 // The strands' names, as the items of a list.
 fn print_json_names(
     text: &[u8],
-    name_starts: &[usize],
-    name_sizes: &[usize],
+    names: &[usize],
     configuration: &[u8],
 ) {
     for i in 0..configuration.len() {
         print_comma(i);
-        let occupant = occupant_of(byte_at(configuration, i) as usize, name_starts.len());
+        let occupant = occupant_of(byte_at(configuration, i) as usize, names.len() / 3);
         if let Occupant::Nobody = occupant {
             print(b"null");
         } else {
             print(b"\"");
-            print_occupant(occupant, text, name_starts, name_sizes, Style::Json);
+            print_occupant(occupant, text, names, Style::Json);
             print(b"\"");
         }
     }
 }
 
-// For people. The name of each user strand is a start and a size in the text, and so is the glue of each position.
+// For people. The name of each user strand is a mark, a start and a size in the text, and so is the glue of each position.
 fn settled_for_people(
     path: &[u8],
     text: &[u8],
-    glue_starts: &[usize],
-    glue_sizes: &[usize],
-    name_starts: &[usize],
-    name_sizes: &[usize],
+    glues: &[usize],
+    names: &[usize],
     entries: usize,
     states: States,
     configuration: &[u8],
@@ -259,15 +251,13 @@ fn settled_for_people(
     print_bytes(path, Style::People);
     print(b"\n  ");
     print_number_of(configuration.len(), b"position, ", b"positions, ");
-    print_number_of(name_starts.len(), b"strand, ", b"strands, ");
+    print_number_of(names.len() / 3, b"strand, ", b"strands, ");
     print_number_of(entries, b"energy\n", b"energies\n");
     print_states(states);
     draw(
         text,
-        glue_starts,
-        glue_sizes,
-        name_starts,
-        name_sizes,
+        glues,
+        names,
         configuration,
     );
     print(b"  energy ");
@@ -282,8 +272,7 @@ fn settled_for_people(
 fn settled_as_json(
     path: &[u8],
     text: &[u8],
-    name_starts: &[usize],
-    name_sizes: &[usize],
+    names: &[usize],
     entries: usize,
     states: States,
     configuration: &[u8],
@@ -294,7 +283,7 @@ fn settled_as_json(
     print(b"0,\"positions\":");
     print_count(configuration.len());
     print(b",\"strands\":");
-    print_count(name_starts.len());
+    print_count(names.len() / 3);
     print(b",\"energies\":");
     print_count(entries);
     print(b",\"states\":");
@@ -302,7 +291,7 @@ fn settled_as_json(
     print(b",\"configuration\":[");
     print_json_numbers(configuration);
     print(b"],\"names\":[");
-    print_json_names(text, name_starts, name_sizes, configuration);
+    print_json_names(text, names, configuration);
     print(b"],\"energy\":");
     print_fixed(energy);
     print(b",\"bits\":\"");
@@ -317,10 +306,8 @@ pub fn settled(
     style: Style,
     path: &[u8],
     text: &[u8],
-    glue_starts: &[usize],
-    glue_sizes: &[usize],
-    name_starts: &[usize],
-    name_sizes: &[usize],
+    glues: &[usize],
+    names: &[usize],
     entries: usize,
     states: States,
     configuration: &[u8],
@@ -331,10 +318,8 @@ pub fn settled(
         Style::People => settled_for_people(
             path,
             text,
-            glue_starts,
-            glue_sizes,
-            name_starts,
-            name_sizes,
+            glues,
+            names,
             entries,
             states,
             configuration,
@@ -344,8 +329,7 @@ pub fn settled(
         Style::Json => settled_as_json(
             path,
             text,
-            name_starts,
-            name_sizes,
+            names,
             entries,
             states,
             configuration,

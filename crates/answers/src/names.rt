@@ -4,7 +4,8 @@ use crate::print::print;
 use crate::print::print_bytes;
 use crate::print::width;
 use crate::reads::part;
-use statements::words::place_at;
+use crate::reads::size_of;
+use crate::reads::start_of;
 
 // Who sits at a place.
 pub(crate) enum Occupant {
@@ -29,16 +30,15 @@ pub(crate) fn occupant_of(number: usize, users: usize) -> Occupant {
     Occupant::Reporter
 }
 
-// The names of the user strands stand in the text: a start and a size for each.
+// The names of the user strands stand in the text: a mark, a start and a size for each.
 pub(crate) fn occupant_width(
     occupant: Occupant,
     text: &[u8],
-    starts: &[usize],
-    sizes: &[usize],
+    names: &[usize],
 ) -> usize {
     match occupant {
         Occupant::Nobody => 1,
-        Occupant::Strand(i) => width(part(text, place_at(starts, i), place_at(sizes, i))),
+        Occupant::Strand(i) => width(part(text, start_of(names, i), size_of(names, i))),
         Occupant::Quencher | Occupant::Reporter => 8,
     }
 }
@@ -47,14 +47,13 @@ pub(crate) fn occupant_width(
 pub(crate) fn print_occupant(
     occupant: Occupant,
     text: &[u8],
-    starts: &[usize],
-    sizes: &[usize],
+    names: &[usize],
     style: Style,
 ) {
     match occupant {
         Occupant::Nobody => print(b"-"),
         Occupant::Strand(i) => {
-            print_bytes(part(text, place_at(starts, i), place_at(sizes, i)), style)
+            print_bytes(part(text, start_of(names, i), size_of(names, i)), style)
         }
         Occupant::Quencher => print(b"quencher"),
         Occupant::Reporter => print(b"reporter"),

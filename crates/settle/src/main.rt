@@ -2,7 +2,6 @@
 //
 // The first argument is --people or --json, the rest are names of files. A program has no exit status: whether all files were answered goes
 // to descriptor 3, as 0 or 1, where the script `settle` reads it.
-mod build;
 mod file;
 mod lines;
 mod place;

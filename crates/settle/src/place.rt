@@ -1,7 +1,7 @@
 // Where in a file the reason of a refusal lies. Each is found by asking the calls again, of parts of the design.
-use crate::build::glues_reply;
-use crate::build::reply_to;
 use crate::lines::word_on_line;
+use crate::reads;
+use crate::reads::first_places;
 use answers::Spot;
 use answers::reads::part;
 use answers::reasons::Why;
@@ -10,8 +10,12 @@ use reply::Refusal;
 use reply::Reply;
 use sdc_common::NameAnswer;
 use sdc_common::self_and_inverse;
+use sdc_common::strand_glues;
 use sdc1d_params::Copied;
+use sheet::build::first_reply;
 use sheet::once::copied;
+use sheet::parts::strand_names;
+use sheet::rows::count_of;
 use sheet::rows::rows_of;
 use sheet::rows::word_of;
 use statements::grammar::ENERGY_GIVEN;
@@ -202,13 +206,11 @@ fn size_of_row(
 }
 
 // The first row in which something is too large or not there.
-fn in_size(
-    text: &[u8],
-    kinds: &[u8],
-    lines: &[usize],
-    words: &[usize],
-    strand_rows: &[usize],
-) -> Found {
+fn in_size(text: &[u8], kinds: &[u8], lines: &[usize], words: &[usize]) -> Found {
+    let users = count_of(kinds, STRAND);
+    let mut room = [0usize; 61];
+    rows_of(kinds, STRAND, reads::places(&mut room, users));
+    let strand_rows = first_places(&room, users);
     for row in 0..kinds.len() {
         let here = size_of_row(text, kinds, lines, words, strand_rows, row);
         if 0 < here.spot.line {
@@ -232,7 +234,7 @@ fn positions_for(
     entries: usize,
 ) -> usize {
     for count in 0..positions {
-        if reply_to(text, kinds, words, numbers, users, count, entries).number() == number {
+        if first_reply(text, kinds, words, numbers, users, count, entries).number() == number {
             return count;
         }
     }
@@ -251,11 +253,31 @@ fn entries_for(
     entries: usize,
 ) -> usize {
     for count in 0..entries {
-        if reply_to(text, kinds, words, numbers, users, positions, count).number() == number {
+        if first_reply(text, kinds, words, numbers, users, positions, count).number() == number {
             return count;
         }
     }
     entries
+}
+
+// The reply to the glues of the first so many strands alone.
+fn glues_reply(text: &[u8], kinds: &[u8], words: &[usize], users: usize) -> Reply {
+    let mut room = [0usize; 61];
+    rows_of(kinds, STRAND, reads::places(&mut room, users));
+    let mut names = [0usize; 549];
+    let count = reads::triple(reads::triple(users));
+    strand_names(
+        words,
+        first_places(&room, users),
+        reads::places(&mut names, count),
+    );
+    let mut glues = [0u8; 183];
+    strand_glues(
+        text,
+        users,
+        first_places(&names, count),
+        reads::bytes(&mut glues, reads::triple(users)),
+    )
 }
 
 // How few strands, for a reply to their glues alone.
@@ -292,14 +314,13 @@ pub(crate) fn of_build(
     lines: &[usize],
     words: &[usize],
     numbers: &[f64],
-    strand_rows: &[usize],
-    positions: usize,
-    entries: usize,
 ) -> Found {
     let n = refusal.number();
-    let users = strand_rows.len();
+    let users = count_of(kinds, STRAND);
+    let positions = count_of(kinds, POSITION);
+    let entries = count_of(kinds, ENERGY_GIVEN);
     match refusal {
-        Refusal::WrongSize => in_size(text, kinds, lines, words, strand_rows),
+        Refusal::WrongSize => in_size(text, kinds, lines, words),
         Refusal::NotABase => in_sequence(text, kinds, lines, words, refusal, Why::NotABase),
         Refusal::TooShort => in_sequence(text, kinds, lines, words, refusal, Why::ShortSequence),
         Refusal::UnknownName => {

@@ -1,5 +1,10 @@
 // Parts of slices, for every place and number: what is not there is left out.
 
+// Three for each.
+pub(crate) fn triple(count: usize) -> usize {
+    std::num::wrapping_add_usize(count, std::num::wrapping_add_usize(count, count))
+}
+
 // All from a place on.
 pub(crate) fn tail(bytes: &mut [u8], start: usize) -> &mut [u8] {
     if bytes.len() < start {
@@ -25,14 +30,6 @@ pub(crate) fn first_bytes(bytes: &[u8], n: usize) -> &[u8] {
     &bytes[0..n]
 }
 
-// The first n doubles.
-pub(crate) fn first_numbers(numbers: &[f64], n: usize) -> &[f64] {
-    if numbers.len() < n {
-        return numbers;
-    }
-    &numbers[0..n]
-}
-
 // The first n words of a deck.
 pub(crate) fn first_words(words: &[u32], n: usize) -> &[u32] {
     if words.len() < n {
@@ -55,12 +52,4 @@ pub(crate) fn bytes(bytes: &mut [u8], n: usize) -> &mut [u8] {
         return bytes;
     }
     &mut bytes[0..n]
-}
-
-// The first n doubles, to be written.
-pub(crate) fn numbers(numbers: &mut [f64], n: usize) -> &mut [f64] {
-    if numbers.len() < n {
-        return numbers;
-    }
-    &mut numbers[0..n]
 }

@@ -1,95 +1,40 @@
-// What is printed of a settled design, gathered from its rows.
+// What is printed of a settled design: the outcome, and the names that the rows have.
 use crate::reads;
+use crate::reads::first_bytes;
 use crate::reads::first_places;
 use crate::reads::first_words;
-use answers::States;
 use answers::print::Style;
 use answers::settled;
 use deck::DeckForm;
 use deck::DeckWritten;
-use design::answers::CountAnswer;
-use sheet::parts;
+use outcome::States;
+use sheet::parts::first_names;
+use sheet::rows::count_of;
 use sheet::rows::rows_of;
+use statements::grammar::ENERGY_GIVEN;
 use statements::grammar::POSITION;
+use statements::grammar::STRAND;
 
-// A design that the search has answered is refused its count only where it has too many states.
-fn states_of(count: CountAnswer) -> States {
-    match count {
-        CountAnswer::Count(n) => States::Number(n),
-        CountAnswer::Refused(_, _) => States::TooMany,
-    }
-}
-
-// The glues of the positions, then the names of the strands.
+// The glues of the positions and the names of the strands, three numbers for each; then the deck.
 pub(crate) fn report(
     style: Style,
     path: &[u8],
     text: &[u8],
     kinds: &[u8],
     words: &[usize],
-    strand_rows: &[usize],
-    entries: usize,
-    states: CountAnswer,
-    configuration: &[u8],
     energy: f64,
+    states: States,
+    entries: &[u8],
 ) -> bool {
-    let positions = configuration.len();
-    let mut rows = [0usize; 128];
-    rows_of(kinds, POSITION, reads::places(&mut rows, positions));
-    let mut starts = [0usize; 128];
-    let mut sizes = [0usize; 128];
-    let mut marks = [0u8; 128];
-    parts::positions(
-        kinds,
-        words,
-        first_places(&rows, positions),
-        reads::places(&mut starts, positions),
-        reads::places(&mut sizes, positions),
-        reads::bytes(&mut marks, positions),
-    );
-    report_names(
-        style,
-        path,
-        text,
-        kinds,
-        words,
-        strand_rows,
-        first_places(&starts, positions),
-        first_places(&sizes, positions),
-        entries,
-        states,
-        configuration,
-        energy,
-    )
-}
-
-// A strand's name stands in its row where a position's glue stands in its own.
-fn report_names(
-    style: Style,
-    path: &[u8],
-    text: &[u8],
-    kinds: &[u8],
-    words: &[usize],
-    strand_rows: &[usize],
-    glue_starts: &[usize],
-    glue_sizes: &[usize],
-    entries: usize,
-    states: CountAnswer,
-    configuration: &[u8],
-    energy: f64,
-) -> bool {
-    let users = strand_rows.len();
-    let mut starts = [0usize; 61];
-    let mut sizes = [0usize; 61];
-    let mut marks = [0u8; 61];
-    parts::positions(
-        kinds,
-        words,
-        strand_rows,
-        reads::places(&mut starts, users),
-        reads::places(&mut sizes, users),
-        reads::bytes(&mut marks, users),
-    );
+    let positions = count_of(kinds, POSITION);
+    let users = count_of(kinds, STRAND);
+    let mut position_rows = [0usize; 128];
+    let mut strand_rows = [0usize; 61];
+    let mut glues = [0usize; 384];
+    let mut names = [0usize; 183];
+    gather(kinds, words, POSITION, reads::places(&mut position_rows, positions), reads::places(&mut glues, reads::triple(positions)));
+    gather(kinds, words, STRAND, reads::places(&mut strand_rows, users), reads::places(&mut names, reads::triple(users)));
+    let configuration = first_bytes(entries, positions);
     let mut deck = [0u32; 129];
     let DeckWritten::Words(size) = deck::write(DeckForm::Singles, configuration, &mut deck) else {
         return false;
@@ -98,15 +43,19 @@ fn report_names(
         style,
         path,
         text,
-        glue_starts,
-        glue_sizes,
-        first_places(&starts, users),
-        first_places(&sizes, users),
-        entries,
-        states_of(states),
+        first_places(&glues, reads::triple(positions)),
+        first_places(&names, reads::triple(users)),
+        count_of(kinds, ENERGY_GIVEN),
+        states,
         configuration,
         energy,
         first_words(&deck, size),
     );
     true
+}
+
+// The first word of each row of a group.
+fn gather(kinds: &[u8], words: &[usize], group: u8, rows: &mut [usize], names: &mut [usize]) {
+    rows_of(kinds, group, rows);
+    first_names(words, rows, names);
 }

@@ -1,14 +1,6 @@
-// From a file's bytes to what is printed of it.
-use crate::build::MOST_ENTRIES;
-use crate::build::MOST_POSITIONS;
-use crate::build::MOST_USERS;
-use crate::build::build;
+// From a file's bytes to what is printed of it: crate `outcome` works it out, and it is told once.
 use crate::place;
 use crate::place::Found;
-use crate::reads;
-use crate::reads::first_bytes;
-use crate::reads::first_numbers;
-use crate::reads::first_places;
 use crate::report::report;
 use crate::unfit;
 use answers::Spot;
@@ -16,26 +8,13 @@ use answers::print::Style;
 use answers::reasons::Why;
 use answers::refused;
 use answers::unreadable;
-use design::answers::EnergyAnswer;
-use mfe::mfe_configuration;
+use outcome::Outcome;
 use reply::Refusal;
-use reply::Reply;
-use sdc1d::number_of_states;
 use sheet::faults::SheetAnswer;
-use sheet::once;
-use sheet::parts;
-use sheet::rows::rows_of;
 use statements::ReadAnswer;
 use statements::grammar::ENERGY_GIVEN;
 use statements::grammar::POSITION;
 use statements::grammar::STRAND;
-use units::Ambient;
-use units::AmbientAnswer;
-use units::KcalPerMol;
-use units::Kelvin;
-
-// More rows than any design has.
-const ROWS: usize = 2048;
 
 // What is too many, by the group of its rows.
 fn too_many(group: u8) -> Why {
@@ -75,33 +54,9 @@ fn complain(style: Style, path: &[u8], text: &[u8], found: Found) -> bool {
     false
 }
 
-// The text of a file. Answers whether its configuration was settled and printed.
-pub(crate) fn settle(style: Style, path: &[u8], text: &[u8]) -> bool {
-    let mut kinds = [0u8; 2048];
-    let mut lines = [0usize; 2048];
-    let mut words = [0usize; 16384];
-    let mut numbers = [0.0; 6144];
-    match statements::read(text, &mut kinds, &mut lines, &mut words, &mut numbers) {
-        ReadAnswer::Rows(n) => {
-            if ROWS < n {
-                return refuse(
-                    style,
-                    path,
-                    text,
-                    Refusal::WrongSize,
-                    at_line(0, Why::TooManyRows),
-                );
-            }
-            settle_rows(
-                style,
-                path,
-                text,
-                first_bytes(&kinds, n),
-                first_places(&lines, n),
-                first_places(&words, 8 * n),
-                first_numbers(&numbers, 3 * n),
-            )
-        }
+// Why a text can't be read.
+fn tell_unread(style: Style, path: &[u8], text: &[u8], answer: ReadAnswer) -> bool {
+    match answer {
         ReadAnswer::Unreadable(line, word, reason) => {
             let spot = Spot {
                 line,
@@ -122,33 +77,14 @@ pub(crate) fn settle(style: Style, path: &[u8], text: &[u8]) -> bool {
             at_line(line, Why::TooManyRows),
         ),
         ReadAnswer::TooLong => complain(style, path, text, at_line(0, Why::TooLong)),
+        ReadAnswer::Rows(_) => complain(style, path, text, at_line(0, Why::ReadFailed)),
         ReadAnswer::UnequalRoom => complain(style, path, text, at_line(0, Why::ReadFailed)),
     }
 }
 
-// A file whose every line can be read.
-fn settle_rows(
-    style: Style,
-    path: &[u8],
-    text: &[u8],
-    kinds: &[u8],
-    lines: &[usize],
-    words: &[usize],
-    numbers: &[f64],
-) -> bool {
-    match sheet::faults::check(text, kinds, lines, words) {
-        SheetAnswer::Whole(users, positions, entries) => settle_sheet(
-            style,
-            path,
-            text,
-            kinds,
-            lines,
-            words,
-            numbers,
-            users,
-            positions,
-            entries,
-        ),
+// What is wrong between the lines.
+fn tell_unfit(style: Style, path: &[u8], text: &[u8], answer: SheetAnswer) -> bool {
+    match answer {
         SheetAnswer::NameTwice(line, word) => {
             let spot = Spot {
                 line,
@@ -173,218 +109,50 @@ fn settle_rows(
             at_line(line, too_many(group)),
         ),
         SheetAnswer::NoAmbient => complain(style, path, text, at_line(0, Why::NoAmbient)),
+        SheetAnswer::Whole(_, _, _) => complain(style, path, text, at_line(0, Why::ReadFailed)),
     }
 }
 
-// Builds the design.
-fn settle_sheet(
-    style: Style,
-    path: &[u8],
-    text: &[u8],
-    kinds: &[u8],
-    lines: &[usize],
-    words: &[usize],
-    numbers: &[f64],
-    users: usize,
-    positions: usize,
-    entries: usize,
-) -> bool {
-    if MOST_USERS < users || MOST_POSITIONS < positions || MOST_ENTRIES < entries {
-        return refuse(
-            style,
-            path,
-            text,
-            Refusal::WrongSize,
-            at_line(0, Why::TooManyRows),
-        );
-    }
-    let glue_count = 3 * (users + 3);
-    let mut room = [0usize; 61];
-    rows_of(kinds, STRAND, reads::places(&mut room, users));
-    let strand_rows = first_places(&room, users);
-    let mut glues = [0u8; 192];
-    let mut scaffold = [0u8; 128];
-    let mut dg = [0.0; 4096];
-    let mut ds = [0.0; 4096];
-    match build(
-        text,
-        kinds,
-        words,
-        numbers,
-        users,
-        positions,
-        entries,
-        reads::bytes(&mut glues, glue_count),
-        reads::bytes(&mut scaffold, positions),
-        &mut dg,
-        &mut ds,
-    ) {
-        Reply::Refused(refusal, _) => refuse(
-            style,
-            path,
-            text,
-            refusal,
-            place::of_build(
-                refusal,
-                text,
-                kinds,
-                lines,
-                words,
-                numbers,
-                strand_rows,
-                positions,
-                entries,
-            ),
-        ),
-        Reply::Admitted => settle_design(
-            style,
-            path,
-            text,
-            kinds,
-            lines,
-            words,
-            numbers,
-            strand_rows,
-            entries,
-            first_bytes(&scaffold, positions),
-            first_bytes(&glues, glue_count),
-            &dg,
-            &ds,
-        ),
-    }
-}
-
-// The ambient as given, or at a temperature.
-fn ambient_of(kinds: &[u8], numbers: &[f64]) -> AmbientAnswer {
-    match once::ambient_of(kinds, numbers) {
-        once::Ambient::Kelvin(kelvin) => units::ambient_at(Kelvin(kelvin)),
-        once::Ambient::Given(rt, strand_excess, scaffold_excess) => AmbientAnswer::Given(Ambient {
-            rt: KcalPerMol(rt),
-            strand_excess: Kelvin(strand_excess),
-            scaffold_excess: Kelvin(scaffold_excess),
-        }),
-        once::Ambient::Missing => AmbientAnswer::Refused(Refusal::OutOfRange),
-    }
-}
-
-// The ambient, then the search.
-fn settle_design(
-    style: Style,
-    path: &[u8],
-    text: &[u8],
-    kinds: &[u8],
-    lines: &[usize],
-    words: &[usize],
-    numbers: &[f64],
-    strand_rows: &[usize],
-    entries: usize,
-    scaffold: &[u8],
-    glues: &[u8],
-    dg: &[f64],
-    ds: &[f64],
-) -> bool {
-    match ambient_of(kinds, numbers) {
-        AmbientAnswer::Refused(refusal) => {
-            refuse(
-                style,
-                path,
-                text,
-                refusal,
-                unfit::of_kelvin(text, kinds, lines),
-            )
-        }
-        AmbientAnswer::Given(ambient) => search(
-            style,
-            path,
-            text,
-            kinds,
-            lines,
-            words,
-            numbers,
-            strand_rows,
-            entries,
-            scaffold,
-            glues,
-            dg,
-            ds,
-            ambient,
-        ),
-    }
-}
-
-// The search, and what is printed of it.
-fn search(
-    style: Style,
-    path: &[u8],
-    text: &[u8],
-    kinds: &[u8],
-    lines: &[usize],
-    words: &[usize],
-    numbers: &[f64],
-    strand_rows: &[usize],
-    entries: usize,
-    scaffold: &[u8],
-    glues: &[u8],
-    dg: &[f64],
-    ds: &[f64],
-    ambient: Ambient,
-) -> bool {
-    let positions = scaffold.len();
-    if MOST_USERS < strand_rows.len() || MOST_POSITIONS < positions {
-        return false;
-    }
-    let strands = strand_rows.len() + 3;
-    let mut room = [0.0; 64];
-    parts::potentials(
-        kinds,
-        numbers,
-        strand_rows,
-        reads::numbers(&mut room, strands),
-    );
-    let potentials = first_numbers(&room, strands);
+// The text of a file. Answers whether its configuration was settled and printed.
+pub(crate) fn settle(style: Style, path: &[u8], text: &[u8]) -> bool {
+    // Rows that are not there are of no kind.
+    let mut kinds = [255u8; 2048];
+    let mut lines = [0usize; 2048];
+    let mut words = [0usize; 16384];
+    let mut numbers = [0.0; 6144];
     let mut configuration = [0u8; 128];
-    match mfe_configuration(
-        scaffold,
-        glues,
-        dg,
-        ds,
-        potentials,
-        ambient,
-        reads::bytes(&mut configuration, positions),
-    ) {
-        EnergyAnswer::Refused(refusal, _) => refuse(
+    let outcome = outcome::settle(
+        text,
+        &mut kinds,
+        &mut lines,
+        &mut words,
+        &mut numbers,
+        &mut configuration,
+    );
+    match outcome {
+        Outcome::Unread(answer) => tell_unread(style, path, text, answer),
+        Outcome::Unfit(answer) => tell_unfit(style, path, text, answer),
+        Outcome::NotBuilt(refusal) => {
+            let found = place::of_build(refusal, text, &kinds, &lines, &words, &numbers);
+            refuse(style, path, text, refusal, found)
+        }
+        Outcome::NoAmbient(refusal) => {
+            let found = unfit::of_kelvin(text, &kinds, &lines);
+            refuse(style, path, text, refusal, found)
+        }
+        Outcome::NotSearched(refusal, place) => {
+            let found = unfit::of_design(refusal, place, text, &kinds, &lines, &words);
+            refuse(style, path, text, refusal, found)
+        }
+        Outcome::Settled(energy, states) => report(
             style,
             path,
             text,
-            refusal,
-            unfit::of_design(
-                text,
-                kinds,
-                lines,
-                words,
-                strand_rows,
-                scaffold,
-                glues,
-                dg,
-                ds,
-                potentials,
-                ambient,
-            ),
+            &kinds,
+            &words,
+            energy,
+            states,
+            &configuration,
         ),
-        EnergyAnswer::Energy(energy) => {
-            let states = number_of_states(scaffold, glues, dg, ds, potentials, ambient);
-            report(
-                style,
-                path,
-                text,
-                kinds,
-                words,
-                strand_rows,
-                entries,
-                states,
-                first_bytes(&configuration, positions),
-                energy.0,
-            )
-        }
     }
 }

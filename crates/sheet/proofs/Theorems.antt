@@ -5,7 +5,7 @@ use mathlib.Core.List.{List, [], _∷_, _++_, append-nil}
 use Prim.Native.Nat.{ℕ, zero, suc, _+_, _≤_, _<_}
 use native.Mathlib.Omega.{arith}
 use lib.Dec.{eqb, ltb}
-use lib.ListN.{length, getD, drop, take, drop-of-length-le}
+use lib.ListN.{length, getD, drop, take, length-take, drop-of-length-le}
 use lib.Seq.{take-all}
 use borrow.Author.Tests.{ltb-true, ltb-false, leb-false, eqb-true}
 use Rattle.lists.specs.Find.{any}
@@ -111,6 +111,14 @@ laid-whole group kinds lent e =
     let all : take (length lent) (rowsOf group kinds) ≡ rowsOf group kinds = take-all (length lent) (rowsOf group kinds) (omega (arith, e)) in
     let none : drop (length (rowsOf group kinds)) lent ≡ [] = drop-of-length-le lent {i = length (rowsOf group kinds)} (omega (arith, e)) in
     rw (all, none) (append-nil (rowsOf group kinds))
+
+-- as many of them as there is room for
+pub laid-first : (group : ℕ) (kinds lent : List ℕ) → length lent ≤ countOf group kinds → laid group kinds lent ≡ take (length lent) (rowsOf group kinds)
+unfolding laid over
+laid-first group kinds lent h =
+    let size : length (take (length lent) (rowsOf group kinds)) ≡ length lent = omega (arith, length-take (length lent) (rowsOf group kinds)) in
+    let none : drop (length (take (length lent) (rowsOf group kinds))) lent ≡ [] = drop-of-length-le lent {i = length (take (length lent) (rowsOf group kinds))} (omega (arith, size)) in
+    rw none (append-nil (take (length lent) (rowsOf group kinds)))
 
 pub sheets : Sheets
 sheets = record { words = λ room row j. refl; numbers = λ room row j. refl; sound = sound; rows = laid-whole }

@@ -15,11 +15,11 @@ use Rattle.statements.specs.Words.{wordAt, spelled}
 use Rattle.statements.specs.Grammar.{kelvin, ambient, strand, quencher, reporter, position, energyGiven, energySequence, pairSequence, penalty}
 use Rattle.sheet.specs.Rows.{groupOf, rowsBefore, rowsOf, firstOf, wordAmong, numberAmong, kindAmong}
 use Rattle.sheet.specs.Faults.{limitOf, isOver, hasName, isNameTwice, firstFaulty, faultAt, sheetAnswer}
-use Rattle.sheet.specs.Parts.{partAt, startAt, markAt, pairAt, formAt, potentialAt}
+use Rattle.sheet.specs.Parts.{wordNamed, nameAt, entryRow, entryAt, potentialAt}
 use Rattle.sheet.specs.Once.{numberOnce, strandNamed, copiedOf}
 use Rattle.sheet.specs.declared.faults.SheetAnswer.{SheetAnswer}
 use Rattle.sheet.specs.declared.faults.SheetAnswer.the-variants.{Whole, NameTwice, GivenTwice, TooMany, NoAmbient}
-use Rattle.sheet.specs.declared.parts.Part.the-variants.{Glues, Sequence}
+use Rattle.sheet.specs.declared.parts.Part.the-variants.{Glues, First}
 
 -- ---- what is wrong
 
@@ -139,27 +139,25 @@ sampleEntries = rowsOf energyGiven sampleKinds
 pub record Gathered : Type 0 where
   pub strands : sampleStrands ≡ 1 ∷ []
   pub entries : sampleEntries ≡ 3 ∷ 4 ∷ []
-  pub glues : tabulate 3 (startAt sampleKinds sampleWords sampleStrands Glues) ≡ 2 ∷ 0 ∷ 6 ∷ []
-  pub marks : tabulate 3 (markAt sampleKinds sampleWords sampleStrands Glues) ≡ 1 ∷ 0 ∷ 1 ∷ []
-  pub bases : tabulate 2 (startAt sampleKinds sampleWords sampleEntries Sequence) ≡ 20 ∷ 30 ∷ []
-  pub pairs : tabulate 2 (pairAt sampleKinds sampleEntries) ≡ 0 ∷ 1 ∷ []
-  pub forms : tabulate 2 (formAt sampleKinds sampleEntries) ≡ 1 ∷ 1 ∷ []
+  pub glues : tabulate 9 (nameAt sampleWords sampleStrands Glues) ≡ 1 ∷ 2 ∷ 3 ∷ 0 ∷ 0 ∷ 0 ∷ 1 ∷ 6 ∷ 2 ∷ []
+  pub names : tabulate 3 (nameAt sampleWords sampleStrands First) ≡ 1 ∷ 0 ∷ 1 ∷ []
+  pub energies :
+      tabulate 16 (entryAt sampleKinds sampleWords sampleEntries)
+      ≡ (2 ∷ 3 ∷ 0 ∷ 20 ∷ 4 ∷ 1 ∷ 20 ∷ 4 ∷ []) ++ (2 ∷ 3 ∷ 1 ∷ 6 ∷ 2 ∷ 1 ∷ 30 ∷ 5 ∷ [])
   pub potentials : tabulate 4 (potentialAt sampleKinds sampleNumbers sampleStrands) ≡ zero ∷ whole 5 ∷ whole 7 ∷ zero ∷ []
   pub copied : copiedOf quencher sampleText sampleKinds sampleWords sampleStrands ≡ Strand 1
   pub nothing : copiedOf reporter sampleText sampleKinds sampleWords sampleStrands ≡ Nothing
 
 -- the definitions gather what was worked out
 pub gathered : Gathered
-unfolding groupOf rowsBefore firstOf firstIndex keep tabulate sameName spelled wordAmong numberAmong kindAmong partAt potentialAt numberOnce strandNamed copiedOf
+unfolding groupOf rowsBefore firstOf firstIndex keep tabulate sameName spelled wordAmong numberAmong kindAmong wordNamed nameAt entryRow entryAt potentialAt numberOnce strandNamed copiedOf
 gathered =
     record {
       strands = refl;
       entries = refl;
       glues = refl;
-      marks = refl;
-      bases = refl;
-      pairs = refl;
-      forms = refl;
+      names = refl;
+      energies = refl;
       potentials = refl;
       copied = refl;
       nothing = refl;

@@ -5,6 +5,7 @@ ghost use lib.ListN.{length};
 ghost use Rattle.statements.specs.Words.{spelled};
 ghost use Rattle.sheet.specs.Faults.{limitOf, isOver, sameWord, hasName, isNameTwice, firstFaulty, faultAt, sheetAnswer};
 use crate::rows::count_before;
+use crate::rows::count_of;
 use crate::rows::first_of;
 use crate::rows::group_of;
 use crate::rows::word_of;
@@ -17,13 +18,13 @@ use statements::words::Word;
 use statements::words::place_at;
 
 // The most user strands.
-const MOST_STRANDS: usize = 61;
+pub(crate) const MOST_STRANDS: usize = 61;
 
 // The most positions.
-const MOST_POSITIONS: usize = 128;
+pub(crate) const MOST_POSITIONS: usize = 128;
 
 // The most energy entries.
-const MOST_ENTRIES: usize = 1024;
+pub(crate) const MOST_ENTRIES: usize = 1024;
 
 // What is wrong with a file's rows, or how many strands, positions and entries there are.
 pub enum SheetAnswer {
@@ -159,9 +160,9 @@ pub fn check(text: &[u8], kinds: &[u8], lines: &[usize], words: &[usize]) -> She
     }
     if first_of(kinds, KELVIN) < kinds.len() {
         return SheetAnswer::Whole(
-            count_before(kinds, STRAND, kinds.len()),
-            count_before(kinds, POSITION, kinds.len()),
-            count_before(kinds, ENERGY_GIVEN, kinds.len()),
+            count_of(kinds, STRAND),
+            count_of(kinds, POSITION),
+            count_of(kinds, ENERGY_GIVEN),
         );
     }
     SheetAnswer::NoAmbient

@@ -1,27 +1,34 @@
 // What stands in the file at most once.
 ghost use mathlib.Core.Path.{_≡_};
 ghost use Prim.Native.Nat.{_<_};
-ghost use Rattle.statements.specs.Grammar.{penalty};
-ghost use Rattle.sheet.specs.Once.{numberOnce, ambientOf, strandNamed, copiedOf};
+ghost use Rattle.units.specs.Ambient.{ambientFigures};
+ghost use Rattle.sheet.specs.Once.{numberOnce, ambientGiven, ambientSaid, penaltySaid, strandNamed, copiedOf, copiesSaid};
 use crate::faults::same_word;
 use crate::rows::first_of;
 use crate::rows::number_of;
 use crate::rows::word_of;
+use reply::Refusal;
 use sdc1d_params::Copied;
+use sdc1d_params::Copies;
+use sdc1d_params::Penalty;
 use statements::grammar::KELVIN;
 use statements::grammar::PENALTY;
+use statements::grammar::QUENCHER;
+use statements::grammar::REPORTER;
 use statements::words::Word;
+use units::Ambient;
+use units::AmbientAnswer;
+use units::KcalPerMol;
+use units::KcalPerMolKelvin;
+use units::Kelvin;
 
-// The ambient as a file gives it.
-pub enum Ambient {
+// The statement that gives the ambient.
+enum Stated {
     Kelvin(f64),
     // RT, strand excess and scaffold excess.
     Given(f64, f64, f64),
     Missing,
 }
-
-// The junction penalty: dG and dS.
-pub struct Penalty(pub f64, pub f64);
 
 // Number j of the first row of a group, or 0.0.
 pub(crate) fn number_once(kinds: &[u8], numbers: &[f64], group: u8, j: usize) -> f64
@@ -35,32 +42,47 @@ pub(crate) fn number_once(kinds: &[u8], numbers: &[f64], group: u8, j: usize) ->
     0.0
 }
 
-// The ambient, as kelvin or as three numbers.
-pub fn ambient_of(kinds: &[u8], numbers: &[f64]) -> Ambient
-    ensures { λ r. ⌜ r ≡ ambientOf (now (kinds .entry)) (now (numbers .entry)) ⌝ }
+// The statement of the ambient: kelvin, or three numbers.
+fn ambient_given(kinds: &[u8], numbers: &[f64]) -> Stated
+    ensures { λ r. ⌜ r ≡ ambientGiven (now (kinds .entry)) (now (numbers .entry)) ⌝ }
 {
     let row = first_of(kinds, KELVIN);
     if kinds.len() <= row {
-        return Ambient::Missing;
+        return Stated::Missing;
     }
     if kinds[row] == KELVIN {
-        return Ambient::Kelvin(number_of(numbers, row, 0));
+        return Stated::Kelvin(number_of(numbers, row, 0));
     }
-    Ambient::Given(
+    Stated::Given(
         number_of(numbers, row, 0),
         number_of(numbers, row, 1),
         number_of(numbers, row, 2),
     )
 }
 
-// The junction penalty; 0.0 twice where there is none.
-pub fn junction_penalty(kinds: &[u8], numbers: &[f64]) -> Penalty
-    ensures { λ r. ⌜ (r .0 ≡ numberOnce penalty (now (kinds .entry)) (now (numbers .entry)) 0) × (r .1 ≡ numberOnce penalty (now (kinds .entry)) (now (numbers .entry)) 1) ⌝ }
+// The ambient at the file's temperature, or as its line gives it.
+pub fn ambient_said(kinds: &[u8], numbers: &[f64]) -> AmbientAnswer
+    ensures { λ r. ⌜ ambientFigures r ≡ ambientSaid (now (kinds .entry)) (now (numbers .entry)) ⌝ }
 {
-    Penalty(
-        number_once(kinds, numbers, PENALTY, 0),
-        number_once(kinds, numbers, PENALTY, 1),
-    )
+    match ambient_given(kinds, numbers) {
+        Stated::Kelvin(kelvin) => units::ambient_at(Kelvin(kelvin)),
+        Stated::Given(rt, strand_excess, scaffold_excess) => AmbientAnswer::Given(Ambient {
+            rt: KcalPerMol(rt),
+            strand_excess: Kelvin(strand_excess),
+            scaffold_excess: Kelvin(scaffold_excess),
+        }),
+        Stated::Missing => AmbientAnswer::Refused(Refusal::OutOfRange),
+    }
+}
+
+// The junction penalty; 0.0 twice where there is none.
+pub(crate) fn junction_penalty(kinds: &[u8], numbers: &[f64]) -> Penalty
+    ensures { λ r. ⌜ r ≡ penaltySaid (now (kinds .entry)) (now (numbers .entry)) ⌝ }
+{
+    Penalty {
+        dg: KcalPerMol(number_once(kinds, numbers, PENALTY, 0)),
+        ds: KcalPerMolKelvin(number_once(kinds, numbers, PENALTY, 1)),
+    }
 }
 
 // The number of the strand with a name, from 1, or 0.
@@ -91,4 +113,14 @@ pub fn copied(text: &[u8], kinds: &[u8], words: &[usize], rows: &[usize], group:
         return Copied::Nothing;
     }
     Copied::Strand(strand_named(text, words, rows, name))
+}
+
+// Whose glues the quencher and the reporter copy; `rows` are those of the strands.
+pub(crate) fn copies(text: &[u8], kinds: &[u8], words: &[usize], rows: &[usize]) -> Copies
+    ensures { λ r. ⌜ r ≡ copiesSaid (now (text .entry)) (now (kinds .entry)) (now (words .entry)) (now (rows .entry)) ⌝ }
+{
+    Copies {
+        quencher: copied(text, kinds, words, rows, QUENCHER),
+        reporter: copied(text, kinds, words, rows, REPORTER),
+    }
 }

@@ -1,10 +1,12 @@
-// What the calls take of lists of rows. Each lent slice is filled to its end.
+// What the calls take of lists of rows, as rows of numbers. Each lent slice is filled to its end.
 ghost use mathlib.Core.Path.{_≡_};
+ghost use mathlib.Core.Bool.{cond};
 ghost use Prim.Native.Nat.{_<_};
 ghost use lib.ListN.{length};
 ghost use Rattle.lists.specs.Build.{tabulate};
-ghost use Rattle.sheet.specs.Parts.{isPair, isSequence, markOf, partAt, startAt, sizeAt, markAt, pairAt, formAt, numberAt, potentialAt};
-ghost use Rattle.sheet.specs.declared.parts.Part.the-variants.{Glues, First, Second, Sequence};
+ghost use Rattle.sheet.specs.Rows.{wordAmong};
+ghost use Rattle.sheet.specs.Parts.{isPair, isSequence, markOf, wordNamed, nameRow, nameAt, entryRow, entryAt, energyAt, potentialAt};
+ghost use Rattle.sheet.specs.declared.parts.Part.the-variants.{Glues, First};
 use crate::once::number_once;
 use crate::rows::kind_among;
 use crate::rows::number_among;
@@ -16,16 +18,12 @@ use statements::grammar::QUENCHER;
 use statements::grammar::REPORTER;
 use statements::words::Word;
 
-// Which words of a row are wanted.
+// Which words of a row are wanted as names.
 pub(crate) enum Part {
     // West, bottom and east of a strand.
     Glues,
-    // The glue of a position, or the first of an entry.
+    // The first word: the glue of a position, the name of a strand.
     First,
-    // The second glue of an entry.
-    Second,
-    // The bases of an entry.
-    Sequence,
 }
 
 // Whether an entry is for a pair of names.
@@ -49,7 +47,7 @@ fn is_sequence(kind: u8) -> bool
 }
 
 // A mark for what is there.
-fn mark_of(holds: bool) -> u8
+fn mark_of(holds: bool) -> usize
     ensures { λ r. ⌜ r ≡ markOf holds ⌝ }
 {
     if holds {
@@ -58,89 +56,98 @@ fn mark_of(holds: bool) -> u8
     0
 }
 
-// The word at entry m. An entry's bases stand after its one or two names.
-fn part_at(kinds: &[u8], words: &[usize], rows: &[usize], part: Part, m: usize) -> Word
-    ensures { λ r. ⌜ r ≡ partAt (now (kinds .entry)) (now (words .entry)) (now (rows .entry)) part m ⌝ }
+// The word that is name k.
+fn word_named(words: &[usize], rows: &[usize], part: Part, k: usize) -> Word
+    ensures { λ r. ⌜ r ≡ wordNamed (now (words .entry)) (now (rows .entry)) part k ⌝ }
 {
     match part {
-        Part::Glues => word_among(words, rows, m / 3, 1 + m % 3),
-        Part::First => word_among(words, rows, m, 0),
-        Part::Second => word_among(words, rows, m, 1),
-        Part::Sequence => {
-            if is_pair(kind_among(kinds, rows, m)) {
-                return word_among(words, rows, m, 2);
-            }
-            word_among(words, rows, m, 1)
-        }
+        Part::Glues => word_among(words, rows, k / 3, 1 + k % 3),
+        Part::First => word_among(words, rows, k, 0),
     }
 }
 
-// The start of each word.
-fn fill_starts(kinds: &[u8], words: &[usize], rows: &[usize], part: Part, starts: &mut [usize])
-    ensures { λ _. ⌜ now (starts .exit) ≡ tabulate (length (now (starts .entry))) (startAt (now (kinds .entry)) (now (words .entry)) (now (rows .entry)) part) ⌝ }
+// A name as it is lent: its mark, its start and its size.
+fn name_row(word: Word) -> [usize; 3]
+    ensures { λ r. ⌜ r ≡ nameRow word ⌝ }
+{
+    [mark_of(0 < word.size), word.start, word.size]
+}
+
+// The names of the rows, three numbers for each.
+fn fill_names(words: &[usize], rows: &[usize], part: Part, names: &mut [usize])
+    ensures { λ _. ⌜ now (names .exit) ≡ tabulate (length (now (names .entry))) (nameAt (now (words .entry)) (now (rows .entry)) part) ⌝ }
 {
     let mut m = 0;
-    while m < starts.len() {
-        let word = part_at(kinds, words, rows, part, m);
-        starts[m] = word.start;
+    while m < names.len() {
+        let row = name_row(word_named(words, rows, part, m / 3));
+        names[m] = row[m % 3];
         m += 1;
     }
 }
 
-// The size of each word.
-fn fill_sizes(kinds: &[u8], words: &[usize], rows: &[usize], part: Part, sizes: &mut [usize])
-    ensures { λ _. ⌜ now (sizes .exit) ≡ tabulate (length (now (sizes .entry))) (sizeAt (now (kinds .entry)) (now (words .entry)) (now (rows .entry)) part) ⌝ }
+// The glue names of the strands: west, bottom and east of each.
+pub fn strand_names(words: &[usize], rows: &[usize], names: &mut [usize])
+    ensures { λ _. ⌜ now (names .exit) ≡ tabulate (length (now (names .entry))) (nameAt (now (words .entry)) (now (rows .entry)) Glues) ⌝ }
 {
-    let mut m = 0;
-    while m < sizes.len() {
-        let word = part_at(kinds, words, rows, part, m);
-        sizes[m] = word.size;
-        m += 1;
-    }
+    fill_names(words, rows, Part::Glues, names);
 }
 
-// A mark for each word that is there.
-fn fill_marks(kinds: &[u8], words: &[usize], rows: &[usize], part: Part, marks: &mut [u8])
-    ensures { λ _. ⌜ now (marks .exit) ≡ tabulate (length (now (marks .entry))) (markAt (now (kinds .entry)) (now (words .entry)) (now (rows .entry)) part) ⌝ }
+// The first word of each row: the glue of a position, the name of a strand.
+pub fn first_names(words: &[usize], rows: &[usize], names: &mut [usize])
+    ensures { λ _. ⌜ now (names .exit) ≡ tabulate (length (now (names .entry))) (nameAt (now (words .entry)) (now (rows .entry)) First) ⌝ }
 {
-    let mut m = 0;
-    while m < marks.len() {
-        let word = part_at(kinds, words, rows, part, m);
-        marks[m] = mark_of(0 < word.size);
-        m += 1;
-    }
+    fill_names(words, rows, Part::First, names);
 }
 
-// A mark for each entry that is for a pair of names.
-fn fill_pairs(kinds: &[u8], rows: &[usize], marks: &mut [u8])
-    ensures { λ _. ⌜ now (marks .exit) ≡ tabulate (length (now (marks .entry))) (pairAt (now (kinds .entry)) (now (rows .entry))) ⌝ }
+// The word of an entry that holds its bases: they stand after its one or two names.
+fn bases_of(words: &[usize], rows: &[usize], k: usize, pair: bool) -> Word
+    ensures { λ r. ⌜ r ≡ wordAmong (now (words .entry)) (now (rows .entry)) k (cond pair 2 1) ⌝ }
 {
-    let mut m = 0;
-    while m < marks.len() {
-        marks[m] = mark_of(is_pair(kind_among(kinds, rows, m)));
-        m += 1;
+    if pair {
+        return word_among(words, rows, k, 2);
     }
+    word_among(words, rows, k, 1)
 }
 
-// A mark for each entry that gives a sequence.
-fn fill_forms(kinds: &[u8], rows: &[usize], forms: &mut [u8])
-    ensures { λ _. ⌜ now (forms .exit) ≡ tabulate (length (now (forms .entry))) (formAt (now (kinds .entry)) (now (rows .entry))) ⌝ }
+// An entry as it is lent: its first name, its second with a mark, the mark of a sequence and the sequence.
+fn entry_row(kinds: &[u8], words: &[usize], rows: &[usize], k: usize) -> [usize; 8]
+    ensures { λ r. ⌜ r ≡ entryRow (now (kinds .entry)) (now (words .entry)) (now (rows .entry)) k ⌝ }
 {
-    let mut m = 0;
-    while m < forms.len() {
-        forms[m] = mark_of(is_sequence(kind_among(kinds, rows, m)));
-        m += 1;
-    }
+    let kind = kind_among(kinds, rows, k);
+    let first = word_among(words, rows, k, 0);
+    let second = word_among(words, rows, k, 1);
+    let bases = bases_of(words, rows, k, is_pair(kind));
+    [
+        first.start,
+        first.size,
+        mark_of(is_pair(kind)),
+        second.start,
+        second.size,
+        mark_of(is_sequence(kind)),
+        bases.start,
+        bases.size,
+    ]
 }
 
-// Number j of each row.
-fn fill_numbers(numbers: &[f64], rows: &[usize], j: usize, out: &mut [f64])
-    requires { ⌜ j < 3 ⌝ }
-    ensures { λ _. ⌜ now (out .exit) ≡ tabulate (length (now (out .entry))) (numberAt (now (numbers .entry)) (now (rows .entry)) j) ⌝ }
+// The entries, eight numbers for each.
+pub fn entries(kinds: &[u8], words: &[usize], rows: &[usize], out: &mut [usize])
+    ensures { λ _. ⌜ now (out .exit) ≡ tabulate (length (now (out .entry))) (entryAt (now (kinds .entry)) (now (words .entry)) (now (rows .entry))) ⌝ }
 {
     let mut m = 0;
     while m < out.len() {
-        out[m] = number_among(numbers, rows, m, j);
+        let row = entry_row(kinds, words, rows, m / 8);
+        out[m] = row[m % 8];
+        m += 1;
+    }
+}
+
+// The energies of the entries, dG and dS of each.
+pub fn energies(numbers: &[f64], rows: &[usize], out: &mut [f64])
+    ensures { λ _. ⌜ now (out .exit) ≡ tabulate (length (now (out .entry))) (energyAt (now (numbers .entry)) (now (rows .entry))) ⌝ }
+{
+    let mut m = 0;
+    while m < out.len() {
+        out[m] = number_among(numbers, rows, m / 2, m % 2);
         m += 1;
     }
 }
@@ -170,89 +177,4 @@ pub fn potentials(kinds: &[u8], numbers: &[f64], rows: &[usize], out: &mut [f64]
         out[m] = potential_at(kinds, numbers, rows, m);
         m += 1;
     }
-}
-
-// The glue names of the strands, three for each.
-pub fn strands(
-    kinds: &[u8],
-    words: &[usize],
-    rows: &[usize],
-    starts: &mut [usize],
-    lengths: &mut [usize],
-    marks: &mut [u8],
-)
-    ensures { λ _. ⌜ now (starts .exit) ≡ tabulate (length (now (starts .entry))) (startAt (now (kinds .entry)) (now (words .entry)) (now (rows .entry)) Glues) ⌝ }
-    ensures { λ _. ⌜ now (lengths .exit) ≡ tabulate (length (now (lengths .entry))) (sizeAt (now (kinds .entry)) (now (words .entry)) (now (rows .entry)) Glues) ⌝ }
-    ensures { λ _. ⌜ now (marks .exit) ≡ tabulate (length (now (marks .entry))) (markAt (now (kinds .entry)) (now (words .entry)) (now (rows .entry)) Glues) ⌝ }
-{
-    fill_starts(kinds, words, rows, Part::Glues, starts);
-    fill_sizes(kinds, words, rows, Part::Glues, lengths);
-    fill_marks(kinds, words, rows, Part::Glues, marks);
-}
-
-// The glue names of the positions.
-pub fn positions(
-    kinds: &[u8],
-    words: &[usize],
-    rows: &[usize],
-    starts: &mut [usize],
-    lengths: &mut [usize],
-    marks: &mut [u8],
-)
-    ensures { λ _. ⌜ now (starts .exit) ≡ tabulate (length (now (starts .entry))) (startAt (now (kinds .entry)) (now (words .entry)) (now (rows .entry)) First) ⌝ }
-    ensures { λ _. ⌜ now (lengths .exit) ≡ tabulate (length (now (lengths .entry))) (sizeAt (now (kinds .entry)) (now (words .entry)) (now (rows .entry)) First) ⌝ }
-    ensures { λ _. ⌜ now (marks .exit) ≡ tabulate (length (now (marks .entry))) (markAt (now (kinds .entry)) (now (words .entry)) (now (rows .entry)) First) ⌝ }
-{
-    fill_starts(kinds, words, rows, Part::First, starts);
-    fill_sizes(kinds, words, rows, Part::First, lengths);
-    fill_marks(kinds, words, rows, Part::First, marks);
-}
-
-// The names of the entries: the first of each, and the second where it is for a pair, which its mark says.
-pub fn entry_names(
-    kinds: &[u8],
-    words: &[usize],
-    rows: &[usize],
-    first_starts: &mut [usize],
-    first_lengths: &mut [usize],
-    second_starts: &mut [usize],
-    second_lengths: &mut [usize],
-    second_marks: &mut [u8],
-)
-    ensures { λ _. ⌜ now («first_starts» .exit) ≡ tabulate (length (now («first_starts» .entry))) (startAt (now (kinds .entry)) (now (words .entry)) (now (rows .entry)) First) ⌝ }
-    ensures { λ _. ⌜ now («first_lengths» .exit) ≡ tabulate (length (now («first_lengths» .entry))) (sizeAt (now (kinds .entry)) (now (words .entry)) (now (rows .entry)) First) ⌝ }
-    ensures { λ _. ⌜ now («second_starts» .exit) ≡ tabulate (length (now («second_starts» .entry))) (startAt (now (kinds .entry)) (now (words .entry)) (now (rows .entry)) Second) ⌝ }
-    ensures { λ _. ⌜ now («second_lengths» .exit) ≡ tabulate (length (now («second_lengths» .entry))) (sizeAt (now (kinds .entry)) (now (words .entry)) (now (rows .entry)) Second) ⌝ }
-    ensures { λ _. ⌜ now («second_marks» .exit) ≡ tabulate (length (now («second_marks» .entry))) (pairAt (now (kinds .entry)) (now (rows .entry))) ⌝ }
-{
-    fill_starts(kinds, words, rows, Part::First, first_starts);
-    fill_sizes(kinds, words, rows, Part::First, first_lengths);
-    fill_starts(kinds, words, rows, Part::Second, second_starts);
-    fill_sizes(kinds, words, rows, Part::Second, second_lengths);
-    fill_pairs(kinds, rows, second_marks);
-}
-
-// The energies of the entries: two numbers, or a sequence, which its form says.
-pub fn entry_energies(
-    kinds: &[u8],
-    words: &[usize],
-    numbers: &[f64],
-    rows: &[usize],
-    forms: &mut [u8],
-    dgs: &mut [f64],
-    dss: &mut [f64],
-    starts: &mut [usize],
-    lengths: &mut [usize],
-)
-    ensures { λ _. ⌜ now (forms .exit) ≡ tabulate (length (now (forms .entry))) (formAt (now (kinds .entry)) (now (rows .entry))) ⌝ }
-    ensures { λ _. ⌜ now (dgs .exit) ≡ tabulate (length (now (dgs .entry))) (numberAt (now (numbers .entry)) (now (rows .entry)) 0) ⌝ }
-    ensures { λ _. ⌜ now (dss .exit) ≡ tabulate (length (now (dss .entry))) (numberAt (now (numbers .entry)) (now (rows .entry)) 1) ⌝ }
-    ensures { λ _. ⌜ now (starts .exit) ≡ tabulate (length (now (starts .entry))) (startAt (now (kinds .entry)) (now (words .entry)) (now (rows .entry)) Sequence) ⌝ }
-    ensures { λ _. ⌜ now (lengths .exit) ≡ tabulate (length (now (lengths .entry))) (sizeAt (now (kinds .entry)) (now (words .entry)) (now (rows .entry)) Sequence) ⌝ }
-{
-    fill_forms(kinds, rows, forms);
-    fill_numbers(numbers, rows, 0, dgs);
-    fill_numbers(numbers, rows, 1, dss);
-    fill_starts(kinds, words, rows, Part::Sequence, starts);
-    fill_sizes(kinds, words, rows, Part::Sequence, lengths);
 }

@@ -2,7 +2,7 @@
 ghost use mathlib.Core.Path.{_≡_};
 ghost use Prim.Native.Nat.{_<_, _≤_};
 ghost use lib.ListN.{length};
-ghost use Rattle.sheet.specs.Rows.{groupOf, rowsBefore, firstOf, laid, wordOf, numberOf, wordAmong, numberAmong, kindAmong};
+ghost use Rattle.sheet.specs.Rows.{groupOf, rowsBefore, countOf, firstOf, laid, wordOf, numberOf, wordAmong, numberAmong, kindAmong};
 use statements::grammar::AMBIENT;
 use statements::grammar::ENERGY_GIVEN;
 use statements::grammar::KELVIN;
@@ -40,6 +40,13 @@ pub(crate) fn count_before(kinds: &[u8], group: u8, end: usize) -> usize
         i += 1;
     }
     n
+}
+
+// How many rows are of a group.
+pub fn count_of(kinds: &[u8], group: u8) -> usize
+    ensures { λ r. ⌜ r ≡ countOf group (now (kinds .entry)) ⌝ }
+{
+    count_before(kinds, group, kinds.len())
 }
 
 // The first row of a group, or the number of rows.

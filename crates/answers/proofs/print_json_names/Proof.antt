@@ -5,10 +5,10 @@ use Rattle.answers.proofs.print_json_names.Statement.{statement}
 use Rattle.answers.proofs.print_json_names.Tie as tie
 
 abbrev Inv-loop : tie.InvT-loop
-Inv-loop text name-starts name-sizes configuration i₀ t7 t8 t9 i-end i = Unit {0}
+Inv-loop text names configuration i₀ t7 t8 t9 i-end i = Unit {0}
 
 abbrev μ-loop : tie.MeasureT-loop
-μ-loop text name-starts name-sizes configuration i₀ t7 t8 t9 i-end i = i-end - i
+μ-loop text names configuration i₀ t7 t8 t9 i-end i = i-end - i
 
 pub print-json-names-spec : {M : Type 1} → statement M
 print-json-names-spec =

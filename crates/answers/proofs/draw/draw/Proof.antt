@@ -5,11 +5,11 @@ use Rattle.answers.proofs.draw.draw.Statement.{statement}
 use Rattle.answers.proofs.draw.draw.Tie as tie
 
 abbrev Inv-loop : tie.InvT-loop
-Inv-loop text glue-starts glue-sizes name-starts name-sizes configuration from₀ turn₀ turn-end from turn =
+Inv-loop text glues names configuration from₀ turn₀ turn-end from turn =
     Unit {0}
 
 abbrev μ-loop : tie.MeasureT-loop
-μ-loop text glue-starts glue-sizes name-starts name-sizes configuration from₀ turn₀ turn-end from turn =
+μ-loop text glues names configuration from₀ turn₀ turn-end from turn =
     turn-end - turn
 
 pub draw-spec : {M : Type 1} → statement M

@@ -5,10 +5,10 @@ use Rattle.answers.proofs.draw.print_strands.Statement.{statement}
 use Rattle.answers.proofs.draw.print_strands.Tie as tie
 
 abbrev Inv-loop : tie.InvT-loop
-Inv-loop text glue-starts glue-sizes name-starts name-sizes configuration from end i₀ t13 i = Unit {0}
+Inv-loop text glues names configuration from end i₀ t13 i = Unit {0}
 
 abbrev μ-loop : tie.MeasureT-loop
-μ-loop text glue-starts glue-sizes name-starts name-sizes configuration from end i₀ t13 i = end - i
+μ-loop text glues names configuration from end i₀ t13 i = end - i
 
 pub print-strands-spec : {M : Type 1} → statement M
 print-strands-spec =

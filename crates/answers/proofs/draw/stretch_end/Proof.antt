@@ -5,11 +5,11 @@ use Rattle.answers.proofs.draw.stretch_end.Statement.{statement}
 use Rattle.answers.proofs.draw.stretch_end.Tie as tie
 
 abbrev Inv-loop : tie.InvT-loop
-Inv-loop text glue-starts glue-sizes name-starts name-sizes configuration from used₀ i₀ i-end used i =
+Inv-loop text glues names configuration from used₀ i₀ i-end used i =
     Unit {0}
 
 abbrev μ-loop : tie.MeasureT-loop
-μ-loop text glue-starts glue-sizes name-starts name-sizes configuration from used₀ i₀ i-end used i =
+μ-loop text glues names configuration from used₀ i₀ i-end used i =
     i-end - i
 
 pub stretch-end-spec : {M : Type 1} → statement M

@@ -18,7 +18,7 @@ unfolding sheetAnswer
 returns-2 c =
     let e = c .before .before .before .before .before .before .first-faulty .ensures in
     let f = c .before .before .before .before .first-of .ensures in
-    rw (le-ltb _ _ (rw e at (c .before .before .before .before .before .if1 .left)), lt-ltb _ _ (rw f at (c .before .before .before .if2 .taken)), c .before .before .count-before .ensures, c .before .count-before2 .ensures, c .count-before3 .ensures)
+    rw (le-ltb _ _ (rw e at (c .before .before .before .before .before .if1 .left)), lt-ltb _ _ (rw f at (c .before .before .before .if2 .taken)), c .before .before .count-of .ensures, c .before .count-of2 .ensures, c .count-of3 .ensures)
 
 returns-3 : tie.Need-returns-3
 unfolding sheetAnswer

@@ -1,0 +1,53 @@
+-- `sheet::parts::entries` meets its contract. Assumes nothing.
+use borrow.Author.Needs.{needs}
+use mathlib.Core.Path.{ap}
+use mathlib.Core.List.{List}
+use Prim.Native.Nat.{ℕ, _-_, _%_}
+use native.Mathlib.Omega.{arith}
+use lib.ListN.{length, getD}
+use Rattle.sheet.specs.Parts.{entryAt}
+use Rattle.sheet.proofs.Fill.{Filled, filled-none, filled-length, filled-more, filled-whole}
+use Rattle.sheet.proofs.parts.entries.Statement.{statement}
+use Rattle.sheet.proofs.parts.entries.Tie as tie
+
+abbrev Inv-loop : tie.InvT-loop
+Inv-loop kinds words rows out₀ m₀ out m = Filled (entryAt kinds words rows) out₀ m out
+
+abbrev μ-loop : tie.MeasureT-loop
+μ-loop kinds words rows out₀ m₀ out m = length out₀ - m
+
+loop-holds : tie.Need-loop-holds Inv-loop μ-loop
+loop-holds c = filled-none _ _
+
+loop-less : tie.Need-loop-less Inv-loop μ-loop
+loop-less c = omega (arith, filled-length (c .before .before .loop .inv))
+
+loop-again : tie.Need-loop-again Inv-loop μ-loop
+unfolding entryAt
+loop-again c =
+    let l = c .before .before in
+    filled-more (l .loop .inv) (c .before .loop-test .taken) (ap (λ (r : List ℕ). getD r (l .loop .m % 8) 0) (c .entry-row .ensures))
+
+same-length : tie.Need-same-length Inv-loop μ-loop
+same-length c = filled-length (c .before .loop .inv)
+
+returns : tie.Need-returns Inv-loop μ-loop
+returns c = filled-whole (c .before .loop .inv) (c .loop-test .left)
+
+pub entries-spec : {M : Type 1} → statement M
+entries-spec =
+    tie.close
+    (tie.spec
+    Inv-loop
+    μ-loop
+    loop-holds
+    (λ c κs. search needs)
+    (λ c. search needs)
+    (λ c. search needs)
+    (λ c. search needs)
+    (λ c. search needs)
+    (λ c. search needs)
+    loop-less
+    loop-again
+    same-length
+    returns)
