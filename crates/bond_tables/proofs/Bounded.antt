@@ -8,7 +8,7 @@ use native.Mathlib.Omega.{arith}
 use lib.Dec.{T, lit≤, eqb}
 use lib.ListN.{length, getD}
 use lib.Ieee.{Float, nan, binary64, fits}
-use borrow.Author.Tests.{not-false, eqb-true}
+use borrow.Author.Tests.{not-false, eq-eqb, eqb-true}
 use Rattle.lists.specs.Find.{any}
 use Rattle.lists.proofs.Places.{getD-default}
 use Rattle.lists.proofs.Tests.{neither}
@@ -37,11 +37,17 @@ use Rattle.bond_tables.specs.Tables.{wrongTables, bondsOut, bondCell, mo
 abbrev pub CellDoubles : List Float → Type 0
 CellDoubles cells = (k : ℕ) → k < length cells → T (fits binary64 (getD cells k nan))
 
+bond-within : (x : Float) → T (fits binary64 x) → beyond 80000 x ≡ false → Within binary64 80000 x
+unfolding inRange
+bond-within x t e = in-range-within 80000 (lit≤ tt) x t (not-false (within (nearest (minus 80000 0)) (nearest (plus 80000 0)) x) e)
+
 cell-within : (cells : List Float) → CellDoubles cells → any (beyond 80000) cells ≡ false → (k : ℕ) → k < length cells → Within binary64 80000 (getD cells k zero)
 cell-within cells doubles none k h =
-    let x = getD cells k zero in
-    let fit : T (fits binary64 x) = subst (λ (y : Float). T (fits binary64 y)) (getD-default cells k nan zero h) (doubles k h) in
-    in-range-within 80000 (lit≤ tt) x fit (unfold inRange in not-false (within (nearest (minus 80000 0)) (nearest (plus 80000 0)) x) (none-passes (beyond 80000) zero cells none k h))
+    let fit : T (fits binary64 (getD cells k zero)) = subst (λ (y : Float). T (fits binary64 y)) (getD-default cells k nan zero h) (doubles k h) in
+    bond-within (getD cells k zero) fit (none-passes (beyond 80000) zero cells none k h)
+
+pub tables-fit : (d : Design) (t u : List Float) → length t ≡ strands d * strands d → length u ≡ positions d * strands d → wrongTables d t u ≡ false
+tables-fit d t u e f = simp (eq-eqb _ _ e, eq-eqb _ _ f)
 
 module _ (d : Design) (t u : List Float) (sizes : wrongTables d t u ≡ false) where
   pub table-sizes : (length t ≡ strands d * strands d) × (length u ≡ positions d * strands d)

@@ -19,8 +19,8 @@ is-true : (b : Bool) → T b → b ≡ true
 is-true true h = refl
 is-true false h = absurd h
 
-both-ends : {a b : Bool} → a ≡ true → b ≡ true → not (a && b) ≡ false
-both-ends p q = rw (p, q) refl
+both-ends : (a b : Bool) → T a → T b → not (a && b) ≡ false
+both-ends a b p q = rw (is-true a p, is-true b q)
 
 no-less : (n : ℕ) → 0 ≤ n
 no-less n = omega arith
@@ -47,5 +47,5 @@ module _ (A : ℕ) (h : A ≤ 2 ^ prec binary64) where
     pub not-out : beyond A x ≡ false
     unfolding nearest
     not-out =
-        both-ends (is-true _ (Le→le binary64 (round binary64 true A 1) x (end-real true) (w .real) above))
-        (is-true _ (Le→le binary64 x (round binary64 false A 1) (w .real) (end-real false) below))
+        both-ends (le (round binary64 true A 1) x) (le x (round binary64 false A 1)) (Le→le binary64 (round binary64 true A 1) x (end-real true) (w .real) above)
+        (Le→le binary64 x (round binary64 false A 1) (w .real) (end-real false) below)

@@ -90,16 +90,7 @@ pub(crate) fn bonds_reply(
         return Reply::Refused(Refusal::WrongSize, Place::Nowhere);
     }
     if bonds_out(strand_bonds, scaffold_bonds) {
-        return ranged_reply(
-            own_size,
-            true,
-            scaffold,
-            marks,
-            glues,
-            dg,
-            ds,
-            potentials,
-        );
+        return ranged_reply(own_size, true, scaffold, marks, glues, dg, ds, potentials);
     }
     Reply::Admitted
 }

@@ -163,9 +163,7 @@ pub fn count_over(
         scaffold_bonds,
     ) {
         Reply::Refused(refusal, place) => CountAnswer::Refused(refusal, place),
-        Reply::Admitted => {
-            number_of_states(scaffold, marks, glues, dg, ds, potentials, ambient)
-        }
+        Reply::Admitted => { number_of_states(scaffold, marks, glues, dg, ds, potentials, ambient) }
     }
 }
 

@@ -26,11 +26,7 @@ fn main() -> std::io::Result<()> {
 
 /// `None` after a setter. What is neither about sequences, temperatures, decks, names nor parameters
 /// is about the design that lines have set so far, and the tables beside it.
-fn answer(
-    lent: &mut Lent,
-    tables: &mut Tables,
-    words: Words,
-) -> Result<Option<Reply>, Complaint> {
+fn answer(lent: &mut Lent, tables: &mut Tables, words: Words) -> Result<Option<Reply>, Complaint> {
     match words[0] {
         word if word.starts_with("t.") => tables.answer(lent, words),
         "seq" | "published" | "pair" | "loop" | "strengthx" => sequences::answer(words).map(Some),
