@@ -5,3 +5,4 @@ pub mod Bonds
 pub mod Bounded
 pub mod Filled
 pub mod Replies
+pub mod Cases
