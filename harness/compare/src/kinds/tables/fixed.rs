@@ -106,7 +106,7 @@ type Fault = fn(&mut Lent, &mut Tables);
 fn faults(ask: &mut Ask) {
     let faults: [Fault; 13] = [
         |_, _| (),
-        |_, tables| tables.strands[8] = f64::NAN,
+        |_, tables| tables.strands[4] = f64::NAN,
         |_, tables| tables.scaffold[0] = -MOST_BOND.next_up(),
         |_, tables| tables.strands.truncate(8),
         |_, tables| tables.scaffold.push(0.0),
