@@ -19,8 +19,8 @@
  *   - Doubles are rounded to nearest, and subnormals are kept: the mode in which a program starts.
  *     Not so after fesetround, in code that sets flush-to-zero or denormals-are-zero, or in a program
  *     that is linked with -ffast-math.
- *   - A call has 256 KiB of stack left on its thread: the search takes about 140, mj_params 32, every
- *     other less than 16.
+ *   - A call has 256 KiB of stack left on its thread: the search takes about 140, that over tables less
+ *     than 64, mj_params 32, every other less than 16.
  *
  * Sequences. Letters are a, c, g, t in either case; no NUL ends a sequence. Of two sequences the
  * second is read by index beside the first, not backwards: "aac" pairs with "ttg" without a mismatch.
