@@ -19,8 +19,8 @@
  *   - Doubles are rounded to nearest, and subnormals are kept: the mode in which a program starts.
  *     Not so after fesetround, in code that sets flush-to-zero or denormals-are-zero, or in a program
  *     that is linked with -ffast-math.
- *   - A call has 256 KiB of stack left on its thread: the search takes about 140, mj_params 32, every
- *     other less than 16.
+ *   - A call has 256 KiB of stack left on its thread: the search takes about 140, that over tables less
+ *     than 64, mj_params 32, every other less than 16.
  *
  * Sequences. Letters are a, c, g, t in either case; no NUL ends a sequence. Of two sequences the
  * second is read by index beside the first, not backwards: "aac" pairs with "ttg" without a mismatch.
@@ -39,8 +39,9 @@
  *    6 unknown  a scaffold name that is neither the base of a strand glue nor that base with one star
  *    7 glues    the strands use more than 31 base names
  *    8 twice    two energy entries name the same unordered pair of known names
- *    9 range    a number not finite or outside its range, but for those of 16 and 17; an entry of a
- *               configuration above 63 that is to be written as a deck
+ *    9 range    a number not finite or outside its range, but for those of 16 and 17; a lent bond
+ *               above 80,000 in size or not finite; an entry of a configuration above 63 that is to be
+ *               written as a deck
  *   10 null     strand 0 has a glue, or row or column 0 of a table a nonzero cell
  *   11 stranger a configuration holds, at some position, neither 0 nor a friend
  *   12 many     a design of more than 1,048,576 states
@@ -51,7 +52,8 @@
  *
  * If several apply, the lowest is given. Four of them say where the fault lies:
  *
- *    9 of a design   the lowest bad cell: 64 * row + column in dg, 4,096 more in ds
+ *    9 of a design   the lowest bad cell: 64 * row + column in dg, 4,096 more in ds; none where a
+ *                    lent bond alone is out
  *   14               the index of the faulty word
  *   16               the first that is out: 0 rt, 1 strand_excess, 2 scaffold_excess
  *   17               the lowest such strand
@@ -234,6 +236,40 @@ uint32_t mj_chain_energy(MJ_DESIGN, const uint8_t *configuration, size_t n, uint
  * entries are kept. Replies 1, 9, 10, 16, 17. */
 uint32_t mj_search(MJ_DESIGN, uint8_t *configuration, size_t lent, uint64_t *place, double *energy);
 
+/* Tables of bonds beside a design, row first, each row as many cells as there are strands:
+ *
+ *   strand_bonds     strands rows: the cell [x][y] is the bond of mj_strand_bond
+ *   scaffold_bonds   positions rows: the cell [i][x] is that of mj_scaffold_bond
+ *
+ * Filling writes every cell of both; on a refusal all are kept. The other calls read the cells where
+ * those over a design work the bonds out, bonds with strand 0 included: over tables that were filled
+ * they answer as over the design, over other cells by the same rules with these as the bonds. They
+ * check all of the design, and every cell: one that is not finite or above 80,000 in size is 9, without
+ * a place where dg and ds are in range. */
+#define MJ_TABLES                                                                              \
+    const double *strand_bonds, size_t strand_cells, const double *scaffold_bonds,             \
+        size_t scaffold_cells
+
+/* Fills both tables. Replies 1, 9, 10, 16, 17. */
+uint32_t mj_bond_tables(MJ_DESIGN, double *strand_bonds, size_t strand_cells,
+                        double *scaffold_bonds, size_t scaffold_cells, uint64_t *place);
+
+/* As mj_state_energy. Replies 1, 9, 10, 11, 16, 17. */
+uint32_t mj_state_energy_over(MJ_DESIGN, MJ_TABLES, const uint8_t *configuration, size_t n,
+                              uint64_t *place, double *energy);
+
+/* As mj_states. Replies 1, 9, 10, 12, 16, 17. */
+uint32_t mj_states_over(MJ_DESIGN, MJ_TABLES, uint64_t *place, uint64_t *count);
+
+/* As mj_state. Replies 1, 9, 10, 12, 13, 16, 17. */
+uint32_t mj_state_over(MJ_DESIGN, MJ_TABLES, uint64_t rank, uint8_t *entries, size_t lent,
+                       uint64_t *place);
+
+/* As mj_search. Replies 1, 9, 10, 16, 17. */
+uint32_t mj_search_over(MJ_DESIGN, MJ_TABLES, uint8_t *configuration, size_t lent,
+                        uint64_t *place, double *energy);
+
+#undef MJ_TABLES
 #undef MJ_DESIGN
 
 #ifdef __cplusplus

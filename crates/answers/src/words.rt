@@ -21,5 +21,11 @@ pub(crate) fn print_trade_word(refusal: Refusal) {
         Refusal::BadDeck => print(b"deck"),
         Refusal::AmbientOut => print(b"ambient"),
         Refusal::PotentialOut => print(b"potential"),
+        Refusal::BareScaffold => print(b"bare"),
+        Refusal::WeightOut => print(b"weight"),
+        Refusal::NotARing => print(b"ring"),
+        Refusal::TwoStars => print(b"stars"),
+        Refusal::NotAJob => print(b"job"),
+        Refusal::NoneUnder => print(b"none"),
     }
 }

@@ -178,6 +178,15 @@ pub record TablesPass (d : Design) : Type 0 where
 
 -- ---- the checks of each call, sorted by number
 
+-- the sizes, with the call's own; the cells; what else the call finds out of range, which has no place; what binds to null
+abbrev pub rangedChecks : Bool → Bool → List ℕ → List ℕ → List ℕ → List Float → List Float → List Float → List Check
+rangedChecks ownSize ownRange scaffold marks glues dg ds potentials =
+    WrongSize if (ownSize || wrongSizes scaffold marks glues dg ds potentials)
+    ∷ OutOfRange if cellsOut dg ds at badCell dg ds
+    ∷ OutOfRange if ownRange
+    ∷ NullBinds if nullBinds glues dg ds
+    ∷ []
+
 -- the sizes, with the call's own; the cells; what binds to null
 abbrev pub tableChecks : Bool → List ℕ → List ℕ → List ℕ → List Float → List Float → List Float → List Check
 tableChecks ownSize scaffold marks glues dg ds potentials =

@@ -34,20 +34,21 @@ ghost use Rattle.lists.specs.Find.{any, firstIndex};
 ghost use Rattle.reply.specs.First.{firstOf, _if_at_};
 ghost use Rattle.reply.specs.declared.Refusal.the-variants.{OutOfRange, AmbientOut};
 ghost use Rattle.design.specs.Design.{lent};
-ghost use Rattle.design.specs.Checks.{wrongSizes, outside, cellsOut, badCell, ambientOut, badAmbient, unfit, nullCells, nullBinds, tableChecks, numberChecks, designChecks};
+ghost use Rattle.design.specs.Checks.{wrongSizes, outside, cellsOut, badCell, ambientOut, badAmbient, unfit, nullCells, nullBinds, rangedChecks, tableChecks, numberChecks, designChecks};
 
-// Where the first number above the most that it may be stands; how many there are where none is.
-fn first_above(most: u8, numbers: &[u8]) -> usize
-    ensures { λ r. ⌜ r ≡ firstIndex (ltb most) (now (numbers .entry)) ⌝ }
+// Whether a number is above the most that it may be. All are counted: a loop with one way out is one that the compiler takes several at a time.
+fn some_above(most: u8, numbers: &[u8]) -> bool
+    ensures { λ r. ⌜ r ≡ any (ltb most) (now (numbers .entry)) ⌝ }
 {
+    let mut above: usize = 0;
     let mut i = 0;
     while i < numbers.len() {
         if most < numbers[i] {
-            return i;
+            above += 1;
         }
         i += 1;
     }
-    i
+    0 < above
 }
 
 // Whether a count, a length, a mark or a glue is outside its limits.
@@ -82,17 +83,16 @@ fn wrong_sizes(
     if marks.len() != scaffold.len() {
         return true;
     }
-    if first_above(BLOCKED, marks) < marks.len() {
+    if some_above(BLOCKED, marks) {
         return true;
     }
-    if first_above(LAST_GLUE, scaffold) < scaffold.len() {
+    if some_above(LAST_GLUE, scaffold) {
         return true;
     }
-    first_above(LAST_GLUE, glues) < glues.len()
+    some_above(LAST_GLUE, glues)
 }
 
-// Whether a cell of either table is out of its range. All are counted, a cell of each table in a turn: a loop with one way out is one that the
-// compiler takes several at a time.
+// Whether a cell of either table is out of its range. All are counted, a cell of each table in a turn.
 fn cells_out(dg: &[f64], ds: &[f64]) -> bool
     requires { ⌜ length (now dg) ≡ length (now ds) ⌝ }
     ensures { λ r. ⌜ r ≡ cellsOut (now (dg .entry)) (now (ds .entry)) ⌝ }
@@ -226,7 +226,31 @@ fn null_binds(glues: &[u8], dg: &[f64], ds: &[f64]) -> bool
     null_cells(dg, ds)
 }
 
-// The first of the checks of a design's tables that holds: their sizes, with what the call itself finds wrong with one, their cells, and null.
+// The first of the checks of a design's tables that holds: their sizes, with what the call itself finds wrong with one, their cells, what else the
+// call finds out of range, and null.
+pub fn ranged_reply(
+    own_size: bool,
+    own_range: bool,
+    scaffold: &[u8],
+    marks: &[u8],
+    glues: &[u8],
+    dg: &[f64],
+    ds: &[f64],
+    potentials: &[f64],
+) -> Reply
+    ensures { λ r. ⌜ r ≡ firstOf (rangedChecks «own_size» «own_range» (now (scaffold .entry)) (now (marks .entry)) (now (glues .entry)) (now (dg .entry)) (now (ds .entry)) (now (potentials .entry))) ⌝ }
+{
+    if own_size {
+        return Reply::Refused(Refusal::WrongSize, Place::Nowhere);
+    }
+    if wrong_sizes(scaffold, marks, glues, dg, ds, potentials) {
+        return Reply::Refused(Refusal::WrongSize, Place::Nowhere);
+    }
+    let range = cells_reply(dg, ds).or(refused_if(Refusal::OutOfRange, own_range));
+    range.or(refused_if(Refusal::NullBinds, null_binds(glues, dg, ds)))
+}
+
+// The same of a call that finds nothing else out of range.
 pub fn tables_reply(
     own_size: bool,
     scaffold: &[u8],
@@ -238,13 +262,7 @@ pub fn tables_reply(
 ) -> Reply
     ensures { λ r. ⌜ r ≡ firstOf (tableChecks «own_size» (now (scaffold .entry)) (now (marks .entry)) (now (glues .entry)) (now (dg .entry)) (now (ds .entry)) (now (potentials .entry))) ⌝ }
 {
-    if own_size {
-        return Reply::Refused(Refusal::WrongSize, Place::Nowhere);
-    }
-    if wrong_sizes(scaffold, marks, glues, dg, ds, potentials) {
-        return Reply::Refused(Refusal::WrongSize, Place::Nowhere);
-    }
-    cells_reply(dg, ds).or(refused_if(Refusal::NullBinds, null_binds(glues, dg, ds)))
+    ranged_reply(own_size, false, scaffold, marks, glues, dg, ds, potentials)
 }
 
 // The first of the checks of a design's numbers that holds: its ambient, and the potentials that are read.

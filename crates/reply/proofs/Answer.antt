@@ -6,7 +6,7 @@ use lib.Dec.{lit≤}
 use Rattle.reply.specs.Number.{numberOf, answered}
 use Rattle.reply.specs.First.{answer}
 use Rattle.reply.specs.declared.Refusal.{Refusal}
-use Rattle.reply.specs.declared.Refusal.the-variants.{WrongSize, NotABase, TooShort, UnequalLengths, NoSuchLoop, UnknownName, TooManyGlues, DuplicatePair, OutOfRange, NullBinds, NotAFriend, TooManyStates, RankTooHigh, BadDeck, AmbientOut, PotentialOut}
+use Rattle.reply.specs.declared.Refusal.the-variants.{WrongSize, NotABase, TooShort, UnequalLengths, NoSuchLoop, UnknownName, TooManyGlues, DuplicatePair, OutOfRange, NullBinds, NotAFriend, TooManyStates, RankTooHigh, BadDeck, AmbientOut, PotentialOut, BareScaffold, WeightOut, NotARing, TwoStars, NotAJob, NoneUnder}
 use Rattle.reply.specs.declared.Place.{Place}
 use Rattle.reply.specs.declared.Reply.{Reply}
 use Rattle.reply.specs.declared.Reply.the-variants.{Admitted, Refused}
@@ -29,6 +29,12 @@ number-positive RankTooHigh = lit≤ tt
 number-positive BadDeck = lit≤ tt
 number-positive AmbientOut = lit≤ tt
 number-positive PotentialOut = lit≤ tt
+number-positive BareScaffold = lit≤ tt
+number-positive WeightOut = lit≤ tt
+number-positive NotARing = lit≤ tt
+number-positive TwoStars = lit≤ tt
+number-positive NotAJob = lit≤ tt
+number-positive NoneUnder = lit≤ tt
 
 -- over any figures that have a number
 module _ {A : Type 0} (number : A → ℕ) (refused : ℕ → A) (numbered : (n : ℕ) → number (refused n) ≡ n) (given : A) where

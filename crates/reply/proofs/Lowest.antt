@@ -11,7 +11,7 @@ use lib.ListN.{getD}
 use Rattle.reply.specs.Number.{numberOf}
 use Rattle.reply.specs.First.{Check, firstOf, sorted, AppliesAt, Applies, LowestGiven}
 use Rattle.reply.specs.declared.Refusal.{Refusal}
-use Rattle.reply.specs.declared.Refusal.the-variants.{WrongSize, NotABase, TooShort, UnequalLengths, NoSuchLoop, UnknownName, TooManyGlues, DuplicatePair, OutOfRange, NullBinds, NotAFriend, TooManyStates, RankTooHigh, BadDeck, AmbientOut, PotentialOut}
+use Rattle.reply.specs.declared.Refusal.the-variants.{WrongSize, NotABase, TooShort, UnequalLengths, NoSuchLoop, UnknownName, TooManyGlues, DuplicatePair, OutOfRange, NullBinds, NotAFriend, TooManyStates, RankTooHigh, BadDeck, AmbientOut, PotentialOut, BareScaffold, WeightOut, NotARing, TwoStars, NotAJob, NoneUnder}
 use Rattle.reply.specs.declared.Place.{Place}
 use Rattle.reply.specs.declared.Place.the-variants.{Nowhere}
 use Rattle.reply.specs.declared.Reply.{Reply}
@@ -20,9 +20,9 @@ use Rattle.reply.specs.declared.Reply.the-variants.{Admitted, Refused}
 -- the refusal with a given number, whatever stands at 15
 refusalOf : ℕ → Refusal
 refusalOf n =
-    getD (WrongSize ∷ NotABase ∷ TooShort ∷ UnequalLengths ∷ NoSuchLoop ∷ UnknownName ∷ TooManyGlues ∷ DuplicatePair ∷ OutOfRange ∷ NullBinds ∷ NotAFriend ∷ TooManyStates ∷ RankTooHigh ∷ BadDeck ∷ BadDeck ∷ AmbientOut ∷ [])
+    getD (WrongSize ∷ NotABase ∷ TooShort ∷ UnequalLengths ∷ NoSuchLoop ∷ UnknownName ∷ TooManyGlues ∷ DuplicatePair ∷ OutOfRange ∷ NullBinds ∷ NotAFriend ∷ TooManyStates ∷ RankTooHigh ∷ BadDeck ∷ BadDeck ∷ AmbientOut ∷ PotentialOut ∷ BareScaffold ∷ WeightOut ∷ NotARing ∷ TwoStars ∷ NotAJob ∷ [])
     (n - 1)
-    PotentialOut
+    NoneUnder
 
 numbered : (r : Refusal) → refusalOf (numberOf r) ≡ r
 unfolding refusalOf
@@ -42,6 +42,12 @@ numbered RankTooHigh = refl
 numbered BadDeck = refl
 numbered AmbientOut = refl
 numbered PotentialOut = refl
+numbered BareScaffold = refl
+numbered WeightOut = refl
+numbered NotARing = refl
+numbered TwoStars = refl
+numbered NotAJob = refl
+numbered NoneUnder = refl
 
 -- no two refusals share a number
 pub same-number : {r q : Refusal} → numberOf r ≡ numberOf q → r ≡ q

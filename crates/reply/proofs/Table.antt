@@ -22,4 +22,10 @@ reply-table =
       deck = refl;
       ambient = refl;
       potential = refl;
+      bare = refl;
+      weight = refl;
+      ring = refl;
+      stars = refl;
+      job = refl;
+      none = refl;
     }

@@ -1,7 +1,7 @@
 -- The table of replies of documents 01 and 02: the number of each refusal, and 0 for an answer.
 use Prim.Native.Nat.{ℕ}
 use Rattle.reply.specs.declared.Refusal.{Refusal}
-use Rattle.reply.specs.declared.Refusal.the-variants.{WrongSize, NotABase, TooShort, UnequalLengths, NoSuchLoop, UnknownName, TooManyGlues, DuplicatePair, OutOfRange, NullBinds, NotAFriend, TooManyStates, RankTooHigh, BadDeck, AmbientOut, PotentialOut}
+use Rattle.reply.specs.declared.Refusal.the-variants.{WrongSize, NotABase, TooShort, UnequalLengths, NoSuchLoop, UnknownName, TooManyGlues, DuplicatePair, OutOfRange, NullBinds, NotAFriend, TooManyStates, RankTooHigh, BadDeck, AmbientOut, PotentialOut, BareScaffold, WeightOut, NotARing, TwoStars, NotAJob, NoneUnder}
 use Rattle.reply.specs.declared.Reply.{Reply}
 use Rattle.reply.specs.declared.Reply.the-variants.{Admitted, Refused}
 
@@ -23,6 +23,12 @@ numberOf RankTooHigh = 13
 numberOf BadDeck = 14
 numberOf AmbientOut = 16
 numberOf PotentialOut = 17
+numberOf BareScaffold = 18
+numberOf WeightOut = 19
+numberOf NotARing = 20
+numberOf TwoStars = 21
+numberOf NotAJob = 22
+numberOf NoneUnder = 23
 
 -- the number of a call that is answered
 abbrev pub answered : ℕ

@@ -40,6 +40,18 @@ pub enum Refusal {
     AmbientOut,
     // potential: a potential that a design reads is out of range
     PotentialOut,
+    // bare: a sum over the states of a scaffold of no positions
+    BareScaffold,
+    // weight: a weight that some state uses is outside its form
+    WeightOut,
+    // ring: a ring of fewer than 3 positions
+    NotARing,
+    // stars: a strand or entry name that ends in two or more stars, in an ordinary build
+    TwoStars,
+    // job: a job word of another kind or payload
+    NotAJob,
+    // none: no state at or under the ceiling
+    NoneUnder,
 }
 
 // Where a refusal lies, for those that say so.
@@ -76,6 +88,12 @@ impl Refusal {
             Refusal::BadDeck => 14,
             Refusal::AmbientOut => 16,
             Refusal::PotentialOut => 17,
+            Refusal::BareScaffold => 18,
+            Refusal::WeightOut => 19,
+            Refusal::NotARing => 20,
+            Refusal::TwoStars => 21,
+            Refusal::NotAJob => 22,
+            Refusal::NoneUnder => 23,
         }
     }
 }

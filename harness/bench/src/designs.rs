@@ -33,9 +33,14 @@ pub fn rows() -> Vec<Row> {
 }
 
 /// A design, and states of it.
-struct Stated {
-    both: Both,
-    states: Vec<Vec<u8>>,
+pub struct Stated {
+    pub both: Both,
+    pub states: Vec<Vec<u8>>,
+}
+
+/// One of 128 positions and 64 strands.
+pub fn largest() -> Stated {
+    real(&mut Random::new(6), 128, 64)
 }
 
 /// A design with real energies, and states that are occupied wherever there is a friend.
@@ -64,7 +69,7 @@ fn real(random: &mut Random, positions: usize, strands: usize) -> Stated {
     Stated { both, states }
 }
 
-fn tiles(state: &[u8]) -> Vec<u32> {
+pub fn tiles(state: &[u8]) -> Vec<u32> {
     state.iter().map(|strand| u32::from(*strand)).collect()
 }
 

@@ -7,6 +7,7 @@ mod designs;
 mod measure;
 mod searches;
 mod sequences;
+mod tables;
 
 use measure::{measure, Measured, Row};
 
@@ -16,6 +17,7 @@ fn main() {
         builds::rows(),
         designs::rows(),
         searches::rows(),
+        tables::rows(),
     ];
     let rows: Vec<Row> = groups.into_iter().flatten().collect();
     let samples = measure::SAMPLES;

@@ -37,6 +37,15 @@ pub fn rows() -> Vec<Row> {
     rows
 }
 
+/// The designs whose search is timed over tables too, each with its label.
+pub fn beside() -> Vec<(String, Rc<Both>)> {
+    let one = |(positions, strands, friends)| {
+        let label = format!("search, {positions} x {friends} of {strands}");
+        (label, Rc::new(settling(positions, strands, friends)))
+    };
+    DESIGNS.into_iter().map(one).collect()
+}
+
 /// What the rows do not show: times for a position, and how much of the smallest is the check.
 pub fn remarks() -> Vec<String> {
     let mut remarks = vec!["port, search of 61 friends, ns for a position:".to_string()];
@@ -142,7 +151,7 @@ fn row(label: String, both: &Rc<Both>, cleared: &'static str) -> Row {
     }
 }
 
-fn search_of_port(both: &Rc<Both>) -> Box<dyn FnMut()> {
+pub fn search_of_port(both: &Rc<Both>) -> Box<dyn FnMut()> {
     let both = both.clone();
     let mut configuration = vec![0; both.lent.positions()];
     Box::new(move || {

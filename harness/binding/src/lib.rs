@@ -13,6 +13,7 @@ mod names;
 mod params;
 mod sequences;
 mod short;
+mod tables;
 mod temperature;
 
 pub use deck::{deck_move, deck_read, deck_write};
@@ -26,6 +27,7 @@ pub use sequences::{
     published_reply, sequence, sequence_dg, sequence_ds, sequence_reply, sequence_strength,
 };
 pub use short::short_sequence;
+pub use tables::{bond_tables, search_over, state_energy_over, state_over, states_over, Bonds};
 pub use temperature::ambient;
 
 /// The place that is written where there is none.

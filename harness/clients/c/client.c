@@ -377,6 +377,46 @@ static void unfit_ambients(void)
     potentials[2] = -1.0;
 }
 
+/* Tables of bonds beside the design: filled, and then lent with other cells. */
+static void bond_tables(void)
+{
+    static const uint8_t both[2] = {1, 2}, second[2] = {0, 2};
+    double pairs[9], sites[6], energy = unwritten;
+    uint8_t state[2] = {9, 9};
+    uint64_t place = unread, n = unread;
+    for (size_t i = 0; i < 9; i++)
+        pairs[i] = unwritten;
+    for (size_t i = 0; i < 6; i++)
+        sites[i] = unwritten;
+    reply("a short table", mj_bond_tables(DESIGN, pairs, 9, sites, 5, &place), 1);
+    count("both kept", pairs[0] == unwritten && sites[0] == unwritten);
+    reply("both tables", mj_bond_tables(DESIGN, pairs, 9, sites, 6, &place), 0);
+    count("its place", place == MJ_NOWHERE);
+    figure("a strand bond", pairs[8], 0.0);
+    figure("a scaffold bond", sites[5], -4.0);
+#define TABLES pairs, 9, sites, 6
+    reply("a search over them", mj_search_over(DESIGN, TABLES, state, 2, &place, &energy), 0);
+    count("its configuration", state[0] == 0 && state[1] == 2);
+    figure("its energy", energy, -1.5);
+    reply("an energy", mj_state_energy_over(DESIGN, TABLES, both, 2, &place, &energy), 0);
+    figure("it", energy, -1.5);
+    reply("states", mj_states_over(DESIGN, TABLES, &place, &n), 0);
+    count("their count", n == 4);
+    reply("rank 3", mj_state_over(DESIGN, TABLES, 3, state, 2, &place), 0);
+    count("nobody", state[0] == 0 && state[1] == 0);
+    pairs[2] = -3.0;
+    reply("a bond with nobody", mj_search_over(DESIGN, TABLES, state, 2, &place, &energy), 0);
+    count("its configuration", state[0] == 0 && state[1] == 2);
+    figure("its energy", energy, -3.0);
+    reply("its state energy", mj_state_energy_over(DESIGN, TABLES, second, 2, &place, &energy), 0);
+    figure("it", energy, -1.5);
+    pairs[0] = 80001.0;
+    reply("a bond out of range", mj_states_over(DESIGN, TABLES, &place, &n), 9);
+    count("no place", place == MJ_NOWHERE);
+    count("no count", n == 0);
+#undef TABLES
+}
+
 /* The last position blocked, and then the first. */
 static void blocked_positions(void)
 {
@@ -473,6 +513,7 @@ int main(void)
     decks_with_runs();
     designs();
     unfit_ambients();
+    bond_tables();
     blocked_positions();
     names();
     params();

@@ -131,7 +131,7 @@ impl Lent {
         Ok(())
     }
 
-    fn design(&self) -> mj::Design<'_> {
+    pub fn design(&self) -> mj::Design<'_> {
         mj::Design {
             scaffold: &self.scaffold,
             marks: &self.marks,
@@ -308,6 +308,6 @@ fn put<T>(slice: &mut [T], index: usize, value: T) -> Result<(), Complaint> {
     Ok(())
 }
 
-fn configuration(word: &str) -> Result<Vec<u8>, Complaint> {
+pub fn configuration(word: &str) -> Result<Vec<u8>, Complaint> {
     list(word, whole)
 }

@@ -8,21 +8,27 @@ mod params;
 mod sequences;
 mod short;
 mod slices;
+mod tables;
 mod temperature;
 
 use design::Lent;
 use mujplesten as mj;
 use protocol::{serve, Complaint, Reply, Words};
+use tables::Tables;
 
 fn main() -> std::io::Result<()> {
-    let mut lent = Lent::default();
-    serve(|words| answer(&mut lent, words).unwrap_or_else(|complaint| Some(Reply::Err(complaint))))
+    let (mut lent, mut tables) = (Lent::default(), Tables::default());
+    serve(|words| {
+        let answered = answer(&mut lent, &mut tables, words);
+        answered.unwrap_or_else(|complaint| Some(Reply::Err(complaint)))
+    })
 }
 
 /// `None` after a setter. What is neither about sequences, temperatures, decks, names nor parameters
-/// is about the design that lines have set so far.
-fn answer(lent: &mut Lent, words: Words) -> Result<Option<Reply>, Complaint> {
+/// is about the design that lines have set so far, and the tables beside it.
+fn answer(lent: &mut Lent, tables: &mut Tables, words: Words) -> Result<Option<Reply>, Complaint> {
     match words[0] {
+        word if word.starts_with("t.") => tables.answer(lent, words),
         "seq" | "published" | "pair" | "loop" | "strengthx" => sequences::answer(words).map(Some),
         "short" => short::answer(words).map(Some),
         "ambient" => temperature::answer(words).map(Some),

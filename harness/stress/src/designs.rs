@@ -78,7 +78,10 @@ impl Designs {
             positions: wanted[0],
             strands: wanted[4],
         };
-        asked.call(random, tally);
+        match random.once_in(3) {
+            true => asked.call_over(random, tally),
+            false => asked.call(random, tally),
+        }
     }
 }
 
@@ -98,28 +101,28 @@ fn spoil(random: &mut Random, one: &mut Lent) {
     }
 }
 
+fn out(x: f64, low: f64, high: f64) -> bool {
+    !(low..=high).contains(&x)
+}
+
 /// The place of the first that is at fault.
 fn first(mut faults: impl Iterator<Item = bool>) -> Option<u64> {
     faults.position(|fault| fault).map(|place| place as u64)
 }
 
-struct Asked<'a> {
-    design: mj::Design<'a>,
-    positions: usize,
-    strands: usize,
+pub struct Asked<'a> {
+    pub design: mj::Design<'a>,
+    pub positions: usize,
+    pub strands: usize,
 }
 
 impl Asked<'_> {
     /// The place of a number that has one is the first that is out: a cell, a number of the ambient.
     /// Of the potentials it is one that is out, and not strand 0's.
-    fn is_placed(&self, place: &Figure<u64>, number: u32) -> bool {
+    pub fn is_placed(&self, place: &Figure<u64>, number: u32) -> bool {
         let (design, told) = (self.design, place.told());
-        let out = |x: f64, low: f64, high: f64| !(low..=high).contains(&x);
         let fits = match number {
-            9 => {
-                let dg = design.dg.iter().map(|x| out(*x, -1024.0, 1024.0));
-                first(dg.chain(design.ds.iter().map(|x| out(*x, -8.0, 8.0)))) == Some(told)
-            }
+            9 => self.bad_cell() == Some(told),
             16 => {
                 let excesses = [design.strand_excess, design.scaffold_excess];
                 let excesses = excesses.map(|x| out(x, -1024.0, 1024.0));
@@ -132,6 +135,12 @@ impl Asked<'_> {
             _ => told == mj::NOWHERE,
         };
         place.is_place(number) && fits
+    }
+
+    /// The lowest cell that is out.
+    pub fn bad_cell(&self) -> Option<u64> {
+        let dg = self.design.dg.iter().map(|x| out(*x, -1024.0, 1024.0));
+        first(dg.chain(self.design.ds.iter().map(|x| out(*x, -8.0, 8.0))))
     }
 
     fn call(&self, random: &mut Random, tally: &mut Tally) {

@@ -7,6 +7,7 @@ mod designs;
 mod guarded;
 mod names;
 mod numbers;
+mod tables;
 
 use compare::random::Random;
 use std::collections::BTreeMap;

@@ -2,6 +2,7 @@
 
 mod designs;
 mod places;
+mod tables;
 
 use mujplesten as mj;
 use std::process::ExitCode;
@@ -58,6 +59,8 @@ fn main() -> ExitCode {
     designs::blocked(&mut checks);
     designs::stack(&mut checks);
     places::places(&mut checks);
+    tables::tables(&mut checks);
+    tables::stack(&mut checks);
     names(&mut checks);
     params(&mut checks);
     println!("client: {} passed, {} failed", checks.passed, checks.failed);

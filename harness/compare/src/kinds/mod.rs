@@ -13,6 +13,7 @@ pub mod raw;
 pub mod sequence;
 pub mod short;
 pub mod strength;
+pub mod tables;
 pub mod ties;
 
 use crate::question::Question;
@@ -83,6 +84,7 @@ pub fn all() -> Vec<Box<dyn Kind>> {
         Box::new(design::Designs::default()),
         Box::new(ties::Ties::default()),
         Box::new(blocked::Blocked::default()),
+        Box::new(tables::BondTables::default()),
         Box::new(raw::RawDesigns),
     ]
 }

@@ -1,9 +1,10 @@
 -- The test of the sizes meets its contract: its tests are those of the definition, in their order. Assumes nothing.
+use mathlib.Core.Path.{_≡_, sym, _∙_}
+use mathlib.Core.Bool.{true, false}
 use borrow.Author.Needs.{needs}
 use borrow.Author.Tests.{lt-ltb, le-ltb, eq-eqb, ne-eqb}
 use lib.Dec.{ltb}
-use Rattle.lists.proofs.Find.{first-any}
-use Rattle.lists.proofs.Any.{found, not-found}
+use Rattle.lists.specs.Find.{any}
 use Rattle.design.specs.Checks.{highGlue, wrongSizes}
 use Rattle.design.proofs.checks.wrong_sizes.Statement.{statement}
 use Rattle.design.proofs.checks.wrong_sizes.Tie as tie
@@ -39,23 +40,24 @@ returns-7 c = simp (le-ltb _ _ (c .before .before .before .before .before .befor
 returns-8 : tie.Need-returns-8
 unfolding wrongSizes
 returns-8 c =
-    let high = found (ltb 1) (c .before .before .before .before .before .before .before .before .before .before .before .before .before .before .before .args .marks .now) (c .before .first-above .ensures) (c .if8 .taken) in
+    let high : any (ltb 1) (c .before .before .before .before .before .before .before .before .before .before .before .before .before .before .before .args .marks .now) ≡ true = sym (c .before .some-above .ensures) ∙ c .if8 .taken in
     simp (le-ltb _ _ (c .before .before .before .before .before .before .before .before .if1 .left), le-ltb _ _ (c .before .before .before .before .before .before .before .if2 .left), le-ltb _ _ (c .before .before .before .before .before .before .if3 .left), eq-eqb _ _ (c .before .before .before .before .before .if4 .left), eq-eqb _ _ (c .before .before .before .before .if5 .left), eq-eqb _ _ (c .before .before .before .if6 .left), eq-eqb _ _ (c .before .before .if7 .left), high)
 
 returns-9 : tie.Need-returns-9
 unfolding wrongSizes
 returns-9 c =
-    let marks = not-found (ltb 1) (c .before .before .before .before .before .before .before .before .before .before .before .before .before .before .before .before .before .args .marks .now) (c .before .before .before .first-above .ensures) (c .before .before .if8 .left) in
-    let high = found highGlue (c .before .before .before .before .before .before .before .before .before .before .before .before .before .before .before .before .before .args .scaffold .now) (c .before .first-above2 .ensures) (c .if9 .taken) in
+    let a = c .before .before .before .before .before .before .before .before .before .before .before .before .before .before .before .before .before .args in
+    let marks : any (ltb 1) (a .marks .now) ≡ false = sym (c .before .before .before .some-above .ensures) ∙ c .before .before .if8 .left in
+    let high : any highGlue (a .scaffold .now) ≡ true = sym (c .before .some-above2 .ensures) ∙ c .if9 .taken in
     simp (le-ltb _ _ (c .before .before .before .before .before .before .before .before .before .before .if1 .left), le-ltb _ _ (c .before .before .before .before .before .before .before .before .before .if2 .left), le-ltb _ _ (c .before .before .before .before .before .before .before .before .if3 .left), eq-eqb _ _ (c .before .before .before .before .before .before .before .if4 .left), eq-eqb _ _ (c .before .before .before .before .before .before .if5 .left), eq-eqb _ _ (c .before .before .before .before .before .if6 .left), eq-eqb _ _ (c .before .before .before .before .if7 .left), marks, high)
 
 returns-10 : tie.Need-returns-10
 unfolding wrongSizes
 returns-10 c =
     let a = c .before .before .before .before .before .before .before .before .before .before .before .before .before .before .before .before .before .before .args in
-    let marks = not-found (ltb 1) (a .marks .now) (c .before .before .before .before .first-above .ensures) (c .before .before .before .if8 .left) in
-    let low = not-found highGlue (a .scaffold .now) (c .before .before .first-above2 .ensures) (c .before .if9 .left) in
-    simp (le-ltb _ _ (c .before .before .before .before .before .before .before .before .before .before .before .if1 .left), le-ltb _ _ (c .before .before .before .before .before .before .before .before .before .before .if2 .left), le-ltb _ _ (c .before .before .before .before .before .before .before .before .before .if3 .left), eq-eqb _ _ (c .before .before .before .before .before .before .before .before .if4 .left), eq-eqb _ _ (c .before .before .before .before .before .before .before .if5 .left), eq-eqb _ _ (c .before .before .before .before .before .before .if6 .left), eq-eqb _ _ (c .before .before .before .before .before .if7 .left), marks, low, c .first-above3 .ensures, first-any highGlue (a .glues .now))
+    let marks : any (ltb 1) (a .marks .now) ≡ false = sym (c .before .before .before .before .some-above .ensures) ∙ c .before .before .before .if8 .left in
+    let low : any highGlue (a .scaffold .now) ≡ false = sym (c .before .before .some-above2 .ensures) ∙ c .before .if9 .left in
+    simp (le-ltb _ _ (c .before .before .before .before .before .before .before .before .before .before .before .if1 .left), le-ltb _ _ (c .before .before .before .before .before .before .before .before .before .before .if2 .left), le-ltb _ _ (c .before .before .before .before .before .before .before .before .before .if3 .left), eq-eqb _ _ (c .before .before .before .before .before .before .before .before .if4 .left), eq-eqb _ _ (c .before .before .before .before .before .before .before .if5 .left), eq-eqb _ _ (c .before .before .before .before .before .before .if6 .left), eq-eqb _ _ (c .before .before .before .before .before .if7 .left), marks, low, c .some-above3 .ensures)
 
 pub wrong-sizes-spec : {M : Type 1} → statement M
 wrong-sizes-spec =

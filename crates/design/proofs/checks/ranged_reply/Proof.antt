@@ -9,8 +9,8 @@ use Rattle.reply.proofs.First.{joined}
 use Rattle.design.specs.Design.{Design, design}
 use Rattle.design.specs.Checks.{wrongSizes, cellsOut, badCell, nullBinds}
 use Rattle.design.proofs.Sizes.{tables-sized}
-use Rattle.design.proofs.checks.tables_reply.Statement.{statement}
-use Rattle.design.proofs.checks.tables_reply.Tie as tie
+use Rattle.design.proofs.checks.ranged_reply.Statement.{statement}
+use Rattle.design.proofs.checks.ranged_reply.Tie as tie
 
 returns : tie.Need-returns
 returns c = simp (c .if1 .taken)
@@ -25,22 +25,26 @@ cells-reply-requires c κs =
 
 returns-3 : tie.Need-returns-3
 returns-3 c =
-    let a = c .before .before .before .before .before .before .before .before .before .before .before .before .before .args in
+    let a = c .before .before .before .before .before .before .before .before .before .before .before .before .before .before .before .args in
     let dg = a .dg .now in
     let ds = a .ds .now in
-    let null = c .before .refused-if .ensures ∙ ap (λ (b : Bool). firstOf (NullBinds if b ∷ [])) (c .before .before .null-binds .ensures) in
-    let sizes : (a .own-size || wrongSizes (a .scaffold .now) (a .marks .now) (a .glues .now) dg ds (a .potentials .now)) ≡ false = simp (c .before .before .before .before .before .before .if1 .left, ← c .before .before .before .before .before .wrong-sizes .ensures, c .before .before .before .before .if2 .left) in
-    rw sizes (c .or .ensures ∙ ap₂ _orElse_ (c .before .before .before .cells-reply .ensures) null
-    ∙ joined (OutOfRange if cellsOut dg ds at badCell dg ds ∷ []) (NullBinds if nullBinds (a .glues .now) dg ds ∷ []))
+    let cells = OutOfRange if cellsOut dg ds at badCell dg ds in
+    let own = OutOfRange if a .own-range in
+    let range = c .before .before .before .or .ensures ∙ ap₂ _orElse_ (c .before .before .before .before .before .cells-reply .ensures) (c .before .before .before .before .refused-if .ensures) ∙ joined (cells ∷ []) (own ∷ []) in
+    let null = c .before .refused-if2 .ensures ∙ ap (λ (b : Bool). firstOf (NullBinds if b ∷ [])) (c .before .before .null-binds .ensures) in
+    let sizes : (a .own-size || wrongSizes (a .scaffold .now) (a .marks .now) (a .glues .now) dg ds (a .potentials .now)) ≡ false = simp (c .before .before .before .before .before .before .before .before .if1 .left, ← c .before .before .before .before .before .before .before .wrong-sizes .ensures, c .before .before .before .before .before .before .if2 .left) in
+    rw sizes (c .or2 .ensures ∙ ap₂ _orElse_ range null ∙ joined (cells ∷ own ∷ []) (NullBinds if nullBinds (a .glues .now) dg ds ∷ []))
 
-pub tables-reply-spec : {M : Type 1} → statement M
-tables-reply-spec =
+pub ranged-reply-spec : {M : Type 1} → statement M
+ranged-reply-spec =
     tie.close
     (tie.spec
     returns
     (λ c κs. search needs)
     returns-2
     cells-reply-requires
+    (λ c κs. search needs)
+    (λ c κs. search needs)
     (λ c κs. search needs)
     (λ c κs. search needs)
     (λ c κs. search needs)

@@ -1,0 +1,4 @@
+pub mod Tables
+pub mod Answers
+pub mod Filled
+pub mod Cases
