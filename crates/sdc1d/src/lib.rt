@@ -248,7 +248,7 @@ pub fn state_at_rank(
 }
 
 // What is refused of a configuration whose energy is asked for.
-fn energy_reply(
+pub fn energy_reply(
     scaffold: &[u8],
     marks: &[u8],
     glues: &[u8],
