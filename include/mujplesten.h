@@ -19,7 +19,7 @@
  *   - Doubles are rounded to nearest, and subnormals are kept: the mode in which a program starts.
  *     Not so after fesetround, in code that sets flush-to-zero or denormals-are-zero, or in a program
  *     that is linked with -ffast-math.
- *   - A call has 256 KiB of stack left on its thread: the search takes about 140, mj_params 32, every
+ *   - A call has 256 KiB of stack left on its thread: a search takes about 140, mj_params 32, every
  *     other less than 16.
  *
  * Sequences. Letters are a, c, g, t in either case; no NUL ends a sequence. Of two sequences the

@@ -89,7 +89,7 @@ pub fn ring_configuration(
     ensures { λ r. ⌜ LowestRingShown (lent (scaffold .entry) (marks .entry) (glues .entry) (dg .entry) (ds .entry) (potentials .entry) ambient) (now (configuration .entry)) (now (configuration .exit)) r ⌝ }
 {
     let own_size = configuration.len() != scaffold.len();
-    let chain = design_reply(
+    let fit = design_reply(
         own_size,
         scaffold,
         marks,
@@ -100,7 +100,7 @@ pub fn ring_configuration(
         ambient,
     );
     let short = refused_if(Refusal::NotARing, scaffold.len() < LEAST_RING);
-    match chain.or(short) {
+    match fit.or(short) {
         Reply::Refused(refusal, place) => EnergyAnswer::Refused(refusal, place),
         Reply::Admitted => {
             let energy = searched(

@@ -235,6 +235,10 @@ impl Asked<'_> {
         let (mut place, mut energy) = (Figure::whole(), Figure::double());
         let number = mj::ring_search(self.design, entries.lent(), place.lent(), energy.lent());
         let written = entries.is_fit(number) && energy.is_fit(number);
-        tally.call("ring_search", number, self.is_placed(&place, number) && written);
+        tally.call(
+            "ring_search",
+            number,
+            self.is_placed(&place, number) && written,
+        );
     }
 }

@@ -35,8 +35,14 @@ const SHORT: usize = 25;
 const FAULTY: usize = 25;
 
 const WRONG: [(&str, RingReading); 3] = [
-    ("where empty first would end elsewhere", RingReading::EmptyFirst),
-    ("where closing afterwards would", RingReading::ClosedAfterwards),
+    (
+        "where empty first would end elsewhere",
+        RingReading::EmptyFirst,
+    ),
+    (
+        "where closing afterwards would",
+        RingReading::ClosedAfterwards,
+    ),
     ("where sums compared would", RingReading::SumsCompared),
 ];
 
@@ -141,13 +147,19 @@ impl Rings {
     fn count(&self, lent: &Lent, energy: f64, configuration: &[u8]) {
         let add = |count: &Cell<u64>, one: bool| count.set(count.get() + u64::from(one));
         add(&self.rings, true);
-        add(&self.moved, lent.search(Reading::Document).1 != configuration);
+        add(
+            &self.moved,
+            lent.search(Reading::Document).1 != configuration,
+        );
         if lent.positions() > 24 {
             return;
         }
         for (count, (_, wrong)) in self.parted.iter().zip(WRONG) {
             let (other, place) = lent.ring_search(wrong);
-            add(count, (other.to_bits(), &place[..]) != (energy.to_bits(), configuration));
+            add(
+                count,
+                (other.to_bits(), &place[..]) != (energy.to_bits(), configuration),
+            );
         }
     }
 }
