@@ -21,6 +21,8 @@
  *     that is linked with -ffast-math.
  *   - A call has 256 KiB of stack left on its thread: the search takes about 140, that over tables less
  *     than 64, mj_params 32, every other less than 16.
+ *   - A call has 256 KiB of stack left on its thread: a search takes about 140, mj_params 32, every
+ *     other less than 16.
  *
  * Sequences. Letters are a, c, g, t in either case; no NUL ends a sequence. Of two sequences the
  * second is read by index beside the first, not backwards: "aac" pairs with "ttg" without a mismatch.
@@ -49,6 +51,7 @@
  *   14 deck     a stored configuration that breaks the word rules
  *   16 ambient  RT or an excess temperature of a design not finite or outside its range
  *   17 potential  the potential of a strand that is a friend somewhere not finite or outside its range
+ *   20 ring     a scaffold of fewer than 3 positions that is to be a ring
  *
  * If several apply, the lowest is given. Four of them say where the fault lies:
  *
@@ -270,6 +273,20 @@ uint32_t mj_search_over(MJ_DESIGN, MJ_TABLES, uint8_t *configuration, size_t len
                         uint64_t *place, double *energy);
 
 #undef MJ_TABLES
+/* Rings: a scaffold of 3 positions or more whose last position stands beside its first. The ring
+ * energy of a configuration is its chain energy plus, where first and last place are both occupied,
+ * the strand bond from the last to the first, times RT, in kcal/mol. Replies 1, 9, 10, 11, 16, 17,
+ * 20. */
+uint32_t mj_ring_energy(MJ_DESIGN, const uint8_t *configuration, size_t n, uint64_t *place,
+                        double *energy);
+
+/* The search for rings: the configuration with the lowest ring energy, into one lent entry for each
+ * position, 0 for an empty place, and that energy in kcal/mol; on a refusal all entries are kept. Of
+ * several lowest it is one with the first of their occupants at position 0, empty last, and else the
+ * one that the chain's search would find. Replies 1, 9, 10, 16, 17, 20. */
+uint32_t mj_ring_search(MJ_DESIGN, uint8_t *configuration, size_t lent, uint64_t *place,
+                        double *energy);
+
 #undef MJ_DESIGN
 
 #ifdef __cplusplus

@@ -1,5 +1,5 @@
 -- What the fillers leave is what a search over the model of an admitted design reads. Assumes nothing.
-use mathlib.Core.Path.{_≡_, refl, sym, _∙_}
+use mathlib.Core.Path.{_≡_, refl, sym, subst, _∙_}
 use mathlib.Core.Logic.{_⊎_, inl, inr}
 use mathlib.Core.List.{List, [], _∷_, List·Memᴰ, List·Memᴰ·not-nil, List·Memᴰ·cases-cons}
 use Prim.Native.Nat.{ℕ, suc, _+_, _-_, _<_}
@@ -12,10 +12,11 @@ use Rattle.model.specs.Model as Model
 use Rattle.model.specs.Model.{Model, Friend, friendsAt}
 use Rattle.model.specs.Search.{optionsAt}
 use Rattle.ensemble.specs.Layout.{OptionRows, BondCells, optionIn}
+use Rattle.ensemble.specs.Ring.{ClosingCells}
 use Rattle.ensemble.proofs.Options.{count-is, option-is}
 use Rattle.design.specs.Design.{Design, positions, strands, strandBondIn, scaffoldBondIn, modelOf}
 use Rattle.design.specs.Checks.{Admitted, TablesPass}
-use Rattle.design.specs.Filling.{NullNowhere, PairsHeld, SitesHeld}
+use Rattle.design.specs.Filling.{NullNowhere, Holds, PairsHeld, ClosingHeld, SitesHeld}
 use Rattle.design.proofs.FriendLaws.{friends-right, friend-tested, null-not-bound}
 
 -- where a member stands
@@ -62,3 +63,16 @@ module _ (d : Design) (a : Admitted d) where
             rw (here .2) at (s i (here .0) (omega arith) (here .1));
         logs = λ i y h friend. getD-default (d .potentials) y nan zero (friend-tested d i y friend .1);
       }
+
+-- what closes a ring is the model's
+pub closing-cells : (d : Design) {rows counts : List ℕ} (strandBonds : List Float) → OptionRows (modelOf d) rows counts → ClosingHeld (strandBondIn d) (strands d) strandBonds rows counts → ClosingCells (modelOf d) (strands d) strandBonds
+unfolding modelOf
+closing-cells d {rows} {counts} strandBonds o held last x y e from to =
+    let number = o .positions in
+    let end : length counts - 1 ≡ last = omega arith in
+    let at-end : (j k : ℕ) → j < getD counts last 0 → k + 1 < getD counts 0 0 → Holds (strandBondIn d) (strands d) strandBonds (optionIn rows last j) (optionIn rows 0 k) =
+    subst (λ (i : ℕ). (j k : ℕ) → j < getD counts i 0 → k + 1 < getD counts 0 0 → Holds (strandBondIn d) (strands d) strandBonds (optionIn rows i j) (optionIn rows 0 k)) end held in
+    let left = friend-place o last (omega arith) from in
+    let right = friend-place o 0 (omega arith) to in
+    let low : left .0 < getD counts last 0 = omega (arith, left .1) in
+    rw (left .2, right .2) at (at-end (left .0) (right .0) low (right .1))

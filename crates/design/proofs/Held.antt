@@ -11,7 +11,7 @@ use borrow.Author.Count.{below-more}
 use Rattle.lists.specs.Grid.{Grid}
 use Rattle.lists.proofs.Grid.{row-end}
 use Rattle.ensemble.specs.Layout.{Searchable, optionIn}
-use Rattle.design.specs.Filling.{Among, Holds, Kept, HeldAt, PairsHeld, SitesHeld}
+use Rattle.design.specs.Filling.{Among, Holds, Kept, HeldAt, PairsHeld, ClosingHeld, SitesHeld}
 
 -- two cells at one place are one cell
 same-cell : (width : ℕ) {row column row' column' : ℕ} → column < width → column' < width → row * width + column ≡ row' * width + column' → (row ≡ row') × (column ≡ column')
@@ -76,6 +76,20 @@ module _ (bond : ℕ → ℕ → Float) {strands : ℕ} {rows counts : List ℕ}
       let here : i < length counts = omega arith in
       let next : i + 1 < length counts = omega arith in
       g .above (optionIn rows i j) (optionIn rows (i + 1) k) (w .known i j here l) (w .known (i + 1) k next (omega arith))
+
+  -- from the last position to the first
+  pub closing-held : (cells : List Float) → 0 < length counts → (n m : ℕ) → n ≡ getD counts (length counts - 1) 0 → m + 1 ≡ getD counts 0 0
+      → ((j : ℕ) → j < length (take n (drop (64 * (length counts - 1)) rows)) → HeldAt bond strands cells (getD (take n (drop (64 * (length counts - 1)) rows)) j 0) (take m (drop (64 * 0) rows)) (length (take m (drop (64 * 0) rows))))
+      → ClosingHeld bond strands cells rows counts
+  closing-held cells some n m e f held j k l q =
+      let last : length counts - 1 < length counts = omega arith in
+      let inside : j < n = omega arith in
+      let here = held j (rw (part-whole w (length counts - 1) last n (omega arith)) inside) k (rw (part-whole w 0 some m (omega arith)) (omega arith)) in
+      rw (option-part w (length counts - 1) last n (omega arith) j inside, option-part w 0 some m (omega arith) k (omega arith)) at here
+
+  -- the neighbours' bonds are held still
+  pub pairs-kept : (before after : List Float) → Kept bond strands before after → PairsHeld bond strands before rows counts (length counts - 1) → PairsHeld bond strands after rows counts (length counts - 1)
+  pairs-kept before after kept old i j k h l q = kept .still (optionIn rows i j) (optionIn rows (i + 1) k) (w .known (i + 1) k (omega arith) (omega arith)) (old i j k h l q)
 
   module _ {before after : List Float} (kept : Kept bond strands before after) (i : ℕ) where
     -- one position more

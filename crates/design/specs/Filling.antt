@@ -2,7 +2,7 @@
 use mathlib.Core.Path.{_≡_}
 use mathlib.Core.Bool.{false}
 use mathlib.Core.List.{List}
-use Prim.Native.Nat.{ℕ, _+_, _*_, _<_, _≤_}
+use Prim.Native.Nat.{ℕ, _+_, _*_, _-_, _<_, _≤_}
 use lib.ListN.{length, getD, take}
 use lib.Ieee.{Float, nan}
 use Rattle.units.specs.declared.Ambient.{Ambient}
@@ -49,6 +49,11 @@ HeldAt bond strands cells row columns n = (k : ℕ) → k < n → Holds bond str
 abbrev pub PairsHeld : (ℕ → ℕ → Float) → ℕ → List Float → List ℕ → List ℕ → ℕ → Type 0
 PairsHeld bond strands cells rows counts rights =
     (i j k : ℕ) → i < rights → j < getD counts i 0 → k + 1 < getD counts (i + 1) 0 → Holds bond strands cells (optionIn rows i j) (optionIn rows (i + 1) k)
+
+-- and where a ring closes: each option of the last position, with each friend of the first
+abbrev pub ClosingHeld : (ℕ → ℕ → Float) → ℕ → List Float → List ℕ → List ℕ → Type 0
+ClosingHeld bond strands cells rows counts =
+    (j k : ℕ) → j < getD counts (length counts - 1) 0 → k + 1 < getD counts 0 0 → Holds bond strands cells (optionIn rows (length counts - 1) j) (optionIn rows 0 k)
 
 -- and of each of the first `positions`: each friend there
 abbrev pub SitesHeld : (ℕ → ℕ → Float) → ℕ → List Float → List ℕ → List ℕ → ℕ → Type 0

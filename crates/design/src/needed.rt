@@ -10,7 +10,7 @@ ghost use Prim.Native.Nat.{ℕ, _+_, _*_, _-_, _<_, _≤_};
 ghost use lib.ListN.{length, getD};
 ghost use Rattle.ensemble.specs.Layout.{Searchable};
 ghost use Rattle.design.specs.Design.{strandBond};
-ghost use Rattle.design.specs.Filling.{Among, siteBond, Kept, HeldAt, PairsHeld, SitesHeld};
+ghost use Rattle.design.specs.Filling.{Among, siteBond, Kept, HeldAt, PairsHeld, ClosingHeld, SitesHeld};
 
 // A number as an index. As a function of its own it asks the proofs for no bound on the byte.
 fn wide(number: u8) -> usize
@@ -141,6 +141,39 @@ pub fn fill_read_strand_bonds(
     } else {
         fill_needed_strand_bonds(rows, counts, glues, dg, ds, ambient, strands, cells);
     }
+}
+
+// The strand bonds by which a ring over these options is closed: from the last position to the first. What was filled stays.
+pub fn fill_closing_bonds(
+    rows: &[u8],
+    counts: &[u8],
+    glues: &[u8],
+    dg: &[f64],
+    ds: &[f64],
+    ambient: Ambient,
+    strands: usize,
+    cells: &mut [f64],
+)
+    requires { ⌜ Searchable strands (now rows) (now counts) ⌝ }
+    requires { ⌜ 0 < length (now counts) ⌝ }
+    requires { ⌜ strands * strands ≤ length (now cells) ⌝ }
+    ensures { λ _. ⌜ Kept (strandBond (now (glues .entry)) (now (dg .entry)) (now (ds .entry)) ambient) strands (now (cells .entry)) (now (cells .exit)) ⌝ }
+    ensures { λ _. ⌜ ClosingHeld (strandBond (now (glues .entry)) (now (dg .entry)) (now (ds .entry)) ambient) strands (now (cells .exit)) (now (rows .entry)) (now (counts .entry)) ⌝ }
+{
+    let last = counts.len() - 1;
+    let left = 64 * last;
+    let left_end = left + wide(counts[last]);
+    let right_end = wide(counts[0]) - 1;
+    fill_neighbours(
+        &rows[left..left_end],
+        &rows[0..right_end],
+        glues,
+        dg,
+        ds,
+        ambient,
+        strands,
+        cells,
+    );
 }
 
 // The scaffold bonds of a position with each of its friends.

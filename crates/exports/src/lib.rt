@@ -7,6 +7,7 @@ mod figures;
 pub mod names;
 pub mod params;
 mod place;
+pub mod rings;
 pub mod search;
 pub mod short;
 pub mod stored;

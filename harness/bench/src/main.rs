@@ -5,6 +5,7 @@ mod both;
 mod builds;
 mod designs;
 mod measure;
+mod rings;
 mod searches;
 mod sequences;
 mod tables;
@@ -38,7 +39,8 @@ fn main() {
         let (ratio, medians) = (least.ratio(), median.ratio());
         println!("{label:44} {rust:9.1} {port:9.1} {ratio:7.2} {medians:7.2}");
     }
-    for remark in builds::remarks().into_iter().chain(searches::remarks()) {
+    let remarks = [builds::remarks(), searches::remarks(), rings::remarks()];
+    for remark in remarks.into_iter().flatten() {
         println!("{remark}");
     }
 }

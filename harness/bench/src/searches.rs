@@ -77,7 +77,7 @@ pub fn remarks() -> Vec<String> {
 
 /// As rgrow's own designs are: strands in groups that share a bottom glue, a scaffold that goes
 /// through the groups in turn, and side glues of which each binds each.
-fn settling(positions: usize, strands: usize, friends: usize) -> Both {
+pub fn settling(positions: usize, strands: usize, friends: usize) -> Both {
     let random = &mut Random::new(61);
     let groups = strands / friends;
     let sides = 62 - groups;

@@ -1,4 +1,4 @@
-//! Designs: bonds, friends, states, both energies and the search.
+//! Designs: bonds, friends, states, both energies and the search; and those of rings.
 
 /// A design as a call takes it: slices of any length and content, and the ambient.
 #[derive(Debug, Clone, Copy)]
@@ -86,6 +86,8 @@ functions_of_a_design! {
         energy: *mut f64
     );
     mj_search(configuration: *mut u8, lent: usize, place: *mut u64, energy: *mut f64);
+    mj_ring_energy(configuration: *const u8, n: usize, place: *mut u64, energy: *mut f64);
+    mj_ring_search(configuration: *mut u8, lent: usize, place: *mut u64, energy: *mut f64);
 }
 
 // SAFETY, for every call in this file: pointers and lengths are those of live slices and numbers;
@@ -149,4 +151,19 @@ pub fn chain_energy(
 pub fn search(design: Design, configuration: &mut [u8], place: &mut u64, energy: &mut f64) -> u32 {
     let (start, lent) = (configuration.as_mut_ptr(), configuration.len());
     unsafe { mj_search(design, start, lent, place, energy) }
+}
+
+pub fn ring_energy(design: Design, configuration: &[u8], place: &mut u64, energy: &mut f64) -> u32 {
+    let (start, n) = (configuration.as_ptr(), configuration.len());
+    unsafe { mj_ring_energy(design, start, n, place, energy) }
+}
+
+pub fn ring_search(
+    design: Design,
+    configuration: &mut [u8],
+    place: &mut u64,
+    energy: &mut f64,
+) -> u32 {
+    let (start, lent) = (configuration.as_mut_ptr(), configuration.len());
+    unsafe { mj_ring_search(design, start, lent, place, energy) }
 }

@@ -500,6 +500,48 @@ static void params(void)
     figure("the entropy", ds[4 * 64 + 3], (-0.0224 + 0.0057) + 0.0);
 }
 
+/* Three positions of glues 1, 2, 3 and one strand with these dGs there, and with one for its bond
+ * with itself; RT 0.5. */
+static void a_ring(double potential, const double of_positions[3], double pair,
+                   const uint8_t expected[3], double least)
+{
+    static const uint8_t positions[3] = { 1, 2, 3 }, open[3], strands[6] = { 0, 0, 0, 5, 4, 5 };
+    static double energies[64][64], none[64][64];
+    const double logs[2] = { NAN, potential };
+    uint8_t state[3] = { 9, 9, 9 };
+    uint64_t place = unread;
+    double energy = unwritten;
+    for (size_t i = 0; i < 3; i++)
+        energies[i + 1][4] = of_positions[i];
+    energies[5][5] = pair;
+#define RING(n) \
+    positions, n, open, n, strands, 6, energies[0], 4096, none[0], 4096, logs, 2, 0.5, 0.0, 0.0
+    reply("a ring", mj_ring_search(RING(3), state, 3, &place, &energy), 0);
+    count("its place", place == MJ_NOWHERE);
+    count("its configuration", memcmp(state, expected, 3) == 0);
+    figure("its energy", energy, least);
+    energy = unwritten;
+    reply("its ring energy", mj_ring_energy(RING(3), expected, 3, &place, &energy), 0);
+    figure("it", energy, least);
+    reply("a chain of two", mj_ring_search(RING(2), state, 2, &place, &energy), 20);
+    count("no place", place == MJ_NOWHERE);
+    figure("no energy", energy, 0.0);
+    count("entries kept", memcmp(state, expected, 3) == 0);
+    reply("two places", mj_ring_energy(RING(2), open, 2, &place, &energy), 20);
+    reply("a place less", mj_ring_energy(RING(3), open, 2, &place, &energy), 1);
+#undef RING
+}
+
+static void rings(void)
+{
+    static const double tied[3] = { -0.5, -1.0, -0.5 }, closing[3] = { 0.25, -0.25, -0.5 };
+    static const double apart[3] = { -1.0, -0.75, -0.5 };
+    static const uint8_t all[3] = { 1, 1, 1 }, one[3] = { 1, 0, 0 };
+    a_ring(-1.0, tied, 0.0, all, -0.5);
+    a_ring(0.0, closing, -0.25, all, -1.25);
+    a_ring(-1.0, apart, 0.5, one, -0.5);
+}
+
 int main(void)
 {
     memset(many, 'g', sizeof many);
@@ -515,6 +557,7 @@ int main(void)
     unfit_ambients();
     bond_tables();
     blocked_positions();
+    rings();
     names();
     params();
     printf("client: %u passed, %u failed\n", passed, failed);

@@ -15,6 +15,9 @@ const FRIENDS: usize = 64;
 /// A table is this many rows of this many cells.
 const GLUES: usize = 64;
 
+/// The search, or that for rings.
+type Search = fn(mj::Design, &mut [u8], &mut u64, &mut f64) -> u32;
+
 #[derive(Default)]
 pub struct Lent {
     scaffold: Vec<u8>,
@@ -148,7 +151,7 @@ impl Lent {
     fn question(&self, words: Words) -> Result<Reply, Complaint> {
         let counts: &[usize] = match words[0] {
             "sbond" | "cbond" | "raw.friends" | "raw.state" => &[2],
-            "gsys" | "chain" | "raw.chain" | "raw.mfe" | "state" => &[1],
+            "gsys" | "chain" | "raw.chain" | "raw.mfe" | "state" | "ring" | "ring.mfe" => &[1],
             _ => &[0],
         };
         expect_words(words, counts)?;
@@ -170,7 +173,10 @@ impl Lent {
             "raw.chain" => Ok(self.chain(&configuration(words[1])?, true)),
             "mfe" => Ok(self.search(positions)),
             "raw.mfe" => Ok(self.search(whole(words[1])?)),
-            "mfe.level" => Ok(self.level()),
+            "mfe.level" => Ok(level(self.searched(positions))),
+            "ring" => Ok(self.ring_energy(&configuration(words[1])?)),
+            "ring.mfe" => Ok(self.ring_searched(whole(words[1])?).0),
+            "ring.level" => Ok(level(self.ring_searched(positions))),
             other => Err(format!("no such line {other}")),
         }
     }
@@ -232,12 +238,26 @@ impl Lent {
         }
     }
 
-    /// What the search answers, the entries that it was lent, and its energy.
+    fn ring_energy(&self, configuration: &[u8]) -> Reply {
+        let (mut place, mut energy) = (WHOLE, DOUBLE);
+        let number = mj::ring_energy(self.design(), configuration, &mut place, &mut energy);
+        placed(number, place, &[energy])
+    }
+
     fn searched(&self, lent: usize) -> (Reply, f64) {
+        self.found_by(mj::search, lent)
+    }
+
+    fn ring_searched(&self, lent: usize) -> (Reply, f64) {
+        self.found_by(mj::ring_search, lent)
+    }
+
+    /// What a search answers, the entries that it was lent, and its energy.
+    fn found_by(&self, search: Search, lent: usize) -> (Reply, f64) {
         let mut entries = Filled::bytes(lent);
         let (mut place, mut energy) = (WHOLE, DOUBLE);
         let slice = &mut entries.slice;
-        let number = mj::search(self.design(), slice, &mut place, &mut energy);
+        let number = search(self.design(), slice, &mut place, &mut energy);
         let bits = energy.to_bits();
         let told = format!("{bits:016x} {}", joined(&*slice, ","));
         let none = bits == 0 && entries.is_kept();
@@ -247,14 +267,6 @@ impl Lent {
     /// Energy and configuration, as the oracle gives them.
     fn search(&self, lent: usize) -> Reply {
         self.searched(lent).0
-    }
-
-    /// The search's energy with 0.0 for either zero, since the walk's is compared as a double.
-    fn level(&self) -> Reply {
-        match self.searched(self.scaffold.len()) {
-            (Reply::Ok(_), energy) => reply(0, &[energy + 0.0]),
-            (other, _) => other,
-        }
     }
 
     /// One figure of every state, in the order of ranks.
@@ -279,6 +291,14 @@ impl Lent {
             }
         }
         Ok(Reply::Ok(joined(figures, separator)))
+    }
+}
+
+/// A search's energy with 0.0 for either zero, since the walk's is compared as a double.
+fn level(found: (Reply, f64)) -> Reply {
+    match found {
+        (Reply::Ok(_), energy) => reply(0, &[energy + 0.0]),
+        (other, _) => other,
     }
 }
 

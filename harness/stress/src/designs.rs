@@ -11,6 +11,9 @@ use mujplesten as mj;
 /// Designs to draw from. Each slice has one entry more than the design.
 const DESIGNS: usize = 200;
 
+/// More positions than a middling design has.
+const LONG: usize = 24;
+
 pub struct Designs(Vec<Lent>);
 
 /// The lengths of scaffold, glues, both tables, potentials and marks.
@@ -148,7 +151,7 @@ impl Asked<'_> {
         let (x, y) = (self.strand(random), self.strand(random));
         let position = near(random, self.positions.saturating_sub(1));
         let mut place = Figure::whole();
-        match random.below(8) {
+        match random.below(9) {
             0 => {
                 let mut bond = Figure::double();
                 let number = mj::strand_bond(design, x, y, place.lent(), bond.lent());
@@ -177,6 +180,7 @@ impl Asked<'_> {
                 tally.call("state", number, fit);
             }
             5 | 6 => self.energies(random, tally),
+            7 => self.ring(random, tally),
             _ => {
                 let mut entries = Guarded::new(near(random, self.positions), 0xa5);
                 let mut energy = Figure::double();
@@ -225,5 +229,25 @@ impl Asked<'_> {
         );
         let fit = self.is_placed(&place, number) && sum.is_fit(number) && energy.is_fit(number);
         tally.call("chain_energy", number, fit);
+        let (mut place, mut energy) = (Figure::whole(), Figure::double());
+        let number = mj::ring_energy(self.design, &configuration, place.lent(), energy.lent());
+        let fit = self.is_placed(&place, number) && energy.is_fit(number);
+        tally.call("ring_energy", number, fit);
+    }
+
+    /// Large ones now and then: their search is many of the chain's.
+    fn ring(&self, random: &mut Random, tally: &mut Tally) {
+        if self.positions > LONG && !random.once_in(20) {
+            return;
+        }
+        let mut entries = Guarded::new(near(random, self.positions), 0xa5);
+        let (mut place, mut energy) = (Figure::whole(), Figure::double());
+        let number = mj::ring_search(self.design, entries.lent(), place.lent(), energy.lent());
+        let written = entries.is_fit(number) && energy.is_fit(number);
+        tally.call(
+            "ring_search",
+            number,
+            self.is_placed(&place, number) && written,
+        );
     }
 }

@@ -189,13 +189,14 @@ pub fn stack(checks: &mut Checks) {
                 strand_excess: 0.0,
                 scaffold_excess: 0.0,
             };
-            let (mut entries, mut place, mut energy) = ([0; 128], WHOLE, DOUBLE);
-            (
-                mj::search(design, &mut entries, &mut place, &mut energy),
-                energy,
-            )
+            [mj::search, mj::ring_search].map(|search| {
+                let (mut entries, mut place, mut energy) = ([0; 128], WHOLE, DOUBLE);
+                let number = search(design, &mut entries, &mut place, &mut energy);
+                (number, energy)
+            })
         });
-    let (number, energy) = searched.expect("a thread").join().expect("an answer");
-    checks.reply("a search on 256 KiB", number, 0);
-    checks.figure("its energy", energy, -128.0);
+    for (number, energy) in searched.expect("a thread").join().expect("an answer") {
+        checks.reply("a search on 256 KiB", number, 0);
+        checks.figure("its energy", energy, -128.0);
+    }
 }

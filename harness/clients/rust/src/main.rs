@@ -3,6 +3,7 @@
 mod designs;
 mod places;
 mod tables;
+mod rings;
 
 use mujplesten as mj;
 use std::process::ExitCode;
@@ -61,6 +62,7 @@ fn main() -> ExitCode {
     places::places(&mut checks);
     tables::tables(&mut checks);
     tables::stack(&mut checks);
+    rings::rings(&mut checks);
     names(&mut checks);
     params(&mut checks);
     println!("client: {} passed, {} failed", checks.passed, checks.failed);

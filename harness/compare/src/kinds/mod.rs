@@ -10,6 +10,7 @@ pub mod pair;
 pub mod parameters;
 pub mod published;
 pub mod raw;
+pub mod ring;
 pub mod sequence;
 pub mod short;
 pub mod strength;
@@ -85,6 +86,7 @@ pub fn all() -> Vec<Box<dyn Kind>> {
         Box::new(ties::Ties::default()),
         Box::new(blocked::Blocked::default()),
         Box::new(tables::BondTables::default()),
+        Box::new(ring::Rings::default()),
         Box::new(raw::RawDesigns),
     ]
 }
