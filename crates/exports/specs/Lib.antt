@@ -4,4 +4,5 @@ pub mod Lent
 pub mod Lowest
 pub mod Place
 pub mod Stored
+pub mod Sums
 pub mod Told

@@ -13,7 +13,7 @@ use Rattle.lists.specs.Build.{tabulate}
 use Rattle.lists.proofs.Build.{length-tabulate, getD-tabulate}
 use Rattle.lists.proofs.Tests.{neither}
 use Rattle.reply.specs.First.{Check, firstOf, _if_, _orElse_}
-use Rattle.reply.specs.Figures.{Figures, refusedWith, figuresOf}
+use Rattle.reply.specs.Figures.{Figures, given, refusedWith, figuresOf}
 use Rattle.reply.specs.declared.Refusal.{Refusal}
 use Rattle.reply.specs.declared.Refusal.the-variants.{BareScaffold, WeightOut}
 use Rattle.reply.specs.declared.Place.{Place}
@@ -24,6 +24,7 @@ use Rattle.reply.proofs.First.{none-holds, reply-append}
 use Rattle.reply.proofs.Figures.{refused-by, number-admitted}
 use Rattle.fractions.specs.declared.Weight.{Weight}
 use Rattle.model.specs.Model as Model
+use Rattle.ensemble.specs.Layout.{OptionRows}
 use Rattle.design.specs.Design.{Design, positions, strands, blockedAt, scaffoldGlue, friendsTo, friendsIn, friendsOf, modelOf}
 use Rattle.design.specs.Checks.{Admitted, TablesPass, sizesOut, designChecks}
 use Rattle.design.proofs.Sizes.{sized}
@@ -39,6 +40,15 @@ use Rattle.partition.proofs.Sums.{sums-of-models}
 use Rattle.state_sums.specs.Sizes.{Lists, wrongCells, wrongLists}
 use Rattle.state_sums.specs.Answers.{ownSumChecks, freeChecks, constrainedChecks, constraintOf, freeAnswer, constrainedAnswer, FreeShown, ConstrainedShown}
 use Rattle.state_sums.proofs.Lent.{lists-listed}
+
+pub positive : (n : ℕ) → (n ≡ 0 → ⊥) → 0 < n
+positive zero f = absurd (f refl)
+positive (suc n) f = omega arith
+
+-- the options have a row for each position
+pub placed : (d : Design) {rows counts : List ℕ} → OptionRows (modelOf d) rows counts → length counts ≡ positions d
+unfolding modelOf
+placed d o = o .positions ∙ length-tabulate (positions d) (friendsOf d)
 
 -- ---- the reply
 
@@ -83,6 +93,13 @@ module _ (d : Design) (w : Weights) (size : Bool) (figure : Weight) {a : Bool} {
       weighed : {b : Bool} → b ≡ false → firstOf (BareScaffold if b ∷ WeightOut if weightsOut (modelOf d .friends) w ∷ []) ≡ firstOf (WeightOut if weightsOut (modelOf d .friends) w ∷ [])
       weighed h = rw h refl
 
+module _ (d : Design) (w : Weights) (figure : Weight) where
+  pub weighed-refused : weightsOut (modelOf d .friends) w ≡ true → refusedWith zeroWeight WeightOut Nowhere ≡ figuresOf (firstOf (WeightOut if weightsOut (modelOf d .friends) w ∷ [])) zeroWeight figure
+  weighed-refused e = rw e refl
+
+  pub weighed-given : {sum : Weight} → weightsOut (modelOf d .friends) w ≡ false → sum ≡ figure → given sum ≡ figuresOf (firstOf (WeightOut if weightsOut (modelOf d .friends) w ∷ [])) zeroWeight figure
+  weighed-given e f = rw e (ap given f)
+
 -- ---- the figure
 
 getD-past : (n : ℕ) (f : ℕ → List ℕ) (i : ℕ) → n ≤ i → getD (tabulate n f) i [] ≡ []
@@ -116,30 +133,34 @@ unfolding modelOf
 model-positions d = length-tabulate (positions d) (friendsOf d)
 
 -- of a call that no check refuses, the figures of the pass are document 02's sums
-sums-right : (d : Design) (w : Weights) {size : Bool} → firstOf (designChecks size d [] (ownSumChecks d w)) ≡ Reply.Admitted → Sums (modelOf d) w
-sums-right d w {size} e =
+sums-right : (d : Design) (w : Weights) (size : Bool) → firstOf (designChecks size d [] (ownSumChecks d w)) ≡ Reply.Admitted → Sums (modelOf d) w
+sums-right d w size e =
     let p = passed size d [] (ownSumChecks d w) e in
     let own = none-holds (ownSumChecks d w) (p .last) in
     let n = model-positions d in
     let some : 0 < positions d = positive (positions d) (eqb-false (positions d) 0 (own .0)) in
     sums-of-models (modelOf d) w (rw n some) (rw n (sized d (p .design .sizes) .short)) (few-friends d (tables-of d (p .design))) (own .1 .0)
-  where
-    positive : (n : ℕ) → (n ≡ 0 → ⊥) → 0 < n
-    positive zero f = absurd (f refl)
-    positive (suc n) f = omega arith
 
 pub free-shown : (d : Design) (w : Weights) → FreeShown d w (freeAnswer d w)
-free-shown d w zero =
-    let e = number-admitted (firstOf (freeChecks d w)) zeroWeight (freeFigure (modelOf d) w) zero in
-    rw e (sums-right d w e .free)
+free-shown d w number =
+    let e = number-admitted (firstOf (freeChecks d w)) zeroWeight (freeFigure (modelOf d) w) number in
+    rw e (sums-right d w (wrongCells (positions d) w) e .free)
 
 length-lists : (l : Lists) → length (constraintOf l) ≡ length (l .starts)
 unfolding listsOf
 length-lists l = length-tabulate (length (l .starts)) (listAt (l .numbers) (l .starts) (l .lengths))
 
 pub constrained-shown : (d : Design) (w : Weights) (l : Lists) → ConstrainedShown d w l (constrainedAnswer d w l)
-constrained-shown d w l zero =
-    let e = number-admitted (firstOf (constrainedChecks d w l)) zeroWeight (constrainedFigure (modelOf d) w (constraintOf l)) zero in
+constrained-shown d w l number =
+    let e = number-admitted (firstOf (constrainedChecks d w l)) zeroWeight (constrainedFigure (modelOf d) w (constraintOf l)) number in
     let p = passed (wrongCells (positions d) w || wrongLists (positions d) l) d [] (ownSumChecks d w) e in
     let listed = lists-listed (positions d) l (neither (wrongCells (positions d) w) (wrongLists (positions d) l) (p .size) .1) in
-    rw e (sums-right d w e .constrained (constraintOf l) (length-lists l ∙ listed .starting ∙ sym (model-positions d)))
+    rw e (sums-right d w (wrongCells (positions d) w || wrongLists (positions d) l) e .constrained (constraintOf l) (length-lists l ∙ listed .starting ∙ sym (model-positions d)))
+
+-- ---- both that a call ensures
+
+pub free-both : (d : Design) (w : Weights) {f : Figures Weight} → f ≡ freeAnswer d w → (f ≡ freeAnswer d w) × FreeShown d w f
+free-both d w e = (e, subst (FreeShown d w) (sym e) (free-shown d w))
+
+pub constrained-both : (d : Design) (w : Weights) (l : Lists) {f : Figures Weight} → f ≡ constrainedAnswer d w l → (f ≡ constrainedAnswer d w l) × ConstrainedShown d w l f
+constrained-both d w l e = (e, subst (ConstrainedShown d w l) (sym e) (constrained-shown d w l))

@@ -69,6 +69,8 @@ macro_rules! functions_of_a_design {
     };
 }
 
+pub(crate) use functions_of_a_design;
+
 functions_of_a_design! {
     mj_strand_bond(x: u8, y: u8, place: *mut u64, bond: *mut f64);
     mj_scaffold_bond(position: usize, strand: u8, place: *mut u64, bond: *mut f64);

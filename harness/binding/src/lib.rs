@@ -13,6 +13,7 @@ mod names;
 mod params;
 mod sequences;
 mod short;
+mod sums;
 mod temperature;
 
 pub use deck::{deck_move, deck_read, deck_write};
@@ -26,6 +27,7 @@ pub use sequences::{
     published_reply, sequence, sequence_dg, sequence_ds, sequence_reply, sequence_strength,
 };
 pub use short::short_sequence;
+pub use sums::{constrained_sum, free_sum, Lists, Weights};
 pub use temperature::ambient;
 
 /// The place that is written where there is none.

@@ -8,6 +8,7 @@ mod params;
 mod sequences;
 mod short;
 mod slices;
+mod sums;
 mod temperature;
 
 use design::Lent;
