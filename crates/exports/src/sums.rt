@@ -20,9 +20,10 @@ fn tell_sum(answer: SumAnswer, place: &mut u64, digits: &mut u32, power: &mut i3
 {
     match answer {
         SumAnswer::Sum(sum) => {
+            let exponent = sum.power;
             *place = place::NOWHERE;
             *digits = sum.digits;
-            *power = sum.power;
+            *power = exponent;
             Reply::Admitted.number()
         }
         SumAnswer::Refused(refusal, at) => {

@@ -1,7 +1,7 @@
 //! Calls that take a design.
 
 use crate::guarded::{Figure, Guarded};
-use crate::{near, Tally};
+use crate::{near, sums, Tally};
 use compare::designs::{blocks, marked, Ambient, Shape, SORTS};
 use compare::doubles::not_finite;
 use compare::judge::design::Lent;
@@ -103,16 +103,16 @@ fn first(mut faults: impl Iterator<Item = bool>) -> Option<u64> {
     faults.position(|fault| fault).map(|place| place as u64)
 }
 
-struct Asked<'a> {
-    design: mj::Design<'a>,
-    positions: usize,
-    strands: usize,
+pub struct Asked<'a> {
+    pub design: mj::Design<'a>,
+    pub positions: usize,
+    pub strands: usize,
 }
 
 impl Asked<'_> {
     /// The place of a number that has one is the first that is out: a cell, a number of the ambient.
     /// Of the potentials it is one that is out, and not strand 0's.
-    fn is_placed(&self, place: &Figure<u64>, number: u32) -> bool {
+    pub fn is_placed(&self, place: &Figure<u64>, number: u32) -> bool {
         let (design, told) = (self.design, place.told());
         let out = |x: f64, low: f64, high: f64| !(low..=high).contains(&x);
         let fits = match number {
@@ -139,7 +139,7 @@ impl Asked<'_> {
         let (x, y) = (self.strand(random), self.strand(random));
         let position = near(random, self.positions.saturating_sub(1));
         let mut place = Figure::whole();
-        match random.below(8) {
+        match random.below(9) {
             0 => {
                 let mut bond = Figure::double();
                 let number = mj::strand_bond(design, x, y, place.lent(), bond.lent());
@@ -168,6 +168,7 @@ impl Asked<'_> {
                 tally.call("state", number, fit);
             }
             5 | 6 => self.energies(random, tally),
+            7 => sums::call(self, random, tally),
             _ => {
                 let mut entries = Guarded::new(near(random, self.positions), 0xa5);
                 let mut energy = Figure::double();

@@ -2,6 +2,7 @@
 
 mod designs;
 mod places;
+mod sums;
 
 use mujplesten as mj;
 use std::process::ExitCode;
@@ -58,6 +59,7 @@ fn main() -> ExitCode {
     designs::blocked(&mut checks);
     designs::stack(&mut checks);
     places::places(&mut checks);
+    sums::sums(&mut checks);
     names(&mut checks);
     params(&mut checks);
     println!("client: {} passed, {} failed", checks.passed, checks.failed);

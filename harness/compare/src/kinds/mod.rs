@@ -13,6 +13,7 @@ pub mod raw;
 pub mod sequence;
 pub mod short;
 pub mod strength;
+pub mod sums;
 pub mod ties;
 
 use crate::question::Question;
@@ -84,5 +85,6 @@ pub fn all() -> Vec<Box<dyn Kind>> {
         Box::new(ties::Ties::default()),
         Box::new(blocked::Blocked::default()),
         Box::new(raw::RawDesigns),
+        Box::new(sums::Sums::default()),
     ]
 }
