@@ -7,6 +7,7 @@ mod designs;
 mod measure;
 mod searches;
 mod sequences;
+mod sums;
 
 use measure::{measure, Measured, Row};
 
@@ -36,7 +37,9 @@ fn main() {
         let (ratio, medians) = (least.ratio(), median.ratio());
         println!("{label:44} {rust:9.1} {port:9.1} {ratio:7.2} {medians:7.2}");
     }
-    for remark in builds::remarks().into_iter().chain(searches::remarks()) {
-        println!("{remark}");
+    for remarks in [builds::remarks(), searches::remarks(), sums::remarks()] {
+        for remark in remarks {
+            println!("{remark}");
+        }
     }
 }

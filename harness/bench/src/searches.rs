@@ -68,7 +68,7 @@ pub fn remarks() -> Vec<String> {
 
 /// As rgrow's own designs are: strands in groups that share a bottom glue, a scaffold that goes
 /// through the groups in turn, and side glues of which each binds each.
-fn settling(positions: usize, strands: usize, friends: usize) -> Both {
+pub fn settling(positions: usize, strands: usize, friends: usize) -> Both {
     let random = &mut Random::new(61);
     let groups = strands / friends;
     let sides = 62 - groups;
@@ -142,7 +142,7 @@ fn row(label: String, both: &Rc<Both>, cleared: &'static str) -> Row {
     }
 }
 
-fn search_of_port(both: &Rc<Both>) -> Box<dyn FnMut()> {
+pub fn search_of_port(both: &Rc<Both>) -> Box<dyn FnMut()> {
     let both = both.clone();
     let mut configuration = vec![0; both.lent.positions()];
     Box::new(move || {

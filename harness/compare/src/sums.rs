@@ -58,7 +58,8 @@ impl Seen {
     pub fn said(&self) -> Result<String, String> {
         let (sums, apart) = (self.sums.get(), self.apart.get());
         let most = (-f64::from(PARTS)).exp2();
-        let said = format!("{sums} sums at most {apart:e} of the exact ones apart; 2^-15 is {most:e}");
+        let said =
+            format!("{sums} sums at most {apart:e} of the exact ones apart; 2^-15 is {most:e}");
         match sums > 0 && apart < most {
             true => Ok(said),
             false => Err(said),

@@ -64,14 +64,7 @@ impl Weights {
                     lengths: &lengths,
                 };
                 let weights = self.lent();
-                mj::constrained_sum(
-                    design,
-                    weights,
-                    lists,
-                    &mut place,
-                    &mut digits,
-                    &mut power,
-                )
+                mj::constrained_sum(design, weights, lists, &mut place, &mut digits, &mut power)
             }
         };
         let none = digits == 0 && power == 0;

@@ -28,18 +28,17 @@ fn cells(random: &mut Random, wanted: usize, some_out: bool) -> (Vec<u32>, Vec<i
         true => (near(random, wanted), near(random, wanted)),
         false => (wanted, wanted),
     };
-    let mut wild = |random: &mut Random| some_out && random.once_in(1000);
-    let digits = (0..many).map(|_| {
-        let wild = wild(random);
-        digits(random, wild)
-    });
-    let digits: Vec<u32> = digits.collect();
-    let mut wild = |random: &mut Random| some_out && random.once_in(1000);
-    let powers = (0..powers).map(|_| {
-        let wild = wild(random);
-        power(random, wild)
-    });
-    (digits, powers.collect())
+    let mut drawn_digits = Vec::with_capacity(many);
+    for _ in 0..many {
+        let wild = some_out && random.once_in(1000);
+        drawn_digits.push(digits(random, wild));
+    }
+    let mut drawn_powers = Vec::with_capacity(powers);
+    for _ in 0..powers {
+        let wild = some_out && random.once_in(1000);
+        drawn_powers.push(power(random, wild));
+    }
+    (drawn_digits, drawn_powers)
 }
 
 /// Either sum.

@@ -60,7 +60,8 @@ impl Weights {
     fn out(&self, lent: &Lent) -> bool {
         let friends: Vec<Vec<u8>> = (0..lent.positions()).map(|i| lent.friends(i)).collect();
         let bad = |(digits, power)| unformed(digits, power);
-        let place = |(i, here): (usize, &Vec<u8>)| here.iter().any(|x| bad(self.place(lent, i, *x)));
+        let place =
+            |(i, here): (usize, &Vec<u8>)| here.iter().any(|x| bad(self.place(lent, i, *x)));
         let pair = |two: &[Vec<u8>]| {
             let of_left = |x: &u8| two[1].iter().any(|y| bad(self.pair(lent, *x, *y)));
             two[0].iter().any(of_left)
@@ -101,7 +102,9 @@ impl Lists {
     /// "1 if the lists are not one per position"; a list that leaves the numbers is none.
     fn wrong_sizes(&self, lent: &Lent) -> bool {
         let inside = |(start, length): (&usize, &usize)| {
-            start.checked_add(*length).is_some_and(|end| end <= self.numbers.len())
+            start
+                .checked_add(*length)
+                .is_some_and(|end| end <= self.numbers.len())
         };
         self.starts.len() != lent.positions()
             || self.lengths.len() != lent.positions()
@@ -118,8 +121,7 @@ impl Lists {
 
 /// Refusals of the free sum, and with lists of the constrained one.
 pub fn verdict(lent: &Lent, weights: &Weights, lists: Option<&Lists>) -> Verdict {
-    let own_size =
-        weights.wrong_sizes(lent) || lists.is_some_and(|lists| lists.wrong_sizes(lent));
+    let own_size = weights.wrong_sizes(lent) || lists.is_some_and(|lists| lists.wrong_sizes(lent));
     lent.verdict(own_size, || {
         vec![(18, lent.positions() == 0), (19, weights.out(lent))]
     })
@@ -139,7 +141,9 @@ fn listed(lent: &Lent, weights: &Weights, lists: Option<&Lists>) -> Exact {
         lists.is_none_or(|lists| places.all(|(position, x)| lists.allows(position, *x)))
     };
     let states = (0..lent.count() as u64).map(|rank| lent.state(rank));
-    let products = states.filter(|state| meets(state)).map(|state| weights.product(lent, &state));
+    let products = states
+        .filter(|state| meets(state))
+        .map(|state| weights.product(lent, &state));
     products.fold(Exact::default(), |sum, product| sum.plus(&product))
 }
 
@@ -158,14 +162,17 @@ fn passed(lent: &Lent, weights: &Weights, lists: Option<&Lists>) -> Exact {
         let before = |right: u8| match position {
             0 => Exact::one(),
             _ => {
-                let terms = row.iter().map(|(x, sum)| weights.times_pair(lent, sum, *x, right));
+                let terms = row
+                    .iter()
+                    .map(|(x, sum)| weights.times_pair(lent, sum, *x, right));
                 terms.fold(Exact::default(), |sum, term| sum.plus(&term))
             }
         };
         let of_option = |x: u8| (x, weights.times_place(lent, &before(x), position, x));
         row = options(position).into_iter().map(of_option).collect();
     }
-    row.iter().fold(Exact::default(), |sum, (_, term)| sum.plus(term))
+    row.iter()
+        .fold(Exact::default(), |sum, (_, term)| sum.plus(term))
 }
 
 #[cfg(test)]
@@ -194,7 +201,9 @@ mod tests {
 
     fn lists(of_each: &[&[u8]]) -> Lists {
         let lengths: Vec<usize> = of_each.iter().map(|list| list.len()).collect();
-        let starts = (0..lengths.len()).map(|i| lengths[..i].iter().sum()).collect();
+        let starts = (0..lengths.len())
+            .map(|i| lengths[..i].iter().sum())
+            .collect();
         Lists {
             numbers: of_each.concat(),
             starts,

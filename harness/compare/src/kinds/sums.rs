@@ -2,7 +2,9 @@
 //! which the Rust's own partition functions are not held against. The judge has the exact sums.
 
 use super::{Ask, Kind};
-use crate::designs::{ambient_line, blocks, lines_of_both, marked, marks_line, Ambient, Shape, SORTS};
+use crate::designs::{
+    ambient_line, blocks, lines_of_both, marked, marks_line, Ambient, Shape, SORTS,
+};
 use crate::judge::design::Lent;
 use crate::judge::sums::{self, Lists, Weights};
 use crate::judge::Verdict;
@@ -151,9 +153,8 @@ fn lists(random: &mut Random, lent: &Lent) -> Lists {
 }
 
 fn weights_lines(weights: &Weights) -> String {
-    let of = |digits: &[u32], powers: &[i32]| {
-        format!("{} {}", joined(digits, ","), joined(powers, ","))
-    };
+    let of =
+        |digits: &[u32], powers: &[i32]| format!("{} {}", joined(digits, ","), joined(powers, ","));
     let place = of(&weights.place_digits, &weights.place_powers);
     let pair = of(&weights.pair_digits, &weights.pair_powers);
     format!("w.place {place}\nw.pair {pair}\n")
@@ -161,7 +162,10 @@ fn weights_lines(weights: &Weights) -> String {
 
 fn lists_line(lists: &Lists) -> String {
     let [starts, lengths] = [&lists.starts, &lists.lengths].map(|list| joined(list, ","));
-    format!("sum.lists {} {starts} {lengths}", joined(&lists.numbers, ","))
+    format!(
+        "sum.lists {} {starts} {lengths}",
+        joined(&lists.numbers, ",")
+    )
 }
 
 fn design_lines(lent: &Lent, glues: usize) -> String {
