@@ -58,16 +58,7 @@ fn weighed_free(
     ensures { λ r. ⌜ sumFigures r ≡ weighedFree (lent (scaffold .entry) (marks .entry) (glues .entry) (dg .entry) (ds .entry) (potentials .entry) ambient) (lentWeights (length (now (potentials .entry))) («place_digits» .entry) («place_powers» .entry) («pair_digits» .entry) («pair_powers» .entry)) ⌝ }
 {
     let strands = potentials.len();
-    fill_options(
-        scaffold,
-        marks,
-        glues,
-        dg,
-        ds,
-        strands as u8,
-        rows,
-        counts,
-    );
+    fill_options(scaffold, marks, glues, dg, ds, strands as u8, rows, counts);
     if weights_out(
         rows,
         counts,
@@ -118,16 +109,7 @@ fn weighed_constrained(
     ensures { λ r. ⌜ sumFigures r ≡ weighedConstrained (lent (scaffold .entry) (marks .entry) (glues .entry) (dg .entry) (ds .entry) (potentials .entry) ambient) (lentWeights (length (now (potentials .entry))) («place_digits» .entry) («place_powers» .entry) («pair_digits» .entry) («pair_powers» .entry)) (lentLists (numbers .entry) (starts .entry) (lengths .entry)) ⌝ }
 {
     let strands = potentials.len();
-    fill_options(
-        scaffold,
-        marks,
-        glues,
-        dg,
-        ds,
-        strands as u8,
-        rows,
-        counts,
-    );
+    fill_options(scaffold, marks, glues, dg, ds, strands as u8, rows, counts);
     if weights_out(
         rows,
         counts,

@@ -16,7 +16,7 @@ use std::cell::Cell;
 use std::rc::Rc;
 
 /// Designs of each size in one round.
-const SMALL: usize = 2480;
+const SMALL: usize = 2780;
 const MIDDLING: usize = 60;
 const FULL: usize = 2;
 
@@ -323,11 +323,14 @@ impl Kind for Sums {
 
     fn random(&self, random: &mut Random, ask: &mut Ask) {
         for number in 0..SMALL + MIDDLING + FULL {
-            let shape = match number {
+            let mut shape = match number {
                 ..SMALL => Shape::small(random),
                 number if number < SMALL + MIDDLING => Shape::middling(random),
                 _ => Shape::full(random),
             };
+            if !random.once_in(100) {
+                shape.positions = shape.positions.max(1);
+            }
             self.about(random, &shape, number % 2 == 0, ask);
         }
     }
