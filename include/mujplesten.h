@@ -20,8 +20,8 @@
  *   - Doubles are rounded to nearest, and subnormals are kept: the mode in which a program starts.
  *     Not so after fesetround, in code that sets flush-to-zero or denormals-are-zero, or in a program
  *     that is linked with -ffast-math.
- *   - A call has 256 KiB of stack left on its thread: the search takes about 140, mj_params 32, every
- *     other less than 16.
+ *   - A call has 256 KiB of stack left on its thread: the search takes about 140, the sums
+ *     less than 64, mj_params 32, every other less than 16.
  *
  * Sequences. Letters are a, c, g, t in either case; no NUL ends a sequence. Of two sequences the
  * second is read by index beside the first, not backwards: "aac" pairs with "ttg" without a mismatch.
@@ -32,7 +32,9 @@
  *               entries or positions; not 1 to 64 strands; a glue above 63; a strand or a position
  *               that the design lacks; more than 61 user strands or 1,024 energy entries; a name of
  *               more than 64 bytes; a name or a sequence that leaves the text; a mark or a form of
- *               another value; marks that are not one for each position; a quencher or reporter that is no user strand
+ *               another value; marks that are not one for each position; a quencher or reporter that is no user strand;
+ *               weights, or lists of a constraint, that are not as many as the design asks for; a list that
+ *               leaves the numbers
  *    2 base     a byte other than a, c, g, t in either case
  *    3 short    a single sequence of fewer than 2 bases
  *    4 unequal  paired sequences of different length

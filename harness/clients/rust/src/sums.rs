@@ -29,6 +29,57 @@ pub fn sums(checks: &mut Checks) {
     };
     free(checks, design, weights);
     constrained(checks, design, weights);
+    stack(checks);
+}
+
+/// The stack that the header says is enough for sums of 128 positions with 63 friends each. All weights
+/// are 1, so that each sum is a count of states: 64^128, and with each place constrained to two of its
+/// friends 2^128.
+fn stack(checks: &mut Checks) {
+    let summed = std::thread::Builder::new().stack_size(64 * 1024).spawn(|| {
+        let mut dg = vec![0.0; 4096];
+        dg[65] = -1.0;
+        let glues = [vec![0; 3], [2, 1, 2].repeat(63)].concat();
+        let design = mj::Design {
+            scaffold: &[1; 128],
+            marks: &[0; 128],
+            glues: &glues,
+            dg: &dg,
+            ds: &vec![0.0; 4096],
+            potentials: &vec![0.0; 64],
+            rt: 0.5,
+            strand_excess: 0.0,
+            scaffold_excess: 0.0,
+        };
+        let (digits, powers) = (vec![ONE; 8192], vec![-30; 8192]);
+        let weights = mj::Weights {
+            place_digits: &digits,
+            place_powers: &powers,
+            pair_digits: &digits[..4096],
+            pair_powers: &powers[..4096],
+        };
+        let lists = mj::Lists {
+            numbers: &[5, 63],
+            starts: &vec![0; 128],
+            lengths: &vec![2; 128],
+        };
+        let (mut place, mut digits, mut power) = (WHOLE, 0, 0);
+        let free = mj::free_sum(design, weights, &mut place, &mut digits, &mut power);
+        let of_all = (free, digits, power);
+        let some = mj::constrained_sum(design, weights, lists, &mut place, &mut digits, &mut power);
+        (of_all, (some, digits, power))
+    });
+    let (of_all, of_two) = summed.expect("a thread").join().expect("an answer");
+    checks.count(
+        "all states",
+        of_all == (0, ONE, 6 * 128 - 30),
+        format!("{of_all:?}"),
+    );
+    checks.count(
+        "two at each",
+        of_two == (0, ONE, 128 - 30),
+        format!("{of_two:?}"),
+    );
 }
 
 fn free(checks: &mut Checks, design: mj::Design, weights: mj::Weights) {
