@@ -4,7 +4,8 @@
  * Link with libexports.a (x86-64 Linux); it needs no other library.
  *
  * One function is one call. It answers the number of its reply, 0 or that of a refusal, and writes
- * what else it tells through pointers: a whole number as uint64_t, a double as double. All of them are
+ * what else it tells through pointers: a whole number as uint64_t, a double as double, a sum over
+ * states as the uint32_t and int32_t that its weights are lent as. All of them are
  * written by every call. On a refusal each figure is 0, of a double with all bits 0; and the place of
  * a fault, where a function has one, is MJ_NOWHERE where the reply has no place. Nothing is kept
  * between calls, which may run on several threads at a time.
@@ -23,6 +24,8 @@
  *     than 64, mj_params 32, every other less than 16.
  *   - A call has 256 KiB of stack left on its thread: a search takes about 140, mj_params 32, every
  *     other less than 16.
+ *   - A call has 256 KiB of stack left on its thread: the search takes about 140, the sums
+ *     less than 64, mj_params 32, every other less than 16.
  *
  * Sequences. Letters are a, c, g, t in either case; no NUL ends a sequence. Of two sequences the
  * second is read by index beside the first, not backwards: "aac" pairs with "ttg" without a mismatch.
@@ -33,7 +36,9 @@
  *               entries or positions; not 1 to 64 strands; a glue above 63; a strand or a position
  *               that the design lacks; more than 61 user strands or 1,024 energy entries; a name of
  *               more than 64 bytes; a name or a sequence that leaves the text; a mark or a form of
- *               another value; marks that are not one for each position; a quencher or reporter that is no user strand
+ *               another value; marks that are not one for each position; a quencher or reporter that is no user strand;
+ *               weights, or lists of a constraint, that are not as many as the design asks for; a list that
+ *               leaves the numbers
  *    2 base     a byte other than a, c, g, t in either case
  *    3 short    a single sequence of fewer than 2 bases
  *    4 unequal  paired sequences of different length
@@ -52,6 +57,8 @@
  *   16 ambient  RT or an excess temperature of a design not finite or outside its range
  *   17 potential  the potential of a strand that is a friend somewhere not finite or outside its range
  *   20 ring     a scaffold of fewer than 3 positions that is to be a ring
+ *   18 bare     a sum over the states of a scaffold of no positions
+ *   19 weight   a weight outside its form that some state uses
  *
  * If several apply, the lowest is given. Four of them say where the fault lies:
  *
@@ -286,6 +293,31 @@ uint32_t mj_ring_energy(MJ_DESIGN, const uint8_t *configuration, size_t n, uint6
  * one that the chain's search would find. Replies 1, 9, 10, 16, 17, 20. */
 uint32_t mj_ring_search(MJ_DESIGN, uint8_t *configuration, size_t lent, uint64_t *place,
                         double *energy);
+/* The sum over all states of a design of the products of their weights. A weight is digits * 2^power:
+ * digits from 2^30 up to, not including, 2^31, and a power from -400,000 to 400,000. One is lent for
+ * each position and strand, [position * strands + strand], and one for each pair of neighbours,
+ * [left * strands + right], digits and powers apart; strand 0 has its cells. An empty place, and a pair
+ * with one, has the factor 1 whatever its cell holds, and only weights that some state uses are looked
+ * at. The sum is told in the same form with any power, or as 0 * 2^0 for zero; it lies within one part
+ * in 2^15 of the exact sum. However many states there are, it takes one pass over the positions.
+ * Replies 1, 9, 10, 16, 17, 18, 19. */
+uint32_t mj_free_sum(MJ_DESIGN, const uint32_t *place_digits, size_t place_digit_count,
+                     const int32_t *place_powers, size_t place_power_count,
+                     const uint32_t *pair_digits, size_t pair_digit_count,
+                     const int32_t *pair_powers, size_t pair_power_count, uint64_t *place,
+                     uint32_t *digits, int32_t *power);
+
+/* The same over the states that meet a constraint: for each position a list of allowed occupants, 0
+ * for empty, from starts[i] on and lengths[i] long in numbers. An empty list leaves the place free; a
+ * number that is neither 0 nor a friend there is passed over. Zero exactly if no state meets it.
+ * Replies as above; 1 also where there is not one list for each position, or one leaves the numbers. */
+uint32_t mj_constrained_sum(MJ_DESIGN, const uint32_t *place_digits, size_t place_digit_count,
+                            const int32_t *place_powers, size_t place_power_count,
+                            const uint32_t *pair_digits, size_t pair_digit_count,
+                            const int32_t *pair_powers, size_t pair_power_count,
+                            const uint8_t *numbers, size_t number_count, const size_t *starts,
+                            size_t start_count, const size_t *lengths, size_t length_count,
+                            uint64_t *place, uint32_t *digits, int32_t *power);
 
 #undef MJ_DESIGN
 

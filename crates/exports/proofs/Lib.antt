@@ -1,2 +1,3 @@
 pub mod Answered
 pub mod Tabled
+pub mod Summed

@@ -5,4 +5,5 @@ pub mod Lowest
 pub mod Place
 pub mod Stored
 pub mod Tables
+pub mod Sums
 pub mod Told

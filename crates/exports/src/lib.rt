@@ -12,6 +12,7 @@ pub mod search;
 pub mod short;
 pub mod stored;
 pub mod tables;
+pub mod sums;
 
 ghost use mathlib.Core.Path.{_≡_};
 ghost use lib.Ieee as Ieee;

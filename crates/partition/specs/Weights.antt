@@ -6,6 +6,8 @@ use lib.Dec.{leb, ltb}
 use lib.IntN.{ℤ, pos, negsuc}
 use lib.ListN.{length, getD}
 use lib.Signed.{leZ}
+use mir.Syntax.{w32}
+use mir.Val.{toZ, ofZ}
 use Rattle.lists.specs.Build.{upTo, tabulate}
 use Rattle.lists.specs.Find.{any}
 use Rattle.fractions.specs.Frac.{Frac}
@@ -20,9 +22,13 @@ pub record Weights : Type 0 where
   pub pairDigits : List ℕ
   pub pairPowers : List ℤ
 
+-- an exponent as the 32 bits hold it in which it is lent: of a signed 32-bit number, itself
+abbrev pub signed : ℤ → ℤ
+signed power = toZ w32 (ofZ w32 power)
+
 -- the weight at a cell of two tables
 abbrev pub weightAt : List ℕ → List ℤ → ℕ → Weight
-weightAt digits powers cell = weight (getD digits cell 0) (getD powers cell (pos 0))
+weightAt digits powers cell = weight (getD digits cell 0) (signed (getD powers cell (pos 0)))
 
 -- the weight of a strand at a position
 abbrev pub placeWeight : Weights → ℕ → ℕ → Weight

@@ -9,7 +9,7 @@ use lib.Dec.{eqb, lit≤, lit<}
 use lib.IntN.{ℤ, pos, negsuc}
 use lib.ListN.{getD}
 use Rattle.partition.specs.Terms.{term, times}
-use Rattle.partition.specs.Weights.{weightAt}
+use Rattle.partition.specs.Weights.{signed, weightAt}
 use Rattle.partition.specs.Summed.{factorTerm, lifted}
 use Rattle.partition.specs.inner.Used.{Reaches, Fit, Weighs}
 use Rattle.partition.proofs.Cuts.{times-cut}
@@ -20,8 +20,8 @@ exponent-low : (z : ℤ) → Reaches 400000 z → lifted 400000 z ≤ 2 * 400000
 exponent-low (pos k) r l = omega arith
 exponent-low (negsuc k) r l = r
 
-pub weighs-low : (digits : List ℕ) (powers : List ℤ) (strand : ℕ) → Weighs 400000 (weightAt digits powers strand) → Low (getD powers strand (pos 0))
-weighs-low digits powers strand w = exponent-low (getD powers strand (pos 0)) (w .reaches) (w .low)
+pub weighs-low : (digits : List ℕ) (powers : List ℤ) (strand : ℕ) → Weighs 400000 (weightAt digits powers strand) → Low (signed (getD powers strand (pos 0)))
+weighs-low digits powers strand w = exponent-low (signed (getD powers strand (pos 0))) (w .reaches) (w .low)
 
 pub factor-fit : (digits : List ℕ) (powers : List ℤ) (besideEmpty : Bool) (strand : ℕ) → ((besideEmpty || eqb strand 0) ≡ false → Weighs 400000 (weightAt digits powers strand)) → Fit 800000 (factorOf digits powers besideEmpty strand)
 unfolding factorOf
@@ -49,7 +49,7 @@ unfolding factorOf
 empty-factor digits powers true y e = refl
 empty-factor digits powers false y e = rw (eq-eqb y 0 e) refl
 
-pub some-factor : (digits : List ℕ) (powers : List ℤ) (y : ℕ) → (y ≡ 0 → ⊥) → term (getD digits y 0) (lifted 400000 (getD powers y (pos 0))) ≡ factorOf digits powers false y
+pub some-factor : (digits : List ℕ) (powers : List ℤ) (y : ℕ) → (y ≡ 0 → ⊥) → term (getD digits y 0) (lifted 400000 (signed (getD powers y (pos 0)))) ≡ factorOf digits powers false y
 unfolding factorOf
 some-factor digits powers y e = rw (ne-eqb y 0 e) refl
 

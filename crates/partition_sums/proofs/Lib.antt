@@ -1,5 +1,8 @@
 pub mod Signed
-pub mod Forms
+pub mod Formed
 pub mod Factored
 pub mod Rowed
 pub mod Positions
+pub mod Keeping
+pub mod Outs
+pub mod Options

@@ -21,8 +21,9 @@ use Rattle.fractions.specs.Weight.{weight}
 use Rattle.partition.specs.declared.Term.{Term}
 use Rattle.partition.specs.Terms.{times}
 use Rattle.partition.specs.Pass.{sumTerms, passed, passedWhole, noneLeft}
-use Rattle.partition.specs.Weights.{Weights, weightAt, placeWeight, pairWeight}
-use Rattle.partition.specs.Summed.{factorTerm, placeTerm, pairTerm, factors, lowered, passedSum}
+use Rattle.partition.specs.Weights.{Weights, signed, weightAt, placeWeight, pairWeight}
+use Rattle.partition.specs.Sum.{zeroWeight}
+use Rattle.partition.specs.Summed.{factorTerm, placeTerm, pairTerm, factors, lowered, passedSum, summed, sumOfWeights}
 use Rattle.partition.specs.inner.Used.{Fit, Weighs, PlaceFit, PairFit, Used, InUse}
 use Rattle.partition.proofs.Passed.{Usable, Holds, passed-holds, whole-holds}
 use Rattle.partition.proofs.Summed.{Few, not-zero, or-left, or-right, usable}
@@ -144,7 +145,7 @@ module _ (w : Weights) (rows counts : List ℕ) where
     pub terms : (x : ℕ) → List·Memᴰ x (here i) → rowTerm digits powers x ≡ passed P Q i (drop (i + 1) options) x
 
 -- a table has a row for each of so many, and a row has as many cells as it has columns
-row-length : {A : Type 0} (columns row rows : ℕ) (table : List A) → row < rows → rows * columns ≤ length table → length (rowOf columns row table) ≡ columns
+pub row-length : {A : Type 0} (columns row rows : ℕ) (table : List A) → row < rows → rows * columns ≤ length table → length (rowOf columns row table) ≡ columns
 row-length columns row rows table h l = length-take-le columns (drop (row * columns) table) (rw (length-drop (row * columns) table) (let e = row-end columns h in omega arith))
 
 module _ (w : Weights) (rows counts : List ℕ) (some : 0 < length counts) (s : Searchable (w .strands) rows counts) (t : Celled (length counts) w) (u : InUse w 0 (optionsIn rows counts)) where
@@ -204,10 +205,10 @@ module _ (w : Weights) (rows counts : List ℕ) (some : 0 < length counts) (s : 
 
   -- the weights of a position, and of a left strand, are the table's
   place-cells : (i x : ℕ) → x < w .strands → weightAt (placeDigitsAt w rows counts i) (placePowersAt w rows counts i) x ≡ placeWeight w i x
-  place-cells i x h = ap₂ (λ (d : ℕ) (p : ℤ). weight d p) (row-cell 0 (w .strands) i x (w .placeDigits) h) (row-cell (pos 0) (w .strands) i x (w .placePowers) h)
+  place-cells i x h = ap₂ (λ (d : ℕ) (p : ℤ). weight d (signed p)) (row-cell 0 (w .strands) i x (w .placeDigits) h) (row-cell (pos 0) (w .strands) i x (w .placePowers) h)
 
   pair-cells : (x y : ℕ) → y < w .strands → weightAt (rowOf (w .strands) x (w .pairDigits)) (rowOf (w .strands) x (w .pairPowers)) y ≡ pairWeight w x y
-  pair-cells x y h = ap₂ (λ (d : ℕ) (p : ℤ). weight d p) (row-cell 0 (w .strands) x y (w .pairDigits) h) (row-cell (pos 0) (w .strands) x y (w .pairPowers) h)
+  pair-cells x y h = ap₂ (λ (d : ℕ) (p : ℤ). weight d (signed p)) (row-cell 0 (w .strands) x y (w .pairDigits) h) (row-cell (pos 0) (w .strands) x y (w .pairPowers) h)
 
   place-factor : (i x : ℕ) → x < w .strands → factorOf (placeDigitsAt w rows counts i) (placePowersAt w rows counts i) false x ≡ P w rows counts i x
   unfolding factorOf
@@ -299,13 +300,14 @@ module _ (w : Weights) (rows counts : List ℕ) (some : 0 < length counts) (s : 
       let b = bounded 0 some in
       (f .form .most, omega (arith, f .low))
 
-  pub sum-lowered : lowered 400000 (factors (length counts)) sumOfRow ≡ passedSum 400000 (placeWeight w) (pairWeight w) (optionsIn rows counts)
-  unfolding passedSum
+  pub sum-lowered : lowered 400000 (factors (length counts)) sumOfRow ≡ sumOfWeights w (optionsIn rows counts)
+  unfolding passedSum summed
   sum-lowered =
       let o = optionsIn rows counts in
       let split : o ≡ here w rows counts 0 ∷ drop 1 o = options-from s 0 some in
       let n : suc (length (drop 1 o)) ≡ length counts = sym (ap length split) ∙ options-length s in
       ap (λ (f : ℕ). lowered 400000 (factors f) sumOfRow) (sym n) ∙ ap (passedSum 400000 (placeWeight w) (pairWeight w)) (sym split)
+      ∙ ap (λ (b : Bool). cond b zeroWeight (passedSum 400000 (placeWeight w) (pairWeight w) o)) (sym (some-options s))
 
 -- ---- parts of what is lent
 

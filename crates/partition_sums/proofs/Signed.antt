@@ -35,11 +35,6 @@ lift-fits z l = rw (toZ-ofZ (low-fits z l), lift-sum z l) (lifted-fits z l)
 pub lift-read : (z : ℤ) → Low z → toZ w64 (ofZ w64 (toZ w64 (ofZ w64 z) +ℤ pos 400000)) ≡ pos (lifted 400000 z)
 lift-read z l = toZ-ofZ (lift-fits z l) ∙ ap (λ (y : ℤ). y +ℤ pos 400000) (toZ-ofZ (low-fits z l)) ∙ lift-sum z l
 
--- a signed number read out of a slice stands as the machine's bits read back
-pub low-read : (z : ℤ) → Low z → toZ w32 (ofZ w32 z) ≡ z
-low-read (pos k) l = toZ-ofZ {w = w32} (record { sfits = omega arith })
-low-read (negsuc k) l = toZ-ofZ {w = w32} (record { sfits = omega arith })
-
 -- ---- the way back: a difference of two numbers, signed
 pub back-is : (a b : ℕ) → pos a -ℤ pos b ≡ subℕ a b
 back-is a zero = ap pos (add-zero a) ∙ sym (rw (le-ltb a 0 zero-le, sub-zero a) refl)

@@ -1,7 +1,8 @@
 -- How options and weights are lent to the code. `Searchable` of crate `ensemble` says what the code must be able to rely on of the options; a model's
 -- options are lent as `OptionRows` there says, and proofs/Options.antt has that `optionsIn` then gives them.
+use mathlib.Core.Path.{_≡_}
 use mathlib.Core.List.{List}
-use Prim.Native.Nat.{ℕ, _*_, _-_, _≤_}
+use Prim.Native.Nat.{ℕ, _+_, _*_, _-_, _≤_, _<_}
 use lib.IntN.{ℤ}
 use lib.ListN.{length, getD, take, drop}
 use denote.Ref.{RefT, now}
@@ -41,3 +42,11 @@ pub record Celled (positions : ℕ) (w : Weights) : Type 0 where
   pub place-powers : positions * w .strands ≤ length (w .placePowers)
   pub pair-digits : w .strands * w .strands ≤ length (w .pairDigits)
   pub pair-powers : w .strands * w .strands ≤ length (w .pairPowers)
+
+-- ---- constraints
+
+-- a list for each position, within the numbers
+pub record Listed (positions : ℕ) (numbers starts lengths : List ℕ) : Type 0 where
+  pub starting : length starts ≡ positions
+  pub long : length lengths ≡ positions
+  pub within : (i : ℕ) → i < positions → getD starts i 0 + getD lengths i 0 ≤ length numbers

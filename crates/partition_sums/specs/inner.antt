@@ -1,2 +1,3 @@
--- The vocabulary of private contracts: what the functions of the pass say to one another.
+-- The vocabulary of private contracts: what the functions of this crate say to one another.
 pub mod Rows
+pub mod Kept

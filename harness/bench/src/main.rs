@@ -9,6 +9,7 @@ mod rings;
 mod searches;
 mod sequences;
 mod tables;
+mod sums;
 
 use measure::{measure, Measured, Row};
 
@@ -42,5 +43,9 @@ fn main() {
     let remarks = [builds::remarks(), searches::remarks(), rings::remarks()];
     for remark in remarks.into_iter().flatten() {
         println!("{remark}");
+    for remarks in [builds::remarks(), searches::remarks(), sums::remarks()] {
+        for remark in remarks {
+            println!("{remark}");
+        }
     }
 }

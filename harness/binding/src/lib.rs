@@ -14,6 +14,7 @@ mod params;
 mod sequences;
 mod short;
 mod tables;
+mod sums;
 mod temperature;
 
 pub use deck::{deck_move, deck_read, deck_write};
@@ -29,6 +30,7 @@ pub use sequences::{
 };
 pub use short::short_sequence;
 pub use tables::{bond_tables, search_over, state_energy_over, state_over, states_over, Bonds};
+pub use sums::{constrained_sum, free_sum, Lists, Weights};
 pub use temperature::ambient;
 
 /// The place that is written where there is none.

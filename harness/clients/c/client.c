@@ -470,6 +470,50 @@ static void names(void)
     count("their numbers", glues[0] == 1 && glues[1] == 4 && glues[2] == 5);
 }
 
+/* Weights over the bench table's two positions: 1 and 2 for the friends, 4 for the two as neighbours.
+ * The states have the products 8, 1, 2 and 1. No other weight is looked at. */
+static void sums(void)
+{
+    uint32_t place_digits[6] = {0, 1u << 30, 7, 0, 0, 1u << 30}, pair_digits[9] = {0};
+    int32_t place_powers[6] = {0, -30, 0, INT32_MAX, 0, -29}, pair_powers[9] = {0};
+    static const uint8_t numbers[4] = {1, 1, 2, 255};
+    static const size_t starts[2] = {0, 2}, lengths[2] = {2, 2}, strangers[2] = {2, 1};
+    static const size_t past[2] = {3, 1}, none[2] = {4, 4};
+    uint64_t place = unread;
+    uint32_t digits = 0xa5a5a5a5;
+    int32_t power = INT32_MIN;
+    pair_digits[5] = 1u << 30;
+    pair_powers[5] = -28;
+#define WEIGHTS place_digits, 6, place_powers, 6, pair_digits, 9, pair_powers, 9
+    dg[1][1] = -0.5;
+    dg[2][2] = -2.0;
+    dg[0][7] = 0.0;
+    potentials[2] = -1.0;
+    reply("a free sum", mj_free_sum(DESIGN, WEIGHTS, &place, &digits, &power), 0);
+    count("its place", place == MJ_NOWHERE);
+    count("it is 12", digits == 3u << 29 && power == -27);
+    reply("a sum of both friends",
+          mj_constrained_sum(DESIGN, WEIGHTS, numbers, 4, starts, 2, lengths, 2, &place, &digits,
+                             &power), 0);
+    count("it is 8", digits == 1u << 30 && power == -27);
+    reply("a sum of strangers",
+          mj_constrained_sum(DESIGN, WEIGHTS, numbers, 4, strangers, 2, strangers, 2, &place,
+                             &digits, &power), 0);
+    count("it is zero", digits == 0 && power == 0);
+    reply("a list past the numbers",
+          mj_constrained_sum(DESIGN, WEIGHTS, numbers, 4, none, 2, past, 2, &place, &digits, &power),
+          1);
+    count("no sum", digits == 0 && power == 0);
+    place_powers[1] = 400001;
+    reply("a weight out of form", mj_free_sum(DESIGN, WEIGHTS, &place, &digits, &power), 19);
+    count("its place", place == MJ_NOWHERE);
+    reply("no positions",
+          mj_free_sum(scaffold, 0, blocked, 0, glues, 9, dg[0], 4096, ds[0], 4096, potentials, 3, 0.5,
+                      0.0, 0.0, place_digits, 0, place_powers, 0, pair_digits, 9, pair_powers, 9,
+                      &place, &digits, &power), 18);
+#undef WEIGHTS
+}
+
 /* Position 0 has the scaffold name at `site`; the entry for b is the sequence AC, and the quencher
  * copies strand 1. */
 static uint32_t built(size_t site, size_t length, uint8_t *glues, uint8_t *scaffold, double *dg,
@@ -558,6 +602,7 @@ int main(void)
     bond_tables();
     blocked_positions();
     rings();
+    sums();
     names();
     params();
     printf("client: %u passed, %u failed\n", passed, failed);

@@ -4,7 +4,8 @@
 //!   is compared.
 //! * `judge`: document 01's refusals, and answers that the Rust lacks, from the document alone.
 //! * `question`: what is asked and expected, and when an answer differs.
-//! * `comparison`, `program`, `tally`: the run; `parting`: how far two energies part in it.
+//! * `comparison`, `program`, `tally`: the run; `parting`: how far two energies part in it; `sums`: how far sums
+//!   over states part from the exact ones.
 //! * `random`, `bases`, `doubles`, `decks`, `designs`, `ambients`, `parameters`: what the
 //!   generators draw from.
 //! * `replay`: the fixed list of answers for the Rattle program of that name.
@@ -23,4 +24,5 @@ pub mod program;
 pub mod question;
 pub mod random;
 pub mod replay;
+pub mod sums;
 pub mod tally;

@@ -2,6 +2,7 @@
 
 use crate::judge::Verdict;
 use crate::kinds::Kind;
+use crate::sums::Asked;
 use protocol::Reply;
 use std::rc::Rc;
 
@@ -25,6 +26,8 @@ pub enum Expected {
     /// A first figure whose bits are open, where the others are the Rust's: it lies within so much
     /// of the judge's, if there is one, and within twice that of the Rust's.
     Near { exact: Option<f64>, slack: f64 },
+    /// A sum over states, within one part in 2^15 of the exact one.
+    Sum(Rc<Asked>),
 }
 
 impl Question {
@@ -78,7 +81,7 @@ impl Question {
     pub fn expected_number(&self) -> u32 {
         match &self.expected {
             Expected::Judged(verdict) => verdict.number(),
-            Expected::Figures(_) | Expected::Near { .. } => 0,
+            Expected::Figures(_) | Expected::Near { .. } | Expected::Sum(_) => 0,
         }
     }
 
@@ -88,6 +91,7 @@ impl Question {
             Expected::Judged(verdict) => verdict.to_string(),
             Expected::Figures(figures) => format!("ok {figures}"),
             Expected::Near { exact, slack } => format!("ok, near {exact:?}, by {slack:e}"),
+            Expected::Sum(asked) => format!("ok, within one part in 2^15 of {:?}", asked.exact),
         }
     }
 
@@ -109,6 +113,10 @@ impl Question {
                 }
                 (None, Reply::Ok(port)) => near_difference(port, port, *exact, *slack),
                 _ => Some("one does not answer"),
+            },
+            Expected::Sum(asked) => match port {
+                Reply::Ok(figures) => asked.difference(figures),
+                _ => Some("the port does not answer"),
             },
             Expected::Judged(verdict) => match verdict.refusal() {
                 Some(refusal) if *port != refusal => Some("the port does not refuse so"),

@@ -5,6 +5,7 @@
 //! design; `d.build` checks nothing, so that every question meets what was set.
 
 use crate::slices::{list, Filled};
+use crate::sums::Weights;
 use crate::{counted, placed, reply, DOUBLE, WHOLE};
 use mujplesten as mj;
 use protocol::{double, expect_words, joined, whole, Complaint, Reply, Words};
@@ -30,6 +31,8 @@ pub struct Lent {
     rt: f64,
     strand_excess: f64,
     scaffold_excess: f64,
+    /// Those of the sums; a new design keeps none.
+    weights: Weights,
 }
 
 impl Lent {
@@ -40,6 +43,8 @@ impl Lent {
             "mode" => Err("the port's concentrations are potentials".to_string()),
             "d.build" => Ok(Some(Reply::Ok("built".to_string()))),
             "raw.len" | "raw.set" => self.set_raw(words).map(|()| None),
+            "w.place" | "w.pair" => self.weights.set(words).map(|()| None),
+            "sum" | "sum.lists" => self.weights.answer(self.design(), words).map(Some),
             word if word.starts_with("d.") => self.set(words).map(|()| None),
             _ => self.question(words).map(Some),
         }

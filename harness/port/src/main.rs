@@ -9,6 +9,7 @@ mod sequences;
 mod short;
 mod slices;
 mod tables;
+mod sums;
 mod temperature;
 
 use design::Lent;

@@ -1,7 +1,7 @@
 //! Calls that take a design.
 
 use crate::guarded::{Figure, Guarded};
-use crate::{near, Tally};
+use crate::{near, sums, Tally};
 use compare::designs::{blocks, marked, Ambient, Shape, SORTS};
 use compare::doubles::not_finite;
 use compare::judge::design::Lent;
@@ -181,6 +181,7 @@ impl Asked<'_> {
             }
             5 | 6 => self.energies(random, tally),
             7 => self.ring(random, tally),
+            7 => sums::call(self, random, tally),
             _ => {
                 let mut entries = Guarded::new(near(random, self.positions), 0xa5);
                 let mut energy = Figure::double();

@@ -40,6 +40,18 @@ impl Figure<f64> {
     }
 }
 
+impl Figure<u32> {
+    pub fn digits() -> Self {
+        Figure(Guarded::new(1, 0xa5a5_a5a5))
+    }
+}
+
+impl Figure<i32> {
+    pub fn power() -> Self {
+        Figure(Guarded::new(1, i32::MIN + 0xa5))
+    }
+}
+
 impl Figure<u64> {
     pub fn whole() -> Self {
         Figure(Guarded::new(1, 0xa5a5_a5a5_a5a5_a5a5))

@@ -4,6 +4,7 @@ mod designs;
 mod places;
 mod tables;
 mod rings;
+mod sums;
 
 use mujplesten as mj;
 use std::process::ExitCode;
@@ -63,6 +64,7 @@ fn main() -> ExitCode {
     tables::tables(&mut checks);
     tables::stack(&mut checks);
     rings::rings(&mut checks);
+    sums::sums(&mut checks);
     names(&mut checks);
     params(&mut checks);
     println!("client: {} passed, {} failed", checks.passed, checks.failed);

@@ -6,11 +6,13 @@
 
 pub mod deck;
 pub mod design;
+pub mod exact;
 pub mod parameters;
 pub mod ring;
 pub mod search;
 pub mod sequences;
 pub mod short;
+pub mod sums;
 pub mod tables;
 pub mod temperature;
 

@@ -15,6 +15,7 @@ pub mod sequence;
 pub mod short;
 pub mod strength;
 pub mod tables;
+pub mod sums;
 pub mod ties;
 
 use crate::question::Question;
@@ -88,5 +89,6 @@ pub fn all() -> Vec<Box<dyn Kind>> {
         Box::new(tables::BondTables::default()),
         Box::new(ring::Rings::default()),
         Box::new(raw::RawDesigns),
+        Box::new(sums::Sums::default()),
     ]
 }

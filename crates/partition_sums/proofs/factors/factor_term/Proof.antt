@@ -1,6 +1,3 @@
-use lib.ListN.{getD}
-use lib.IntN.{pos}
-use Rattle.partition_sums.proofs.Signed.{low-read}
 use Rattle.partition_sums.proofs.Factored.{beside-factor, empty-factor, some-factor, used-factor, weighs-low}
 use borrow.Author.Needs.{needs}
 use Rattle.partition_sums.proofs.factors.factor_term.Statement.{statement}
@@ -34,13 +31,12 @@ lift-requires : tie.Need-lift-requires
 lift-requires c κs =
     let s = c .before .before .before .before .before .before .before in
     let low = weighs-low (s .args .digits .now) (s .args .powers .now) (s .args .strand) (s .pre .1 (used-factor (s .args .beside-empty) (s .args .strand) (c .before .before .before .before .before .if1 .left) (c .before .before .before .before .if2 .left))) in
-    rw (c .before .before .before .wide .ensures, low-read (getD (s .args .powers .now) (s .args .strand) (pos 0)) low) low
+    rw (c .before .before .before .wide .ensures) low
 
 returns-3 : tie.Need-returns-3
 returns-3 c =
     let s = c .before .before .before .before .before .before .before .before in
-    let low = weighs-low (s .args .digits .now) (s .args .powers .now) (s .args .strand) (s .pre .1 (used-factor (s .args .beside-empty) (s .args .strand) (c .before .before .before .before .before .before .if1 .left) (c .before .before .before .before .before .if2 .left))) in
-    rw (c .before .before .before .before .before .before .if1 .left, c .lift .ensures, c .before .long .ensures, c .before .before .before .before .wide .ensures, low-read (getD (s .args .powers .now) (s .args .strand) (pos 0)) low)
+    rw (c .before .before .before .before .before .before .if1 .left, c .lift .ensures, c .before .long .ensures, c .before .before .before .before .wide .ensures)
     (some-factor _ _ (s .args .strand) (c .before .before .before .before .before .if2 .left))
 
 pub factor-term-spec : {M : Type 1} → statement M

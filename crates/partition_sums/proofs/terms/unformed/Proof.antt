@@ -1,6 +1,6 @@
 -- The test of a weight's form meets its contract. Assumes nothing.
 use mir.Facts.{toZ-ofZ}
-use Rattle.partition_sums.proofs.Forms.{few-digits, many-digits, low-exponent, high-exponent}
+use Rattle.partition_sums.proofs.Formed.{few-digits, many-digits, low-exponent, high-exponent}
 use Rattle.partition_sums.proofs.terms.unformed.Statement.{statement}
 use Rattle.partition_sums.proofs.terms.unformed.Tie as tie
 

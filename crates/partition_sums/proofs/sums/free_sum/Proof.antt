@@ -15,8 +15,8 @@ use Rattle.partition.specs.inner.Used.{InUse}
 use Rattle.partition_sums.specs.Layout.{optionsAt, optionsIn, Celled}
 use Rattle.partition_sums.specs.inner.Rows.{rowOf, rowTerm}
 use Rattle.partition_sums.proofs.Positions.{Row, sumOfRow, some-at, few-at, row-terms, place-at, step-at, row-last, row-next, row-whole, sum-bounded, sum-lowered, part-is, cells-are, Inside, inside}
-use Rattle.partition_sums.proofs.sums.passed_sum.Statement.{statement}
-use Rattle.partition_sums.proofs.sums.passed_sum.Tie as tie
+use Rattle.partition_sums.proofs.sums.free_sum.Statement.{statement}
+use Rattle.partition_sums.proofs.sums.free_sum.Tie as tie
 
 abbrev lent : List ℕ → List ℤ → List ℕ → List ℤ → ℕ → Weights
 lent place-digits place-powers pair-digits pair-powers strands =
@@ -533,8 +533,8 @@ returns c =
     let whole = total w (a .rows .now) (a .counts .now) (r .0) (r .1 .0) (r .1 .1 .0) (r .1 .1 .1) (l .position) (l .start) (l .end) (l .digits) (l .powers) e (l .inv .1) (l .inv .2) (l .inv .3) in
     c .lowered .ensures ∙ ap (lowered 400000 (factors (length (a .counts .now)))) (c .before .row-sum .ensures ∙ whole) ∙ sum-lowered w (a .rows .now) (a .counts .now) (r .0) (r .1 .0) (r .1 .1 .0) (r .1 .1 .1)
 
-pub passed-sum-spec : {M : Type 1} → statement M
-passed-sum-spec =
+pub free-sum-spec : {M : Type 1} → statement M
+free-sum-spec =
     tie.close
     (tie.spec
     Inv-loop
