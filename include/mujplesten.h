@@ -142,10 +142,10 @@ uint32_t mj_deck_write(uint32_t form, const uint8_t *configuration, size_t n, ui
 uint32_t mj_deck_move(uint32_t form, const uint32_t *words, size_t n, uint32_t *moved, size_t lent,
                       uint64_t *place, uint64_t *count);
 
-/* Names. All names lie in one text; each is a start and a length in it, and lists of names have a
- * mark for each beside them: 0 absent, 1 present. The start and length of an absent name are not
- * looked at. A name's trailing stars are stripped to its base; an even number of them means the
- * base, an odd number base*. UTF-8 is not asked for. */
+/* Names. All names lie in one text; each is a start and a length in it. A list of names has a row of
+ * three numbers for each: its mark, 0 absent, 1 present; its start; its length. The start and length
+ * of an absent name are not looked at. A name's trailing stars are stripped to its base; an even
+ * number of them means the base, an odd number base*. UTF-8 is not asked for. */
 
 /* The base of a name (self_and_inverse): where it starts in the text, its length, and 1 where the name
  * stands for it, 0 where it stands for base*. Reply 1. */
@@ -155,19 +155,19 @@ uint32_t mj_name(const uint8_t *text, size_t n, size_t start, size_t length, uin
 /* The numbers of all glues of the user strands, 0 to 61 of them, three names for each: west, bottom,
  * east; into as many lent glues. A new base takes the next two numbers from 1, for itself and for
  * base*; an absent name is 0. On a refusal all glues are kept. Replies 1, 7. */
-uint32_t mj_strand_glues(const uint8_t *text, size_t n, size_t users, const size_t *starts,
-                         size_t start_count, const size_t *lengths, size_t length_count,
-                         const uint8_t *marks, size_t mark_count, uint8_t *glues, size_t lent);
+uint32_t mj_strand_glues(const uint8_t *text, size_t n, size_t users, const size_t *strands,
+                         size_t strand_numbers, uint8_t *glues, size_t lent);
 
 /* A design's glues and tables from names and energies (from_params).
  *
- *   strand_*     three names for each user strand, 0 to 61 of them
- *   scaffold_*   a name for each position, 0 to 128 of them, looked up as it is spelled
- *   first_*, second_*   the names of each energy entry, 0 to 1,024 of them: the first is always there,
- *                the second where its mark says so. An entry for one name is for its base and base*
- *   forms        0 where the entry is the two doubles of dgs and dss, 1 where it is the sequence at a
- *                start and length in the text, of 2 to 256 bases, whose energies are those of
- *                mj_sequence
+ *   strands      three names for each user strand, 0 to 61 of them
+ *   scaffold     a name for each position, 0 to 128 of them, looked up as it is spelled
+ *   entries      a row of eight numbers for each energy entry, 0 to 1,024 of them: start and length of
+ *                its first name, which is always there; mark, start and length of its second; its form;
+ *                start and length of its sequence. An entry for one name is for its base and base*.
+ *                Form 0 is the entry's two doubles, form 1 its sequence, a part of the text of 2 to 256
+ *                bases, whose energies are those of mj_sequence
+ *   energies     a row of two doubles, dG and dS, for each entry; not looked at where its form is 1
  *   penalty_dg, penalty_ds   are added to both numbers of every entry; 0.0 for none
  *   quencher, reporter       the number of the user strand that is copied, from 1; 0 for none
  *
@@ -175,20 +175,13 @@ uint32_t mj_strand_glues(const uint8_t *text, size_t n, size_t users, const size
  * bottom of its strand) and for the reporter (bottom and east of its strand); scaffold_glues, one for
  * each position; dg and ds, 4,096 cells each, a cell and its mirror for each entry both of whose names
  * are known, all else 0.0. On a refusal all are kept. Replies 1, 2, 3, 6, 7, 8, 9. */
-uint32_t mj_params(
-    const uint8_t *text, size_t n, size_t users, const size_t *strand_starts,
-    size_t strand_start_count, const size_t *strand_lengths, size_t strand_length_count,
-    const uint8_t *strand_marks, size_t strand_mark_count, const size_t *scaffold_starts,
-    size_t scaffold_start_count, const size_t *scaffold_lengths, size_t scaffold_length_count,
-    const uint8_t *scaffold_marks, size_t scaffold_mark_count, const size_t *first_starts,
-    size_t first_start_count, const size_t *first_lengths, size_t first_length_count,
-    const size_t *second_starts, size_t second_start_count, const size_t *second_lengths,
-    size_t second_length_count, const uint8_t *second_marks, size_t second_mark_count,
-    const uint8_t *forms, size_t form_count, const double *dgs, size_t dg_count, const double *dss,
-    size_t ds_count, const size_t *starts, size_t start_count, const size_t *lengths,
-    size_t length_count, double penalty_dg, double penalty_ds, size_t quencher, size_t reporter,
-    uint8_t *strand_glues, size_t strand_glues_lent, uint8_t *scaffold_glues,
-    size_t scaffold_glues_lent, double *dg, size_t dg_lent, double *ds, size_t ds_lent);
+uint32_t mj_params(const uint8_t *text, size_t n, size_t users, const size_t *strands,
+                   size_t strand_numbers, const size_t *scaffold, size_t scaffold_numbers,
+                   const size_t *entries, size_t entry_numbers, const double *energies,
+                   size_t energy_doubles, double penalty_dg, double penalty_ds, size_t quencher,
+                   size_t reporter, uint8_t *strand_glues, size_t strand_glues_lent,
+                   uint8_t *scaffold_glues, size_t scaffold_glues_lent, double *dg, size_t dg_lent,
+                   double *ds, size_t ds_lent);
 
 /* Designs. A design is six slices, each a pointer and a length, and the ambient:
  *

@@ -4,6 +4,8 @@ use design::answers::CountAnswer;
 use reply::Refusal;
 use reply::Reply;
 use sdc1d_params::Copied;
+use sdc1d_params::Copies;
+use sdc1d_params::Penalty;
 use units::Ambient;
 use units::KcalPerMol;
 use units::KcalPerMolKelvin;
@@ -60,77 +62,132 @@ fn is_refused(answer: DgAnswer, refusal: Refusal) -> bool {
     }
 }
 
-// The reply to a build of eleven strands, with 33 glues of as many names: the letter a once, twice and so on. No scaffold, no entries.
-fn named(marks: &[u8]) -> Reply {
-    let starts = [0usize; 33];
-    let lengths = [
+// The reply to a build of eleven strands, with 33 glues: 31 of as many names, the letter a once, twice and so on; then that letter 32 times
+// by a mark, and none. No scaffold, no entries.
+fn named(mark: usize) -> Reply {
+    let strands = [
         1usize,
+        0,
+        1,
+        1,
+        0,
         2,
+        1,
+        0,
         3,
+        1,
+        0,
         4,
+        1,
+        0,
         5,
+        1,
+        0,
         6,
+        1,
+        0,
         7,
+        1,
+        0,
         8,
+        1,
+        0,
         9,
+        1,
+        0,
         10,
+        1,
+        0,
         11,
+        1,
+        0,
         12,
+        1,
+        0,
         13,
+        1,
+        0,
         14,
+        1,
+        0,
         15,
+        1,
+        0,
         16,
+        1,
+        0,
         17,
+        1,
+        0,
         18,
+        1,
+        0,
         19,
+        1,
+        0,
         20,
+        1,
+        0,
         21,
+        1,
+        0,
         22,
+        1,
+        0,
         23,
+        1,
+        0,
         24,
+        1,
+        0,
         25,
+        1,
+        0,
         26,
+        1,
+        0,
         27,
+        1,
+        0,
         28,
+        1,
+        0,
         29,
+        1,
+        0,
         30,
+        1,
+        0,
         31,
+        mark,
+        0,
         32,
-        33,
+        0,
+        0,
+        0,
     ];
     let place = [0usize; 1];
     let places = &place[0..0];
-    let bytes = [0u8; 1];
-    let marks_of_none = &bytes[0..0];
-    let doubles = [0.0; 1];
-    let numbers = &doubles[0..0];
+    let double = [0.0; 1];
     let mut strand_glues = [0u8; 42];
     let mut scaffold = [0u8; 1];
     let mut dg = [0.0; 4096];
     let mut ds = [0.0; 4096];
     sdc1d_params::from_params(
-        b"aaaaaaaaaaaaaaaaaaaaaaaaaaaaaaaaa",
+        b"aaaaaaaaaaaaaaaaaaaaaaaaaaaaaaaa",
         11,
-        &starts,
-        &lengths,
-        marks,
+        &strands,
         places,
         places,
-        marks_of_none,
-        places,
-        places,
-        places,
-        places,
-        marks_of_none,
-        marks_of_none,
-        numbers,
-        numbers,
-        places,
-        places,
-        KcalPerMol(0.0),
-        KcalPerMolKelvin(0.0),
-        Copied::Nothing,
-        Copied::Nothing,
+        &double[0..0],
+        Penalty {
+            dg: KcalPerMol(0.0),
+            ds: KcalPerMolKelvin(0.0),
+        },
+        Copies {
+            quencher: Copied::Nothing,
+            reporter: Copied::Nothing,
+        },
         &mut strand_glues,
         &mut scaffold[0..0],
         &mut dg,
@@ -187,14 +244,11 @@ fn is_too_many_states(answer: CountAnswer) -> bool {
 
 // The lines on base names and on counts.
 fn limits() {
-    let mut marks = [1u8; 33];
-    marks[32] = 0;
     say(
         b"32 base names: refused, glues",
-        is_too_many_glues(named(&marks)),
+        is_too_many_glues(named(1)),
     );
-    marks[31] = 0;
-    say(b"31 base names: built", is_built(named(&marks)));
+    say(b"31 base names: built", is_built(named(0)));
     let twenty = [1u8; 20];
     let open = [0u8; 21];
     say(

@@ -9,15 +9,16 @@ use Rattle.sdc_common.specs.Names.{baseLength, baseOf, sameName}
 use Rattle.sdc_common.specs.Lent.{partOf, glueOf, gluesOf, unfitGlue, unfitNames}
 use Rattle.sdc_common.specs.Numbers.{learn, basesOf}
 use Rattle.sdc_common.specs.Spelled.{knownNames, isUnknown}
+use Rattle.sdc1d_params.specs.Entries.{unfitEntries}
 use Rattle.sdc1d_params.specs.Params.{wrongSize, fromParams}
 use Rattle.built.specs.Bench.{oneStrand, odd, HandedOn}
 
 refused : fromParams (oneStrand 3) odd .number ≡ 6
-unfolding fromParams wrongSize unfitNames unfitGlue any tabulate gluesOf glueOf partOf isUnknown knownNames basesOf foldl learn baseOf baseLength sameName
+unfolding fromParams wrongSize unfitNames unfitGlue unfitEntries any tabulate gluesOf glueOf partOf isUnknown knownNames basesOf foldl learn baseOf baseLength sameName
 refused = refl
 
 kept : fromParams (oneStrand 3) odd .dg ≡ odd .dg
-unfolding fromParams wrongSize unfitNames unfitGlue any tabulate gluesOf glueOf partOf isUnknown knownNames basesOf foldl learn baseOf baseLength sameName
+unfolding fromParams wrongSize unfitNames unfitGlue unfitEntries any tabulate gluesOf glueOf partOf isUnknown knownNames basesOf foldl learn baseOf baseLength sameName
 kept = refl
 
 not-answered : fromParams (oneStrand 3) odd .number ≡ 0 → ⊥

@@ -21,7 +21,7 @@ use Rattle.design.specs.Design as Design
 use Rattle.design.specs.Design.{Design}
 use Rattle.design.specs.Checks.{highGlue, beyond, wrongMarks, wrongSizes, sizesOut, cellsOut, badCell, nullGlued, nullCells, nullBinds, numberChecks}
 use Rattle.built.specs.Fits.{Fits, designOf, WrittenFits, Symmetric, WrittenSymmetric}
-use Rattle.built.proofs.Passed.{Passed, answered-as, few-users, strand-marks, scaffold-short, writes-small}
+use Rattle.built.proofs.Passed.{Passed, answered-as, few-users, strands-many, scaffold-short, writes-small}
 use Rattle.built.proofs.Written.{strand-glues-many, scaffold-many, strand-glues-low, scaffold-low, dg-mirrored, ds-mirrored, NullZero, dg-null, ds-null, dg-ranged, ds-ranged}
 
 left-of :
@@ -88,7 +88,7 @@ module _ (p : Params) (lent : Outcome) (passed : Passed p lent) where
       (rw (scaffold-many p) (scaffold-short p lent (passed .size)))
       (omega arith)
       (omega arith)
-      (strand-glues-many p (strand-marks p lent (passed .size)) ∙ omega arith)
+      (strand-glues-many p (strands-many p lent (passed .size)) ∙ omega arith)
       (dg-mirrored (writesOf p) small .many)
       (ds-mirrored (writesOf p) small .many)
       marked

@@ -4,7 +4,6 @@ pub mod Exchanged
 pub mod Passed
 pub mod Written
 pub mod Fits
-pub mod Entries
 pub mod Order
 pub mod Ambients
 pub mod Bench

@@ -9,39 +9,38 @@ use borrow.Author.Tests.{ltb-false}
 use Rattle.lists.specs.Find.{any}
 use Rattle.lists.specs.Each.{Each}
 use Rattle.lists.proofs.Tests.{neither}
-use Rattle.lists.proofs.Each.{each-tabulate}
+use Rattle.lists.proofs.Each.{each-all, each-map}
 use Rattle.reply.specs.Number.{answered}
 use Rattle.reply.specs.First.{Check, firstOf}
 use Rattle.reply.specs.declared.Reply.the-variants.{Admitted}
 use Rattle.reply.proofs.First.{passes}
 use Rattle.reply.proofs.Answer.{is-admitted}
-use Rattle.sdc_common.specs.Lent.{gluesOf, glueAt, unfitNames}
+use Rattle.sdc_common.specs.Lent.{glueOf, gluesOf, unfitNames}
 use Rattle.sdc_common.specs.Spelled.{isUnknown}
 use Rattle.sdc_common.specs.Calls.{tooManyStrands}
 use Rattle.sdc_common.proofs.Fit.{as-many}
-use Rattle.sdc1d_params.specs.Entries.{entryAt}
+use Rattle.sdc1d_params.specs.Entries.{unfitEntries}
 use Rattle.sdc1d_params.specs.Tables.{Write, writeOf, cellsOf, duplicated, outOfRange}
-use Rattle.sdc1d_params.specs.Params.{Params, Outcome, entryCount, firsts, firstAt, bases, cellAtEntry, writesOf, unfitCopied, unfitEntries, unfitScaffold, unfitLent, wrongSize, paramChecks, builtFrom, leftAsLent, fromParams}
+use Rattle.sdc1d_params.specs.Params.{Params, Outcome, bases, firstName, writeOfEntry, writesOf, unfitCopied, unfitScaffold, unfitLent, wrongSize, paramChecks, builtFrom, leftAsLent, fromParams}
+use Rattle.sdc1d_params.specs.declared.Entry.{Entry}
 use Rattle.built.proofs.Numbers.{Small, cell-small}
 
 numbered : (lent : Outcome) (n : ℕ) → leftAsLent lent n .number ≡ n
 numbered lent n = refl
 
--- nine conditions none of which holds
-none-of-nine :
-    (a b c d e f g h i : Bool)
-    → (a || b || c || d || e || f || g || h || i) ≡ false
-    → (a ≡ false) × (b ≡ false) × (c ≡ false) × (d ≡ false) × (e ≡ false) × (f ≡ false) × (g ≡ false) × (h ≡ false) × (i ≡ false)
-none-of-nine a b c d e f g h i none =
-    let t8 = neither (a || b || c || d || e || f || g || h) i none in
-    let t7 = neither (a || b || c || d || e || f || g) h (t8 .0) in
-    let t6 = neither (a || b || c || d || e || f) g (t7 .0) in
+-- seven conditions none of which holds
+none-of-seven :
+    (a b c d e f g : Bool)
+    → (a || b || c || d || e || f || g) ≡ false
+    → (a ≡ false) × (b ≡ false) × (c ≡ false) × (d ≡ false) × (e ≡ false) × (f ≡ false) × (g ≡ false)
+none-of-seven a b c d e f g none =
+    let t6 = neither (a || b || c || d || e || f) g none in
     let t5 = neither (a || b || c || d || e) f (t6 .0) in
     let t4 = neither (a || b || c || d) e (t5 .0) in
     let t3 = neither (a || b || c) d (t4 .0) in
     let t2 = neither (a || b) c (t3 .0) in
     let t1 = neither a b (t2 .0) in
-    (t1 .0, t1 .1, t2 .1, t3 .1, t4 .1, t5 .1, t6 .1, t7 .1, t8 .1)
+    (t1 .0, t1 .1, t2 .1, t3 .1, t4 .1, t5 .1, t6 .1)
 
 -- a list of checks that admits has none that holds
 all-pass : (checks : List Check) → firstOf checks ≡ Admitted → Each (λ c. c .holds ≡ false) checks
@@ -76,25 +75,22 @@ module _ (p : Params) (lent : Outcome) (e : wrongSize p lent ≡ false) where
       (tooManyStrands (p .users) ≡ false)
       × (unfitNames (3 * p .users) (p .text) (p .strands) ≡ false)
       × (unfitScaffold p lent ≡ false)
-      × (unfitEntries p ≡ false)
-      × (unfitNames (entryCount p) (p .text) (firsts p) ≡ false)
-      × (unfitNames (entryCount p) (p .text) (p .seconds) ≡ false)
+      × (unfitEntries (p .text) (p .entries) ≡ false)
       × (unfitCopied (p .users) (p .quencher) ≡ false)
       × (unfitCopied (p .users) (p .reporter) ≡ false)
       × (unfitLent p lent ≡ false)
   unfolding wrongSize
   sizes =
-      none-of-nine (tooManyStrands (p .users)) (unfitNames (3 * p .users) (p .text) (p .strands)) (unfitScaffold p lent) (unfitEntries p)
-      (unfitNames (entryCount p) (p .text) (firsts p)) (unfitNames (entryCount p) (p .text) (p .seconds)) (unfitCopied (p .users) (p .quencher))
-      (unfitCopied (p .users) (p .reporter)) (unfitLent p lent) e
+      none-of-seven (tooManyStrands (p .users)) (unfitNames (3 * p .users) (p .text) (p .strands)) (unfitScaffold p lent) (unfitEntries (p .text) (p .entries))
+      (unfitCopied (p .users) (p .quencher)) (unfitCopied (p .users) (p .reporter)) (unfitLent p lent) e
 
   pub few-users : p .users ≤ 61
   few-users = ltb-false 61 (p .users) (sizes .0)
 
-  pub strand-marks : length (p .strands .marks) ≡ 3 * p .users
-  strand-marks = as-many (3 * p .users) (p .text) (p .strands) (sizes .1)
+  pub strands-many : length (p .strands .each) ≡ 3 * p .users
+  strands-many = as-many (3 * p .users) (p .text) (p .strands) (sizes .1)
 
-  pub scaffold-short : length (p .scaffold .marks) ≤ 128
+  pub scaffold-short : length (p .scaffold .each) ≤ 128
   scaffold-short =
       let n : ℕ = length (lent .scaffoldGlues) in
       let halves = neither (ltb 128 n) (unfitNames n (p .text) (p .scaffold)) (sizes .2) in
@@ -105,5 +101,6 @@ module _ (p : Params) (lent : Outcome) (e : wrongSize p lent ≡ false) where
 pub writes-small : (p : Params) → length (bases p) ≤ 31 → Each (λ w. Small (w .at)) (writesOf p)
 unfolding writesOf writeOf
 writes-small p few =
-    each-tabulate (λ (w : Write). Small (w .at)) (entryCount p) (λ i. writeOf (p .text) (p .penaltyDg) (p .penaltyDs) (cellAtEntry p i) (entryAt (p .energies) i))
-    (λ i h. cell-small (bases p) few (firstAt p i) (glueAt (p .text) (p .seconds) i))
+    each-map (λ (e : Entry). Unit) (λ (w : Write). Small (w .at)) (writeOfEntry p)
+    (λ e t. cell-small (bases p) few (firstName p e) (glueOf (p .text) (e .second))) (p .entries .each)
+    (each-all (λ (e : Entry). Unit) (λ e. tt) (p .entries .each))

@@ -12,10 +12,9 @@ use Rattle.doubles.specs.Range.{inRange}
 use Rattle.lists.specs.Find.{any}
 use Rattle.lists.specs.Each.{Each}
 use Rattle.lists.proofs.Tests.{clash}
-use Rattle.lists.proofs.Build.{length-tabulate}
 use Rattle.lists.proofs.Each.{each-append, each-all, each-getD, each-map, fold-keeps, none-each}
 use Rattle.lists.proofs.Find.{any-replicate}
-use Rattle.sdc_common.specs.Lent.{Names, Glue, gluesOf, glueAt}
+use Rattle.sdc_common.specs.Lent.{Names, Glue, glueOf, gluesOf}
 use Rattle.sdc_common.specs.Numbers.{glueNumber, numbersAmong}
 use Rattle.sdc_common.specs.Spelled.{isUnknown, spelledNumber}
 use Rattle.sdc1d_params.specs.Entries.{isWritten}
@@ -36,9 +35,9 @@ Low glue = highGlue glue ≡ false
 low : (glue : ℕ) → glue < 64 → Low glue
 low glue h = le-ltb 63 glue (omega arith)
 
-glues-many : (text : List ℕ) (names : Names) → length (gluesOf text names) ≡ length (names .marks)
+glues-many : (text : List ℕ) (names : Names) → length (gluesOf text names) ≡ length (names .each)
 unfolding gluesOf
-glues-many text names = length-tabulate (length (names .marks)) (glueAt text names)
+glues-many text names = length-map (names .each) (glueOf text)
 
 module _ (numbers : List ℕ) (each : Each Low numbers) where
   of-strand : (k side : ℕ) → Low (glueOfStrand numbers k side)
@@ -64,11 +63,11 @@ module _ (p : Params) where
   abbrev numbers : List ℕ
   numbers = numbersAmong (strandNames p) (strandNames p)
 
-  numbers-many : length numbers ≡ length (p .strands .marks)
+  numbers-many : length numbers ≡ length (p .strands .each)
   unfolding numbersAmong
   numbers-many = length-map (strandNames p) (glueNumber (bases p)) ∙ glues-many (p .text) (p .strands)
 
-  pub strand-glues-many : length (p .strands .marks) ≡ 3 * p .users → length (strandGluesOf p) ≡ 3 * (p .users + 3)
+  pub strand-glues-many : length (p .strands .each) ≡ 3 * p .users → length (strandGluesOf p) ≡ 3 * (p .users + 3)
   unfolding strandGluesOf
   strand-glues-many e =
       let q = quencher-three numbers (p .quencher) in
@@ -78,7 +77,7 @@ module _ (p : Params) where
       let t = length-append (numbers ++ quencherGlues numbers (p .quencher)) (reporterGlues numbers (p .reporter)) in
       omega arith
 
-  pub scaffold-many : length (map (spelledNumber (bases p)) (gluesOf (p .text) (p .scaffold))) ≡ length (p .scaffold .marks)
+  pub scaffold-many : length (map (spelledNumber (bases p)) (gluesOf (p .text) (p .scaffold))) ≡ length (p .scaffold .each)
   scaffold-many = length-map (gluesOf (p .text) (p .scaffold)) (spelledNumber (bases p)) ∙ glues-many (p .text) (p .scaffold)
 
   module _ (few : length (bases p) ≤ 31) where

@@ -13,7 +13,7 @@ use Rattle.sdc_common.specs.Names.{baseLength, baseOf, starsOf, sameName}
 use Rattle.sdc_common.specs.Lent.{namesOf, partOf, glueOf, gluesOf, unfitGlue, unfitNames}
 use Rattle.sdc_common.specs.Numbers.{learn, basesOf, baseNumber, glueNumber, numbersAmong}
 use Rattle.sdc_common.specs.Spelled.{knownNames, isUnknown, spelledNumber}
-use Rattle.sdc1d_params.specs.Entries.{energiesOf}
+use Rattle.sdc1d_params.specs.Entries.{entriesOf, unfitEntries}
 use Rattle.sdc1d_params.specs.Tables.{duplicated, emptyTable, dgTable, dsTable}
 use Rattle.sdc1d_params.specs.Params.{Params, Outcome, writesOf, wrongSize, strandGluesOf, fromParams}
 use Rattle.sdc1d_params.specs.declared.Copied.the-variants.{Nothing}
@@ -28,12 +28,9 @@ oneStrand bytes =
     record {
       text = 97 ∷ 42 ∷ 42 ∷ [];
       users = 1;
-      strands = namesOf (0 ∷ 0 ∷ 0 ∷ []) (1 ∷ 0 ∷ 0 ∷ []) (1 ∷ 0 ∷ 0 ∷ []);
-      scaffold = namesOf (0 ∷ []) (bytes ∷ []) (1 ∷ []);
-      firstStarts = [];
-      firstLengths = [];
-      seconds = namesOf [] [] [];
-      energies = energiesOf [] [] [] [] [];
+      strands = namesOf (1 ∷ 0 ∷ 1 ∷ 0 ∷ 0 ∷ 0 ∷ 0 ∷ 0 ∷ 0 ∷ []);
+      scaffold = namesOf (1 ∷ 0 ∷ bytes ∷ []);
+      entries = entriesOf [] [];
       penaltyDg = zero;
       penaltyDs = zero;
       quencher = Nothing;
@@ -47,14 +44,14 @@ lent = record { number = 0; strandGlues = replicate 12 9; scaffoldGlues = 9 ∷ 
 -- scaffold name `a**`, strands use `a`: 6, and all that was lent is as it was
 pub line-a-two-stars :
     fromParams (oneStrand 3) lent ≡ record { number = 6; strandGlues = lent .strandGlues; scaffoldGlues = lent .scaffoldGlues; dg = lent .dg; ds = lent .ds }
-unfolding fromParams wrongSize unfitNames unfitGlue any tabulate gluesOf glueOf partOf isUnknown knownNames basesOf foldl learn baseOf baseLength sameName
+unfolding fromParams wrongSize unfitNames unfitGlue unfitEntries any tabulate gluesOf glueOf partOf isUnknown knownNames basesOf foldl learn baseOf baseLength sameName
 line-a-two-stars = refl
 
 -- Added: the same with `a*` is answered. Its glue is 2, that of the strand 1, and every cell is 0.0.
 pub line-a-one-star :
     fromParams (oneStrand 2) lent
     ≡ record { number = 0; strandGlues = 0 ∷ 0 ∷ 0 ∷ 1 ∷ 0 ∷ 0 ∷ 0 ∷ 0 ∷ 0 ∷ 0 ∷ 0 ∷ 0 ∷ []; scaffoldGlues = 2 ∷ []; dg = emptyTable; ds = emptyTable }
-unfolding fromParams wrongSize unfitNames unfitGlue any tabulate gluesOf glueOf partOf isUnknown knownNames basesOf foldl learn baseOf baseLength sameName writesOf duplicated strandGluesOf numbersAmong glueNumber baseNumber starsOf spelledNumber firstIndex dgTable dsTable
+unfolding fromParams wrongSize unfitNames unfitGlue unfitEntries any tabulate gluesOf glueOf partOf isUnknown knownNames basesOf foldl learn baseOf baseLength sameName writesOf duplicated strandGluesOf numbersAmong glueNumber baseNumber starsOf spelledNumber firstIndex dgTable dsTable
 line-a-one-star = refl
 
 -- the same lent, but with a table of dG that is not symmetric: another double at [1][2]

@@ -1,29 +1,12 @@
 -- The order of the energy entries. The Rust keeps them in a hash map, whose order is free; proofs/ shows that it does not matter here.
 use mathlib.Core.Path.{_≡_}
-use mathlib.Core.List.{List, _∷_, _++_, map, List·Permᴰ}
-use Prim.Native.Nat.{ℕ}
-use lib.ListN.{length, getD}
-use lib.Ieee.{Float, nan}
-use Rattle.lists.specs.Build.{tabulate}
+use mathlib.Core.Bool.{true}
+use mathlib.Core.List.{List, _∷_, _++_, List·Permᴰ}
 use Rattle.reply.specs.Number.{numberOf}
 use Rattle.reply.specs.declared.Refusal.{Refusal}
 use Rattle.reply.specs.declared.Refusal.the-variants.{WrongSize}
-use Rattle.sdc_common.specs.Lent.{namesOf}
-use Rattle.sdc1d_params.specs.Entries.{energiesOf}
-use Rattle.sdc1d_params.specs.Params.{Params, Outcome, entryCount, leftAsLent, fromParams}
-
--- an entry: all that is lent of it, at the same place of ten slices
-pub record Entry : Type 0 where
-  pub firstStart : ℕ
-  pub firstLength : ℕ
-  pub secondStart : ℕ
-  pub secondLength : ℕ
-  pub secondMark : ℕ
-  pub form : ℕ
-  pub dg : Float
-  pub ds : Float
-  pub start : ℕ
-  pub size : ℕ
+use Rattle.sdc1d_params.specs.Params.{Params, Outcome, leftAsLent, fromParams}
+use Rattle.sdc1d_params.specs.declared.Entry.{Entry}
 
 -- the parameter set with these entries, in this order, and all else as it was
 unfoldable pub withEntries : Params → List Entry → Params
@@ -33,49 +16,12 @@ withEntries p entries =
       users = p .users;
       strands = p .strands;
       scaffold = p .scaffold;
-      firstStarts = map (λ (e : Entry). e .firstStart) entries;
-      firstLengths = map (λ (e : Entry). e .firstLength) entries;
-      seconds = namesOf (map (λ (e : Entry). e .secondStart) entries) (map (λ (e : Entry). e .secondLength) entries) (map (λ (e : Entry). e .secondMark) entries);
-      energies =
-          energiesOf (map (λ (e : Entry). e .form) entries) (map (λ (e : Entry). e .dg) entries) (map (λ (e : Entry). e .ds) entries)
-          (map (λ (e : Entry). e .start) entries) (map (λ (e : Entry). e .size) entries);
+      entries = record { ragged = p .entries .ragged; each = entries };
       penaltyDg = p .penaltyDg;
       penaltyDs = p .penaltyDs;
       quencher = p .quencher;
       reporter = p .reporter;
     }
-
--- as many of each number as there are entries
-pub record AsMany (p : Params) : Type 0 where
-  pub firstStarts : length (p .firstStarts) ≡ entryCount p
-  pub firstLengths : length (p .firstLengths) ≡ entryCount p
-  pub secondStarts : length (p .seconds .starts) ≡ entryCount p
-  pub secondLengths : length (p .seconds .lengths) ≡ entryCount p
-  pub secondMarks : length (p .seconds .marks) ≡ entryCount p
-  pub dgs : length (p .energies .dgs) ≡ entryCount p
-  pub dss : length (p .energies .dss) ≡ entryCount p
-  pub starts : length (p .energies .starts) ≡ entryCount p
-  pub lengths : length (p .energies .lengths) ≡ entryCount p
-
--- entry i of a parameter set
-abbrev pub entryIn : Params → ℕ → Entry
-entryIn p i =
-    record {
-      firstStart = getD (p .firstStarts) i 0;
-      firstLength = getD (p .firstLengths) i 0;
-      secondStart = getD (p .seconds .starts) i 0;
-      secondLength = getD (p .seconds .lengths) i 0;
-      secondMark = getD (p .seconds .marks) i 0;
-      form = getD (p .energies .forms) i 0;
-      dg = getD (p .energies .dgs) i nan;
-      ds = getD (p .energies .dss) i nan;
-      start = getD (p .energies .starts) i 0;
-      size = getD (p .energies .lengths) i 0;
-    }
-
--- all entries of a parameter set, in order
-abbrev pub entriesIn : Params → List Entry
-entriesIn p = tabulate (entryCount p) (entryIn p)
 
 -- what a refusal leaves: its number, and what was lent as it was
 abbrev pub refusedWith : Refusal → Outcome → Outcome
@@ -92,7 +38,7 @@ pub record OrderFree : Type 0 where
       (p : Params) (lent : Outcome) (entries others : List Entry)
       → List·Permᴰ entries others
       → fromParams (withEntries p entries) lent ≡ fromParams (withEntries p others) lent
-  -- This speaks of every parameter set that has as many of each number as entries: it is the one with its own entries.
-  pub every : (p : Params) → AsMany p → withEntries p (entriesIn p) ≡ p
-  -- Any other is refused for its size, in whatever order its numbers stand.
-  pub uneven : (p : Params) (lent : Outcome) → (AsMany p → ⊥) → fromParams p lent ≡ refusedWith WrongSize lent
+  -- This speaks of every parameter set: it is the one with its own entries.
+  pub every : (p : Params) → withEntries p (p .entries .each) ≡ p
+  -- Rows that are not whole, or have not two doubles each, are refused for their size, whatever they hold.
+  pub uneven : (p : Params) (lent : Outcome) → p .entries .ragged ≡ true → fromParams p lent ≡ refusedWith WrongSize lent

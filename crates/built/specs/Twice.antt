@@ -11,21 +11,21 @@ use Rattle.sdc_common.specs.Names.{baseLength, baseOf, starsOf, sameName}
 use Rattle.sdc_common.specs.Lent.{partOf, glueOf, gluesOf, unfitGlue, unfitNames}
 use Rattle.sdc_common.specs.Numbers.{learn, basesOf, baseNumber}
 use Rattle.sdc_common.specs.Spelled.{knownNames, isUnknown}
-use Rattle.sdc1d_params.specs.Entries as Entries
-use Rattle.sdc1d_params.specs.Entries.{cellOf, entryAt, samePair}
+use Rattle.sdc1d_params.specs.Entries.{cellOf, energyOf, unfitEntry, unfitEntries, samePair}
 use Rattle.sdc1d_params.specs.Tables.{writeOf, duplicated, setBoth, emptyTable, dgTable}
 use Rattle.sdc1d_params.specs.Params.{writesOf, wrongSize, fromParams}
 use Rattle.design.specs.Design.{cell}
-use Rattle.built.specs.Order.{Entry, withEntries}
+use Rattle.sdc1d_params.specs.declared.Entry.{Entry}
+use Rattle.built.specs.Order.{withEntries}
 use Rattle.built.specs.Bench.{oneStrand, lent}
 
 -- an entry for the one name `a`, of the text `a**`, with dG 0.0
 abbrev pub forName : Entry
-forName = record { firstStart = 0; firstLength = 1; secondStart = 0; secondLength = 0; secondMark = 0; form = 0; dg = zero; ds = zero; start = 0; size = 0 }
+forName = record { «first_start» = 0; «first_size» = 1; second = record { mark = 0; start = 0; size = 0 }; form = 0; start = 0; size = 0; dg = zero; ds = zero }
 
 -- and one for the pair of `a*` and `a`, which are its base* and its base, with dG −1
 abbrev pub forPair : Entry
-forPair = record { firstStart = 0; firstLength = 2; secondStart = 0; secondLength = 1; secondMark = 1; form = 0; dg = nearest (minus 1 0); ds = zero; start = 0; size = 0 }
+forPair = record { «first_start» = 0; «first_size» = 2; second = record { mark = 1; start = 0; size = 1 }; form = 0; start = 0; size = 0; dg = nearest (minus 1 0); ds = zero }
 
 -- what stands at [1][2], the cell of `a` and `a*`, after both
 abbrev pub afterBoth : Entry → Entry → Float
@@ -33,20 +33,20 @@ afterBoth first second = cell (dgTable (writesOf (withEntries (oneStrand 2) (fir
 
 -- the later one would win
 pub pair-last : afterBoth forName forPair ≡ nearest (minus 1 0)
-unfolding withEntries writesOf writeOf tabulate gluesOf glueOf partOf basesOf foldl learn any firstIndex baseOf baseLength starsOf sameName baseNumber cellOf entryAt setBoth emptyTable dgTable nearest add
+unfolding withEntries writesOf writeOf tabulate gluesOf glueOf partOf basesOf foldl learn any firstIndex baseOf baseLength starsOf sameName baseNumber cellOf energyOf setBoth emptyTable dgTable nearest add
 pair-last = refl
 
 -- and so it would in the other order
 pub name-last : afterBoth forPair forName ≡ zero
-unfolding withEntries writesOf writeOf tabulate gluesOf glueOf partOf basesOf foldl learn any firstIndex baseOf baseLength starsOf sameName baseNumber cellOf entryAt setBoth emptyTable dgTable nearest add
+unfolding withEntries writesOf writeOf tabulate gluesOf glueOf partOf basesOf foldl learn any firstIndex baseOf baseLength starsOf sameName baseNumber cellOf energyOf setBoth emptyTable dgTable nearest add
 name-last = refl
 
 -- each order is refused
 pub name-pair-refused : fromParams (withEntries (oneStrand 2) (forName ∷ forPair ∷ [])) lent .number ≡ 8
-unfolding withEntries fromParams wrongSize unfitNames unfitGlue any tabulate gluesOf glueOf partOf isUnknown knownNames basesOf foldl learn firstIndex baseOf baseLength starsOf sameName baseNumber writesOf writeOf cellOf entryAt Entries.unfitAt samePair duplicated
+unfolding withEntries fromParams wrongSize unfitNames unfitGlue any tabulate gluesOf glueOf partOf isUnknown knownNames basesOf foldl learn firstIndex baseOf baseLength starsOf sameName baseNumber writesOf writeOf cellOf energyOf unfitEntry unfitEntries samePair duplicated
 name-pair-refused = refl
 
 -- and so is the other order
 pub pair-name-refused : fromParams (withEntries (oneStrand 2) (forPair ∷ forName ∷ [])) lent .number ≡ 8
-unfolding withEntries fromParams wrongSize unfitNames unfitGlue any tabulate gluesOf glueOf partOf isUnknown knownNames basesOf foldl learn firstIndex baseOf baseLength starsOf sameName baseNumber writesOf writeOf cellOf entryAt Entries.unfitAt samePair duplicated
+unfolding withEntries fromParams wrongSize unfitNames unfitGlue any tabulate gluesOf glueOf partOf isUnknown knownNames basesOf foldl learn firstIndex baseOf baseLength starsOf sameName baseNumber writesOf writeOf cellOf energyOf unfitEntry unfitEntries samePair duplicated
 pair-name-refused = refl

@@ -63,13 +63,11 @@ pub extern "C" fn mj_name(
 pub extern "C" fn mj_strand_glues(
     text: &[u8],
     users: usize,
-    starts: &[usize],
-    lengths: &[usize],
-    marks: &[u8],
+    strands: &[usize],
     glues: &mut [u8],
 ) -> u32
-    ensures { λ r. ⌜ r ≡ strandGlues users (now (text .entry)) (namesOf (now (starts .entry)) (now (lengths .entry)) (now (marks .entry))) (length (now (glues .entry))) ⌝ }
-    ensures { λ r. ⌜ now (glues .exit) ≡ gluesAfter users (now (text .entry)) (namesOf (now (starts .entry)) (now (lengths .entry)) (now (marks .entry))) (now (glues .entry)) ⌝ }
+    ensures { λ r. ⌜ r ≡ strandGlues users (now (text .entry)) (namesOf (now (strands .entry))) (length (now (glues .entry))) ⌝ }
+    ensures { λ r. ⌜ now (glues .exit) ≡ gluesAfter users (now (text .entry)) (namesOf (now (strands .entry))) (now (glues .entry)) ⌝ }
 {
-    sdc_common::strand_glues(text, users, starts, lengths, marks, glues).number()
+    sdc_common::strand_glues(text, users, strands, glues).number()
 }

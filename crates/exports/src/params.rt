@@ -1,8 +1,10 @@
 // `from_params` as a C function.
 ghost use mathlib.Core.Path.{_≡_};
 ghost use Rattle.sdc1d_params.specs.Params.{outcomeOf, paramsOf, lentOf, fromParams};
-ghost use Rattle.exports.specs.Copied.{copiedOf};
+ghost use Rattle.exports.specs.Copied.{copiedOf, copiesOf, penaltyOf};
 use sdc1d_params::Copied;
+use sdc1d_params::Copies;
+use sdc1d_params::Penalty;
 use units::KcalPerMol;
 use units::KcalPerMolKelvin;
 
@@ -16,27 +18,27 @@ fn copied(strand: usize) -> Copied
     Copied::Strand(strand)
 }
 
+// Whose glues the quencher and the reporter copy, by number.
+fn copies(quencher: usize, reporter: usize) -> Copies
+    ensures { λ r. ⌜ r ≡ copiesOf quencher reporter ⌝ }
+{
+    let from_quencher = copied(quencher);
+    let from_reporter = copied(reporter);
+    Copies {
+        quencher: from_quencher,
+        reporter: from_reporter,
+    }
+}
+
 // Strand glues, scaffold glues and both tables from names and energies.
 #[no_mangle]
 pub extern "C" fn mj_params(
     text: &[u8],
     users: usize,
-    strand_starts: &[usize],
-    strand_lengths: &[usize],
-    strand_marks: &[u8],
-    scaffold_starts: &[usize],
-    scaffold_lengths: &[usize],
-    scaffold_marks: &[u8],
-    first_starts: &[usize],
-    first_lengths: &[usize],
-    second_starts: &[usize],
-    second_lengths: &[usize],
-    second_marks: &[u8],
-    forms: &[u8],
-    dgs: &[f64],
-    dss: &[f64],
-    starts: &[usize],
-    lengths: &[usize],
+    strands: &[usize],
+    scaffold: &[usize],
+    entries: &[usize],
+    energies: &[f64],
     penalty_dg: f64,
     penalty_ds: f64,
     quencher: usize,
@@ -46,31 +48,20 @@ pub extern "C" fn mj_params(
     dg: &mut [f64],
     ds: &mut [f64],
 ) -> u32
-    ensures { λ r. ⌜ outcomeOf r (now («strand_glues» .exit)) (now («scaffold_glues» .exit)) (now (dg .exit)) (now (ds .exit)) ≡ fromParams (paramsOf (now (text .entry)) users (now («strand_starts» .entry)) (now («strand_lengths» .entry)) (now («strand_marks» .entry)) (now («scaffold_starts» .entry)) (now («scaffold_lengths» .entry)) (now («scaffold_marks» .entry)) (now («first_starts» .entry)) (now («first_lengths» .entry)) (now («second_starts» .entry)) (now («second_lengths» .entry)) (now («second_marks» .entry)) (now (forms .entry)) (now (dgs .entry)) (now (dss .entry)) (now (starts .entry)) (now (lengths .entry)) «penalty_dg» «penalty_ds» (copiedOf quencher) (copiedOf reporter)) (lentOf (now («strand_glues» .entry)) (now («scaffold_glues» .entry)) (now (dg .entry)) (now (ds .entry))) ⌝ }
+    ensures { λ r. ⌜ outcomeOf r (now («strand_glues» .exit)) (now («scaffold_glues» .exit)) (now (dg .exit)) (now (ds .exit)) ≡ fromParams (paramsOf (now (text .entry)) users (now (strands .entry)) (now (scaffold .entry)) (now (entries .entry)) (now (energies .entry)) (penaltyOf «penalty_dg» «penalty_ds») (copiesOf quencher reporter)) (lentOf (now («strand_glues» .entry)) (now («scaffold_glues» .entry)) (now (dg .entry)) (now (ds .entry))) ⌝ }
 {
     sdc1d_params::from_params(
         text,
         users,
-        strand_starts,
-        strand_lengths,
-        strand_marks,
-        scaffold_starts,
-        scaffold_lengths,
-        scaffold_marks,
-        first_starts,
-        first_lengths,
-        second_starts,
-        second_lengths,
-        second_marks,
-        forms,
-        dgs,
-        dss,
-        starts,
-        lengths,
-        KcalPerMol(penalty_dg),
-        KcalPerMolKelvin(penalty_ds),
-        copied(quencher),
-        copied(reporter),
+        strands,
+        scaffold,
+        entries,
+        energies,
+        Penalty {
+            dg: KcalPerMol(penalty_dg),
+            ds: KcalPerMolKelvin(penalty_ds),
+        },
+        copies(quencher, reporter),
         strand_glues,
         scaffold_glues,
         dg,

@@ -3,7 +3,7 @@ use mathlib.Core.Path.{_≡_, refl, ap, ap₂, sym, _∙_}
 use mathlib.Core.Bool.{Bool, true, false, cond, _||_}
 use mathlib.Core.List.{List, map}
 use mathlib.Core.Option.{none, some}
-use Prim.Native.Nat.{ℕ, zero, suc, _+_, _*_, _-_, _%_, _<_, _≤_}
+use Prim.Native.Nat.{ℕ, zero, suc, _+_, _*_, _-_, _/_, _%_, _<_, _≤_}
 use native.Mathlib.Omega.{arith}
 use lib.Dec.{eqb}
 use lib.ListN.{length, getD}
@@ -13,14 +13,17 @@ use Rattle.lists.specs.Build.{tabulate, upTo}
 use Rattle.lists.proofs.Build.{length-tabulate, getD-tabulate}
 use Rattle.lists.proofs.Counted.{map-tabulate, tabulate-same, any-fails}
 use Rattle.sdc_common.specs.Names.{Name, baseOf, starsOf, sameName}
-use Rattle.sdc_common.specs.Lent.{Names, Glue, partOf, glueOf, glueAt, gluesOf}
+use Rattle.sdc_common.specs.Lent.{Glue, partOf, namesOf, glueOf, gluesOf}
+use Rattle.sdc_common.specs.declared.names.LentName.{LentName}
 use Rattle.sdc_common.specs.Numbers.{isKnown, numberAt, baseNumber, nameNumber, glueNumber, basesOf, numbersAmong}
 use Rattle.sdc_common.specs.Spelled.{isUnknown, spelledNumber}
 use Rattle.sdc_common.specs.Calls.{tooManyBases}
+use Rattle.sdc_common.proofs.Fit.{glueAt, glues-listed}
 use Rattle.sdc_common.proofs.Spelled.{bases-bare}
 use Rattle.sdc_common.proofs.Looked.{unknown-spelled, spelled-number, number-at-most, glue-at-most}
 use Rattle.sdc1d_params.specs.Entries.{cell, cellOf}
-use Rattle.sdc1d_params.specs.inner.Cells.{baseAt, refOrPair, cellOfNames}
+use Rattle.sdc1d_params.specs.inner.Cells.{baseAt, refOrPair, cellOfNames, firstOf}
+use Rattle.sdc1d_params.specs.declared.Entry.{Entry}
 use Rattle.sdc1d_params.specs.inner.Scaffold.{unknownBy, unknownAt}
 use Rattle.sdc1d_params.specs.declared.cells.RefOrPair.the-variants.{Ref, Pair}
 
@@ -32,22 +35,27 @@ any-same p q (suc n) f g h = ap₂ (λ (x y : Bool). x || y) (h 0 (omega arith))
 
 -- ---- numbers of lent names, one by one
 
-module _ (strands : List Glue) (text : List ℕ) (names : Names) (numbers : List ℕ) (e : numbers ≡ numbersAmong strands (gluesOf text names)) where
-  listed : numbers ≡ tabulate (length (names .marks)) (λ k. glueNumber (basesOf strands) (glueAt text names k))
-  unfolding numbersAmong gluesOf
-  listed = e ∙ map-tabulate (glueNumber (basesOf strands)) (length (names .marks)) (glueAt text names)
+-- by the bases of a table that holds those of the strands
+pub numbers-among : (strands glues : List Glue) (bases : List Name) (numbers : List ℕ) → bases ≡ basesOf strands → numbers ≡ map (glueNumber bases) glues → numbers ≡ numbersAmong strands glues
+unfolding numbersAmong
+numbers-among strands glues bases numbers b e = e ∙ ap (λ (bs : List Name). map (glueNumber bs) glues) b
 
-  pub numbers-length : length numbers ≡ length (names .marks)
-  numbers-length = ap length listed ∙ length-tabulate (length (names .marks)) (λ k. glueNumber (basesOf strands) (glueAt text names k))
+module _ (strands : List Glue) (text rows numbers : List ℕ) (e : numbers ≡ numbersAmong strands (gluesOf text (namesOf rows))) where
+  listed : numbers ≡ tabulate (length rows / 3) (λ k. glueNumber (basesOf strands) (glueAt text rows k))
+  unfolding numbersAmong
+  listed = e ∙ ap (map (glueNumber (basesOf strands))) (glues-listed text rows) ∙ map-tabulate (glueNumber (basesOf strands)) (length rows / 3) (glueAt text rows)
 
-  pub number-at : (k : ℕ) → k < length (names .marks) → getD numbers k 0 ≡ glueNumber (basesOf strands) (glueAt text names k)
-  number-at k h = ap (λ (xs : List ℕ). getD xs k 0) listed ∙ getD-tabulate (length (names .marks)) (λ j. glueNumber (basesOf strands) (glueAt text names j)) 0 k h
+  pub numbers-length : length numbers ≡ length rows / 3
+  numbers-length = ap length listed ∙ length-tabulate (length rows / 3) (λ k. glueNumber (basesOf strands) (glueAt text rows k))
 
-  pub number-small : tooManyBases strands ≡ false → (k : ℕ) → k < length (names .marks) → getD numbers k 0 < 64
+  pub number-at : (k : ℕ) → k < length rows / 3 → getD numbers k 0 ≡ glueNumber (basesOf strands) (glueAt text rows k)
+  number-at k h = ap (λ (xs : List ℕ). getD xs k 0) listed ∙ getD-tabulate (length rows / 3) (λ j. glueNumber (basesOf strands) (glueAt text rows j)) 0 k h
+
+  pub number-small : tooManyBases strands ≡ false → (k : ℕ) → k < length rows / 3 → getD numbers k 0 < 64
   number-small few k h =
       let most : length (basesOf strands) ≤ 31 = ltb-false 31 (length (basesOf strands)) few in
-      let at : getD numbers k 0 ≡ glueNumber (basesOf strands) (glueAt text names k) = number-at k h in
-      omega (arith, glue-at-most (basesOf strands) (glueAt text names k))
+      let at : getD numbers k 0 ≡ glueNumber (basesOf strands) (glueAt text rows k) = number-at k h in
+      omega (arith, glue-at-most (basesOf strands) (glueAt text rows k))
 
   -- ---- names as spelled
 
@@ -56,20 +64,19 @@ module _ (strands : List Glue) (text : List ℕ) (names : Names) (numbers : List
   unknown-is bases none b = refl
   unknown-is bases (some name) b = rw b (unknown-spelled (basesOf strands) (bases-bare strands) name)
 
-  pub unknown-found : any (unknownAt text names numbers) (upTo (length (names .marks))) ≡ any (isUnknown (basesOf strands)) (gluesOf text names)
-  unfolding gluesOf
+  pub unknown-found : any (unknownAt text rows numbers) (upTo (length rows / 3)) ≡ any (isUnknown (basesOf strands)) (gluesOf text (namesOf rows))
   unknown-found =
-      any-same (unknownAt text names numbers) (isUnknown (basesOf strands)) (length (names .marks)) (λ k. k) (glueAt text names)
-      (λ k h. ap (λ (n : ℕ). unknownBy n (glueAt text names k)) (number-at k h) ∙ unknown-is (basesOf strands) (glueAt text names k) refl)
+      any-same (unknownAt text rows numbers) (isUnknown (basesOf strands)) (length rows / 3) (λ k. k) (glueAt text rows)
+      (λ k h. ap (λ (n : ℕ). unknownBy n (glueAt text rows k)) (number-at k h) ∙ unknown-is (basesOf strands) (glueAt text rows k) refl)
+      ∙ ap (any (isUnknown (basesOf strands))) (sym (glues-listed text rows))
 
   -- where none is unknown, the numbers are those of the names as spelled
-  pub numbers-spelled : any (isUnknown (basesOf strands)) (gluesOf text names) ≡ false → numbers ≡ map (spelledNumber (basesOf strands)) (gluesOf text names)
-  unfolding gluesOf
+  pub numbers-spelled : any (isUnknown (basesOf strands)) (gluesOf text (namesOf rows)) ≡ false → numbers ≡ map (spelledNumber (basesOf strands)) (gluesOf text (namesOf rows))
   numbers-spelled known =
       listed
-      ∙ tabulate-same (length (names .marks)) (λ k. glueNumber (basesOf strands) (glueAt text names k)) (λ k. spelledNumber (basesOf strands) (glueAt text names k))
-      (λ k h. sym (spelled-number (basesOf strands) (bases-bare strands) (glueAt text names k) (any-fails (isUnknown (basesOf strands)) (length (names .marks)) (glueAt text names) known k h)))
-      ∙ sym (map-tabulate (spelledNumber (basesOf strands)) (length (names .marks)) (glueAt text names))
+      ∙ tabulate-same (length rows / 3) (λ k. glueNumber (basesOf strands) (glueAt text rows k)) (λ k. spelledNumber (basesOf strands) (glueAt text rows k))
+      (λ k h. sym (spelled-number (basesOf strands) (bases-bare strands) (glueAt text rows k) (any-fails (isUnknown (basesOf strands)) (length rows / 3) (glueAt text rows) (ap (any (isUnknown (basesOf strands))) (sym (glues-listed text rows)) ∙ known) k h)))
+      ∙ sym (ap (map (spelledNumber (basesOf strands))) (glues-listed text rows) ∙ map-tabulate (spelledNumber (basesOf strands)) (length rows / 3) (glueAt text rows))
 
 -- ---- the cell of an entry
 
@@ -94,14 +101,19 @@ one-cell bases base stars n e = go (isKnown bases base) e
     go true h = one-known n (firstIndex (sameName base) bases) stars h
     go false h = rw h
 
-module _ (bases : List Name) (first : Name) (text : List ℕ) (kind start size n m : ℕ) where
-  pub cell-found : n ≡ nameNumber bases first → m ≡ glueNumber bases (glueOf text kind start size) → cellOfNames (refOrPair kind n m) ≡ cellOf bases first (glueOf text kind start size)
+module _ (bases : List Name) (first : Name) (text : List ℕ) (second : LentName) (n m : ℕ) where
+  pub cell-found : n ≡ nameNumber bases first → m ≡ glueNumber bases (glueOf text second) → cellOfNames (refOrPair (second .mark) n m) ≡ cellOf bases first (glueOf text second)
   unfolding glueOf cellOf glueNumber
-  cell-found e f = go (eqb kind 0) f
+  cell-found e f = go (eqb (second .mark) 0) f
     where
-      go : (t : Bool) → m ≡ glueNumber bases (cond t none (some (partOf text start size))) → cellOfNames (cond t (Ref n) (Pair n m)) ≡ cellOf bases first (cond t none (some (partOf text start size)))
+      go : (t : Bool) → m ≡ glueNumber bases (cond t none (some (partOf text (second .start) (second .size)))) → cellOfNames (cond t (Ref n) (Pair n m)) ≡ cellOf bases first (cond t none (some (partOf text (second .start) (second .size))))
       go true g = one-cell bases (baseOf first) (starsOf first) n e
       go false g = ap₂ cell e g
+
+-- the number of an entry's first name, which is always there
+pub first-number : (bases : List Name) (text : List ℕ) (e : Entry) → glueNumber bases (glueOf text (firstOf e)) ≡ nameNumber bases (partOf text (e .«first_start») (e .«first_size»))
+unfolding glueOf glueNumber
+first-number bases text e = refl
 
 -- no cell is beyond two for each base
 pub cell-inside : (bases : List Name) (first : Name) (second : Glue) → length bases ≤ 31 → (cellOf bases first second .row < 64) × (cellOf bases first second .column < 64)

@@ -7,8 +7,7 @@ use native.Mathlib.Omega.{arith}
 use lib.ListN.{length, getD, set, take, drop, length-append, length-drop, length-map, List·getD-append, drop-of-length-le}
 use lib.Seq.{length-take-le, take-at, drop-at, getD-drop}
 use borrow.Author.Tests.{eq-eqb}
-use Rattle.lists.proofs.Build.{length-tabulate}
-use Rattle.sdc_common.specs.Lent.{Names, glueAt, gluesOf}
+use Rattle.sdc_common.specs.Lent.{Names, glueOf, gluesOf}
 use Rattle.sdc_common.specs.Numbers.{basesOf, glueNumber, numbersAmong}
 use Rattle.sdc_common.specs.Calls.{unfitStrands, tooManyBases, gluesAfter}
 use Rattle.sdc_common.proofs.Fit.{strand-glues}
@@ -139,5 +138,5 @@ pub numbers-many : (users : ℕ) (text : List ℕ) (strands : Names) → unfitSt
 unfolding numbersAmong gluesOf
 numbers-many users text strands fit =
     length-map (gluesOf text strands) (glueNumber (basesOf (gluesOf text strands)))
-    ∙ length-tabulate (length (strands .marks)) (glueAt text strands)
+    ∙ length-map (strands .each) (glueOf text)
     ∙ strand-glues users text strands fit

@@ -5,37 +5,18 @@ use mathlib.Core.List.{List}
 use Prim.Native.Nat.{ℕ, _-_, _≤_}
 use native.Mathlib.Omega.{arith}
 use lib.Dec.{ltb}
-use lib.ListN.{length}
 use borrow.Author.Tests.{eq-eqb, ne-eqb}
 use Rattle.reply.specs.Number.{numberOf}
 use Rattle.reply.specs.declared.Refusal.{Refusal}
 use Rattle.reply.specs.declared.Reply.the-variants.{Admitted, Refused}
 use Rattle.reply.proofs.Answer.{is-refused}
 use Rattle.sdc_common.specs.Names.{baseLength, starsOf, isFrom}
-use Rattle.sdc_common.specs.Lent.{Names, gluesOf, glueOf, partOf, unfitName, unfitNames}
-use Rattle.sdc_common.specs.Numbers.{basesOf, numbersAmong}
-use Rattle.sdc_common.specs.Calls.{NameFigures, refusedName, givenName, selfAndInverse, NumbersFigures, refusedNumbers, givenNumbers, unfitStrands, nameNumbers, numbersAfter}
+use Rattle.sdc_common.specs.Lent.{glueOf, partOf, unfitName}
+use Rattle.sdc_common.specs.Calls.{NameFigures, refusedName, givenName, selfAndInverse}
+use Rattle.sdc_common.specs.declared.names.LentName.{LentName}
 use Rattle.sdc_common.proofs.Bases.{base-le}
 use Rattle.sdc_common.proofs.Held.{fits, part-length, glue-absent, glue-present}
 use Rattle.sdc1d_params.specs.inner.Scaffold.{unknownBy}
-
--- ---- numbers of names
-
-module _ (users : ℕ) (text : List ℕ) (strands names : Names) (e : unfitStrands users text strands ≡ false) where
-  pub numbers-given : (n : ℕ) → unfitNames n text names ≡ false → nameNumbers users text strands names n ≡ givenNumbers (length (basesOf (gluesOf text strands)))
-  unfolding nameNumbers
-  numbers-given n f = rw (e, f)
-
-  pub numbers-after : (lent : List ℕ) → unfitNames (length lent) text names ≡ false → numbersAfter users text strands names lent ≡ numbersAmong (gluesOf text strands) (gluesOf text names)
-  unfolding numbersAfter
-  numbers-after lent f = rw (e, f)
-
--- figures that are given are those of no refusal
-pub not-refused : (r : Refusal) (bases : ℕ) → refusedNumbers (numberOf r) ≡ givenNumbers bases → ⊥
-not-refused r bases e =
-    let reply = is-refused (λ (f : NumbersFigures). f .number) refusedNumbers (λ n. refl) (givenNumbers bases) Admitted r refl e in
-    let same : Admitted ≡ Refused r (reply .0) = reply .1 in
-    (let z : _≡_ {A = ℕ} 0 1 = cc in omega arith)
 
 -- ---- the base of a name
 
@@ -63,15 +44,15 @@ module _ (text : List ℕ) (start size : ℕ) (fit : unfitName text start size �
 
 -- ---- unknown names
 
-module _ (text : List ℕ) (mark start size number : ℕ) where
-  pub absent-known : mark ≡ 0 → false ≡ unknownBy number (glueOf text mark start size)
+module _ (text : List ℕ) (name : LentName) (number : ℕ) where
+  pub absent-known : name .mark ≡ 0 → false ≡ unknownBy number (glueOf text name)
   unfolding unknownBy
-  absent-known h = rw (glue-absent text mark start size h)
+  absent-known h = rw (glue-absent text name h)
 
-  pub unnumbered : (mark ≡ 0 → ⊥) → number ≡ 0 → true ≡ unknownBy number (glueOf text mark start size)
+  pub unnumbered : (name .mark ≡ 0 → ⊥) → number ≡ 0 → true ≡ unknownBy number (glueOf text name)
   unfolding unknownBy
-  unnumbered h e = rw (glue-present text mark start size h, eq-eqb number 0 e)
+  unnumbered h e = rw (glue-present text name h, eq-eqb number 0 e)
 
-  pub by-stars : (mark ≡ 0 → ⊥) → (number ≡ 0 → ⊥) → (stars : ℕ) → stars ≡ starsOf (partOf text start size) → ltb 1 stars ≡ unknownBy number (glueOf text mark start size)
+  pub by-stars : (name .mark ≡ 0 → ⊥) → (number ≡ 0 → ⊥) → (stars : ℕ) → stars ≡ starsOf (partOf text (name .start) (name .size)) → ltb 1 stars ≡ unknownBy number (glueOf text name)
   unfolding unknownBy
-  by-stars h e stars s = rw (glue-present text mark start size h, ne-eqb number 0 e, s)
+  by-stars h e stars s = rw (glue-present text name h, ne-eqb number 0 e, s)

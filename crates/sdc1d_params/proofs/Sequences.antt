@@ -22,11 +22,11 @@ use Rattle.utils.specs.Bases.{notABase}
 use Rattle.utils.specs.Single.{tooLong, tooShort, sequenceChecks, stringDnaDgDs}
 use Rattle.sdc_common.specs.Lent.{partOf, leaves}
 use Rattle.sdc_common.proofs.Held.{part-length}
-use Rattle.sdc1d_params.specs.Entries.{unfitEntry}
+use Rattle.sdc1d_params.specs.Entries.{unfitEnergy}
 use Rattle.sdc1d_params.specs.declared.entries.GsOrSeq.the-variants.{Sequence}
 use lib.Ieee.{Float}
 
-module _ (text : List ℕ) (start size : ℕ) (fit : unfitEntry text (Sequence start size) ≡ false) where
+module _ (text : List ℕ) (start size : ℕ) (fit : unfitEnergy text (Sequence start size) ≡ false) where
   halves : (leaves text start size ≡ false) × (tooLong (partOf text start size) ≡ false)
   halves = neither (leaves text start size) (tooLong (partOf text start size)) fit
 

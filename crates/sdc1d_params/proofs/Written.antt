@@ -5,7 +5,7 @@ use mathlib.Core.List.{List, _∷_, map}
 use Prim.Native.Nat.{ℕ, zero, suc, _+_, _*_, _-_, _<_, _≤_}
 use native.Mathlib.Nat.{not-suc-le-zero, le-of-suc-le-suc}
 use native.Mathlib.Omega.{arith}
-use lib.Dec.{eqb}
+use lib.Dec.{eqb, ltb}
 use lib.Ieee.{Float}
 use lib.ListN.{length, take, replicate, length-replicate, length-map}
 use borrow.Author.Tests.{eqb-true, not-false, lt-ltb}
@@ -14,8 +14,6 @@ use Rattle.lists.specs.Find.{any}
 use Rattle.lists.specs.Fold.{foldl}
 use Rattle.lists.specs.Build.{tabulate}
 use Rattle.lists.proofs.Tests.{neither}
-use Rattle.lists.proofs.Build.{length-tabulate}
-use Rattle.lists.proofs.Counted.{tabulate-same}
 use Rattle.reply.specs.Number.{numberOf, answered}
 use Rattle.reply.specs.First.{firstOf, refusedIf, answer}
 use Rattle.reply.specs.declared.Refusal.{Refusal}
@@ -24,18 +22,18 @@ use Rattle.reply.specs.declared.Place.{Place}
 use Rattle.reply.specs.declared.Place.the-variants.{Nowhere}
 use Rattle.reply.specs.declared.Reply.{Reply}
 use Rattle.reply.specs.declared.Reply.the-variants.{Admitted, Refused}
-use Rattle.sdc_common.specs.Lent.{glueAt, gluesOf, unfitNames}
+use Rattle.sdc_common.specs.Lent.{glueOf, gluesOf}
 use Rattle.sdc_common.specs.Numbers.{numbersAmong}
 use Rattle.sdc_common.specs.Spelled.{isUnknown, spelledNumber}
-use Rattle.sdc_common.specs.Calls.{tooManyStrands, tooManyBases}
+use Rattle.sdc_common.specs.Calls.{unfitStrands, tooManyBases}
 use Rattle.sdc_common.proofs.Fit.{as-many}
-use Rattle.sdc1d_params.specs.Entries.{Cell, entryAt, entriesOf, hasBadBase, isShort}
-use Rattle.sdc1d_params.specs.Tables.{Write, writeOf, cellsOf, duplicated, outOfRange, writeDg, writeDs, emptyTable, dgTable, dsTable}
+use Rattle.sdc1d_params.specs.Entries.{entryAt, entryRows, unfitEntry, unfitEntries, hasBadBase, isShort}
+use Rattle.sdc1d_params.specs.Tables.{Write, cellsOf, duplicated, outOfRange, writeDg, writeDs, emptyTable, dgTable, dsTable}
 use Rattle.sdc1d_params.specs.inner.Cells.{writeAt}
-use Rattle.sdc1d_params.specs.Params.{Params, Outcome, outcomeOf, entryCount, firsts, strandNames, bases, cellAtEntry, writesOf, unfitCopied, unfitLent, unfitScaffold, unfitEntries, wrongSize, paramChecks, withCopies, strandGluesOf, fromParams}
+use Rattle.sdc1d_params.specs.Params.{Params, Outcome, outcomeOf, energiesOf, strandNames, bases, writesOf, unfitCopied, unfitLent, unfitScaffold, wrongSize, paramChecks, withCopies, strandGluesOf, fromParams}
 use Rattle.sdc1d_params.specs.inner.Checked.{Checked}
 use Rattle.sdc1d_params.proofs.Lengths.{Sized, sized}
-use Rattle.sdc1d_params.proofs.Passed.{never, reply-size}
+use Rattle.sdc1d_params.proofs.Passed.{never, reply-size, written}
 
 conditions-step :
     (a b c d e f g : Bool)
@@ -62,7 +60,7 @@ module _ (p : Params) (lent : Outcome) where
 
   conditions : firstOf (paramChecks p lent) ≡ Admitted → (wrongSize p lent ≡ false) × (tooManyBases (strandNames p) ≡ false)
   conditions e =
-      conditions-step (wrongSize p lent) (any (hasBadBase (p .text)) (entriesOf (p .energies) (entryCount p))) (any (isShort (p .text)) (entriesOf (p .energies) (entryCount p)))
+      conditions-step (wrongSize p lent) (any (hasBadBase (p .text)) (energiesOf p)) (any (isShort (p .text)) (energiesOf p))
       (any (isUnknown (bases p)) (gluesOf (p .text) (p .scaffold))) (tooManyBases (strandNames p)) (duplicated (cellsOf (writesOf p))) (any outOfRange (writesOf p)) e
 
   pub fits-tables : firstOf (paramChecks p lent) ≡ Admitted → tooManyBases (strandNames p) ≡ false
@@ -77,28 +75,25 @@ module _ (p : Params) (lent : Outcome) where
       let two = neither (not (eqb (length (lent .strandGlues)) (3 * (p .users + 3)))) (not (eqb (length (lent .dg)) 4096)) (last .0) in
       (eqb-true _ _ (not-false _ (two .0)), eqb-true _ _ (not-false _ (two .1)), eqb-true _ _ (not-false _ (last .1)))
 
-  module _ (numbers rows columns : List ℕ) (w : Checked p numbers rows columns) where
+  module _ (entries : List ℕ) (energies : List Float) (same : p .entries .each ≡ tabulate (entryRows entries) (entryAt entries energies))
+      (numbers rows columns : List ℕ) (w : Checked p entries energies numbers rows columns) where
     pub as-many-positions : Sized p lent → length (lent .scaffoldGlues) ≡ length numbers
     unfolding gluesOf
     as-many-positions fit =
-        sym (ap length (w .spelled) ∙ length-map (gluesOf (p .text) (p .scaffold)) (spelledNumber (bases p)) ∙ length-tabulate (length (p .scaffold .marks)) (glueAt (p .text) (p .scaffold)) ∙ as-many (length (lent .scaffoldGlues)) (p .text) (p .scaffold) (fit .scaffold))
+        sym (ap length (w .spelled) ∙ length-map (gluesOf (p .text) (p .scaffold)) (spelledNumber (bases p)) ∙ length-map (p .scaffold .each) (glueOf (p .text)) ∙ as-many (length (lent .scaffoldGlues)) (p .text) (p .scaffold) (fit .scaffold))
 
-    writes : tabulate (entryCount p) (writeAt (p .text) (p .energies) (p .penaltyDg) (p .penaltyDs) rows columns) ≡ writesOf p
-    unfolding writesOf
-    writes =
-        tabulate-same (entryCount p) (writeAt (p .text) (p .energies) (p .penaltyDg) (p .penaltyDs) rows columns)
-        (λ i. writeOf (p .text) (p .penaltyDg) (p .penaltyDs) (cellAtEntry p i) (entryAt (p .energies) i))
-        (λ k h. ap (λ (x : Cell). writeOf (p .text) (p .penaltyDg) (p .penaltyDs) x (entryAt (p .energies) k)) (w .cells k h))
+    writes : tabulate (entryRows entries) (writeAt (p .text) entries energies (p .penaltyDg) (p .penaltyDs) rows columns) ≡ writesOf p
+    writes = written p entries energies rows columns same (w .cells)
 
     cleared : {n : ℕ} (table : List Float) → n ≡ 4096 → table ≡ replicate n doubles.zero → table ≡ emptyTable
     unfolding emptyTable
     cleared table l e = e ∙ ap (λ (n : ℕ). replicate n doubles.zero) l
 
-    dg-written : {n : ℕ} (table out : List Float) → n ≡ 4096 → table ≡ replicate n doubles.zero → out ≡ foldl writeDg table (tabulate (entryCount p) (writeAt (p .text) (p .energies) (p .penaltyDg) (p .penaltyDs) rows columns)) → out ≡ dgTable (writesOf p)
+    dg-written : {n : ℕ} (table out : List Float) → n ≡ 4096 → table ≡ replicate n doubles.zero → out ≡ foldl writeDg table (tabulate (entryRows entries) (writeAt (p .text) entries energies (p .penaltyDg) (p .penaltyDs) rows columns)) → out ≡ dgTable (writesOf p)
     unfolding dgTable
     dg-written table out l e d = d ∙ ap₂ (λ (t : List Float) (ws : List Write). foldl writeDg t ws) (cleared table l e) writes
 
-    ds-written : {n : ℕ} (table out : List Float) → n ≡ 4096 → table ≡ replicate n doubles.zero → out ≡ foldl writeDs table (tabulate (entryCount p) (writeAt (p .text) (p .energies) (p .penaltyDg) (p .penaltyDs) rows columns)) → out ≡ dsTable (writesOf p)
+    ds-written : {n : ℕ} (table out : List Float) → n ≡ 4096 → table ≡ replicate n doubles.zero → out ≡ foldl writeDs table (tabulate (entryRows entries) (writeAt (p .text) entries energies (p .penaltyDg) (p .penaltyDs) rows columns)) → out ≡ dsTable (writesOf p)
     unfolding dsTable
     ds-written table out l e d = d ∙ ap₂ (λ (t : List Float) (ws : List Write). foldl writeDs t ws) (cleared table l e) writes
 
@@ -113,8 +108,8 @@ module _ (p : Params) (lent : Outcome) where
         → scaffold ≡ numbers
         → dg0 ≡ replicate (length (lent .dg)) doubles.zero
         → ds0 ≡ replicate (length (lent .ds)) doubles.zero
-        → dg ≡ foldl writeDg dg0 (tabulate (entryCount p) (writeAt (p .text) (p .energies) (p .penaltyDg) (p .penaltyDs) rows columns))
-        → ds ≡ foldl writeDs ds0 (tabulate (entryCount p) (writeAt (p .text) (p .energies) (p .penaltyDg) (p .penaltyDs) rows columns))
+        → dg ≡ foldl writeDg dg0 (tabulate (entryRows entries) (writeAt (p .text) entries energies (p .penaltyDg) (p .penaltyDs) rows columns))
+        → ds ≡ foldl writeDs ds0 (tabulate (entryRows entries) (writeAt (p .text) entries energies (p .penaltyDg) (p .penaltyDs) rows columns))
         → outcomeOf answered strands scaffold dg ds ≡ fromParams p lent
     all-written strands scaffold dg0 ds0 dg ds e a b c d f g =
         let l = fits-lengths (fits-sizes e) in
@@ -127,31 +122,33 @@ cleared-length {n} table l e = ap length e ∙ length-replicate n doubles.zero �
 
 -- ---- limits
 
-entries-hold : (t u x e f s q r l : Bool) → e ≡ true → (t || u || x || e || f || s || q || r || l) ≡ true
-entries-hold true u x e f s q r l h = refl
-entries-hold false true x e f s q r l h = refl
-entries-hold false false true e f s q r l h = refl
-entries-hold false false false e f s q r l h = rw h
+positions-hold : (t x e q r l : Bool) → x ≡ true → (t || x || e || q || r || l) ≡ true
+positions-hold true x e q r l h = refl
+positions-hold false x e q r l h = rw h
 
-positions-hold : (t u x e f s q r l : Bool) → x ≡ true → (t || u || x || e || f || s || q || r || l) ≡ true
-positions-hold true u x e f s q r l h = refl
-positions-hold false true x e f s q r l h = refl
-positions-hold false false x e f s q r l h = rw h
+entries-hold : (t x e q r l : Bool) → e ≡ true → (t || x || e || q || r || l) ≡ true
+entries-hold true x e q r l h = refl
+entries-hold false true e q r l h = refl
+entries-hold false false e q r l h = rw h
+
+over-limit : (ragged many unfit : Bool) → many ≡ true → (ragged || many || unfit) ≡ true
+over-limit true many unfit h = refl
+over-limit false many unfit h = rw h
 
 module _ (p : Params) (lent : Outcome) where
-  many-entries : 1024 < entryCount p → wrongSize p lent ≡ true
-  unfolding wrongSize
+  many-entries : 1024 < length (p .entries .each) → wrongSize p lent ≡ true
+  unfolding wrongSize unfitEntries
   many-entries h =
-      let over : unfitEntries p ≡ true = rw (lt-ltb 1024 (entryCount p) h) in
-      entries-hold (tooManyStrands (p .users)) (unfitNames (3 * p .users) (p .text) (p .strands)) (unfitScaffold p lent) (unfitEntries p) (unfitNames (entryCount p) (p .text) (firsts p)) (unfitNames (entryCount p) (p .text) (p .seconds)) (unfitCopied (p .users) (p .quencher)) (unfitCopied (p .users) (p .reporter)) (unfitLent p lent) over
+      entries-hold (unfitStrands (p .users) (p .text) (p .strands)) (unfitScaffold p lent) (unfitEntries (p .text) (p .entries)) (unfitCopied (p .users) (p .quencher)) (unfitCopied (p .users) (p .reporter)) (unfitLent p lent)
+      (over-limit (p .entries .ragged) (ltb 1024 (length (p .entries .each))) (any (unfitEntry (p .text)) (p .entries .each)) (lt-ltb 1024 (length (p .entries .each)) h))
 
   many-positions : 128 < length (lent .scaffoldGlues) → wrongSize p lent ≡ true
   unfolding wrongSize
   many-positions h =
       let over : unfitScaffold p lent ≡ true = rw (lt-ltb 128 (length (lent .scaffoldGlues)) h) in
-      positions-hold (tooManyStrands (p .users)) (unfitNames (3 * p .users) (p .text) (p .strands)) (unfitScaffold p lent) (unfitEntries p) (unfitNames (entryCount p) (p .text) (firsts p)) (unfitNames (entryCount p) (p .text) (p .seconds)) (unfitCopied (p .users) (p .quencher)) (unfitCopied (p .users) (p .reporter)) (unfitLent p lent) over
+      positions-hold (unfitStrands (p .users) (p .text) (p .strands)) (unfitScaffold p lent) (unfitEntries (p .text) (p .entries)) (unfitCopied (p .users) (p .quencher)) (unfitCopied (p .users) (p .reporter)) (unfitLent p lent) over
 
-  pub entries-refused : 1024 < entryCount p → outcomeOf (numberOf WrongSize) (lent .strandGlues) (lent .scaffoldGlues) (lent .dg) (lent .ds) ≡ fromParams p lent
+  pub entries-refused : 1024 < length (p .entries .each) → outcomeOf (numberOf WrongSize) (lent .strandGlues) (lent .scaffoldGlues) (lent .dg) (lent .ds) ≡ fromParams p lent
   entries-refused h = kept p lent WrongSize (sym (reply-size p lent (many-entries h)))
 
   pub positions-refused : 128 < length (lent .scaffoldGlues) → outcomeOf (numberOf WrongSize) (lent .strandGlues) (lent .scaffoldGlues) (lent .dg) (lent .ds) ≡ fromParams p lent

@@ -2,34 +2,39 @@
 use mathlib.Core.Bool.{Bool, false, cond, not, _&&_, _||_}
 use mathlib.Core.List.{List}
 use mathlib.Core.Option.{none, some}
-use Prim.Native.Nat.{ℕ}
-use lib.Dec.{eqb}
+use Prim.Native.Nat.{ℕ, _+_, _*_, _/_, _%_}
+use lib.Dec.{eqb, ltb}
 use lib.Ieee.{Float, nan}
-use lib.ListN.{getD}
+use lib.ListN.{length, getD}
 use Rattle.lists.specs.Find.{any}
 use Rattle.lists.specs.Build.{tabulate}
 use Rattle.utils.specs.Bases.{notABase}
 use Rattle.utils.specs.Single.{tooLong, tooShort, stringDnaDgDs}
 use Rattle.sdc_common.specs.Names.{Name, baseOf}
-use Rattle.sdc_common.specs.Lent.{Glue, partOf, leaves}
+use Rattle.sdc_common.specs.Lent.{Glue, partOf, leaves, unfitName, unfitGlue}
 use Rattle.sdc_common.specs.Numbers.{baseNumber, nameNumber}
+use Rattle.sdc1d_params.specs.declared.Entry.{Entry}
 use Rattle.sdc1d_params.specs.declared.entries.GsOrSeq.{GsOrSeq}
 use Rattle.sdc1d_params.specs.declared.entries.GsOrSeq.the-variants.{Given, Sequence}
 
 -- ---- what an entry gives
 
 -- the entry's two doubles, or its sequence, as a part of the text
-abbrev pub entryOf : ℕ → Float → Float → ℕ → ℕ → GsOrSeq
-entryOf form dg ds start size = cond (eqb form 0) (Given dg ds) (Sequence start size)
+unfoldable pub energyOf : Entry → GsOrSeq
+energyOf e = cond (eqb (e .form) 0) (Given (e .dg) (e .ds)) (Sequence (e .start) (e .size))
 
 -- a form that is neither value
 abbrev pub badForm : ℕ → Bool
 badForm form = not (eqb form 0) && not (eqb form 1)
 
 -- a sequence that is too long or leaves the text; two doubles are never checked by themselves
-abbrev pub unfitEntry : List ℕ → GsOrSeq → Bool
-unfitEntry text (Given dg ds) = false
-unfitEntry text (Sequence start size) = leaves text start size || tooLong (partOf text start size)
+abbrev pub unfitEnergy : List ℕ → GsOrSeq → Bool
+unfitEnergy text (Given dg ds) = false
+unfitEnergy text (Sequence start size) = leaves text start size || tooLong (partOf text start size)
+
+-- a name, the form or the sequence of an entry is unfit. The first name is always there.
+unfoldable pub unfitEntry : List ℕ → Entry → Bool
+unfitEntry text e = unfitName text (e .«first_start») (e .«first_size») || unfitGlue text (e .second) || badForm (e .form) || unfitEnergy text (energyOf e)
 
 -- a sequence with a byte that is no base: refusal 2
 abbrev pub hasBadBase : List ℕ → GsOrSeq → Bool
@@ -51,29 +56,43 @@ abbrev pub entryDs : List ℕ → GsOrSeq → Float
 entryDs text (Given dg ds) = ds
 entryDs text (Sequence start size) = stringDnaDgDs (partOf text start size) .ds
 
--- the entries' numbers as they are lent: which form, two doubles, a start and a length
-pub record Energies : Type 0 where
-  pub forms : List ℕ
-  pub dgs : List Float
-  pub dss : List Float
-  pub starts : List ℕ
-  pub lengths : List ℕ
+-- ---- entries as they are lent
 
--- entries out of the five slices
-abbrev pub energiesOf : List ℕ → List Float → List Float → List ℕ → List ℕ → Energies
-energiesOf forms dgs dss starts lengths = record { forms = forms; dgs = dgs; dss = dss; starts = starts; lengths = lengths }
+-- entry i of rows of eight numbers and rows of two doubles: start and length of the first name; mark, start and length of the second;
+-- form, start and length of the sequence; dG and dS
+abbrev pub entryAt : List ℕ → List Float → ℕ → Entry
+entryAt numbers doubles i =
+    record {
+      «first_start» = getD numbers (8 * i) 0;
+      «first_size» = getD numbers (8 * i + 1) 0;
+      second = record { mark = getD numbers (8 * i + 2) 0; start = getD numbers (8 * i + 3) 0; size = getD numbers (8 * i + 4) 0 };
+      form = getD numbers (8 * i + 5) 0;
+      start = getD numbers (8 * i + 6) 0;
+      size = getD numbers (8 * i + 7) 0;
+      dg = getD doubles (2 * i) nan;
+      ds = getD doubles (2 * i + 1) nan;
+    }
 
--- what entry i gives
-unfoldable pub entryAt : Energies → ℕ → GsOrSeq
-entryAt e i = entryOf (getD (e .forms) i 0) (getD (e .dgs) i nan) (getD (e .dss) i nan) (getD (e .starts) i 0) (getD (e .lengths) i 0)
+-- entries as they are read off rows, and whether the last row is not whole, or there are not two doubles for each row
+pub record Entries : Type 0 where
+  pub ragged : Bool
+  pub each : List Entry
 
--- what the first n entries give
-abbrev pub entriesOf : Energies → ℕ → List GsOrSeq
-entriesOf e n = tabulate n (entryAt e)
+-- how many rows of eight there are
+abbrev pub entryRows : List ℕ → ℕ
+entryRows numbers = length numbers / 8
 
--- its form or its sequence is unfit
-unfoldable pub unfitAt : List ℕ → Energies → ℕ → Bool
-unfitAt text e i = badForm (getD (e .forms) i 0) || unfitEntry text (entryAt e i)
+-- the entries that the rows hold
+abbrev pub entriesOf : List ℕ → List Float → Entries
+entriesOf numbers doubles =
+    record {
+      ragged = not (eqb (length numbers % 8) 0) || not (eqb (length doubles) (2 * entryRows numbers));
+      each = tabulate (entryRows numbers) (entryAt numbers doubles);
+    }
+
+-- energy entries: 1,024
+unfoldable pub unfitEntries : List ℕ → Entries → Bool
+unfitEntries text entries = entries .ragged || ltb 1024 (length (entries .each)) || any (unfitEntry text) (entries .each)
 
 -- ---- where it is written
 

@@ -4,32 +4,32 @@ use mathlib.Core.List.{List, [], _∷_, _++_, map}
 use Prim.Native.Nat.{ℕ, _+_, _-_, _*_}
 use lib.Dec.{eqb, ltb}
 use lib.Ieee.{Float}
-use lib.ListN.{length, getD, replicate}
+use lib.ListN.{length, getD}
 use Rattle.lists.specs.Find.{any}
-use Rattle.lists.specs.Build.{tabulate, upTo}
 use Rattle.reply.specs.Number.{answered}
 use Rattle.reply.specs.First.{Check, _if_, firstOf, answer}
 use Rattle.reply.specs.declared.Refusal.the-variants.{WrongSize, NotABase, TooShort, UnknownName, TooManyGlues, DuplicatePair, OutOfRange}
 use Rattle.sdc_common.specs.Names.{Name}
-use Rattle.sdc_common.specs.Lent.{Names, namesOf, Glue, partOf, glueAt, gluesOf, unfitNames}
+use Rattle.sdc_common.specs.Lent.{Names, namesOf, Glue, partOf, glueOf, gluesOf, unfitNames}
 use Rattle.sdc_common.specs.Numbers.{basesOf, numbersAmong}
 use Rattle.sdc_common.specs.Spelled.{isUnknown, spelledNumber}
 use Rattle.sdc_common.specs.Calls.{tooManyStrands, tooManyBases}
-use Rattle.sdc1d_params.specs.Entries.{Cell, cellOf, Energies, energiesOf, entryAt, entriesOf, hasBadBase, isShort, unfitAt}
+use Rattle.sdc1d_params.specs.Entries.{Cell, cellOf, energyOf, Entries, entriesOf, unfitEntries, hasBadBase, isShort}
 use Rattle.sdc1d_params.specs.Tables.{Write, writeOf, cellsOf, duplicated, outOfRange, dgTable, dsTable}
 use Rattle.sdc1d_params.specs.declared.Copied.{Copied}
+use Rattle.sdc1d_params.specs.declared.Copies.{Copies}
 use Rattle.sdc1d_params.specs.declared.Copied.the-variants.{Nothing, Strand}
+use Rattle.sdc1d_params.specs.declared.Penalty.{Penalty}
+use Rattle.sdc1d_params.specs.declared.Entry.{Entry}
+use Rattle.sdc1d_params.specs.declared.entries.GsOrSeq.{GsOrSeq}
 
--- a parameter set as it is lent. Of an entry's names the first is always there; the second is there where the entry is for a pair.
+-- a parameter set as it is lent
 pub record Params : Type 0 where
   pub text : List ℕ
   pub users : ℕ
   pub strands : Names
   pub scaffold : Names
-  pub firstStarts : List ℕ
-  pub firstLengths : List ℕ
-  pub seconds : Names
-  pub energies : Energies
+  pub entries : Entries
   pub penaltyDg : Float
   pub penaltyDs : Float
   pub quencher : Copied
@@ -43,22 +43,19 @@ pub record Outcome : Type 0 where
   pub dg : List Float
   pub ds : List Float
 
--- a parameter set out of the slices, in the order in which the call takes them
-abbrev pub paramsOf : List ℕ → ℕ → List ℕ → List ℕ → List ℕ → List ℕ → List ℕ → List ℕ → List ℕ → List ℕ → List ℕ → List ℕ → List ℕ → List ℕ → List Float → List Float → List ℕ → List ℕ → Float → Float → Copied → Copied → Params
-paramsOf text users strandStarts strandLengths strandMarks scaffoldStarts scaffoldLengths scaffoldMarks firstStarts firstLengths secondStarts secondLengths secondMarks forms dgs dss starts lengths penaltyDg penaltyDs quencher reporter =
+-- a parameter set out of what is lent, in the order in which the call takes it: names and entries are read off their rows here
+abbrev pub paramsOf : List ℕ → ℕ → List ℕ → List ℕ → List ℕ → List Float → Penalty → Copies → Params
+paramsOf text users strands scaffold entries energies penalty copies =
     record {
       text = text;
       users = users;
-      strands = namesOf strandStarts strandLengths strandMarks;
-      scaffold = namesOf scaffoldStarts scaffoldLengths scaffoldMarks;
-      firstStarts = firstStarts;
-      firstLengths = firstLengths;
-      seconds = namesOf secondStarts secondLengths secondMarks;
-      energies = energiesOf forms dgs dss starts lengths;
-      penaltyDg = penaltyDg;
-      penaltyDs = penaltyDs;
-      quencher = quencher;
-      reporter = reporter;
+      strands = namesOf strands;
+      scaffold = namesOf scaffold;
+      entries = entriesOf entries energies;
+      penaltyDg = penalty .dg .0;
+      penaltyDs = penalty .ds .0;
+      quencher = copies .quencher;
+      reporter = copies .reporter;
     }
 
 -- an outcome out of its number and the four slices
@@ -71,14 +68,6 @@ lentOf strandGlues scaffoldGlues dg ds = outcomeOf answered strandGlues scaffold
 
 -- ---- what the names and entries are
 
--- how many entries there are
-abbrev pub entryCount : Params → ℕ
-entryCount p = length (p .energies .forms)
-
--- every entry has a first name
-abbrev pub firsts : Params → Names
-firsts p = namesOf (p .firstStarts) (p .firstLengths) (replicate (entryCount p) 1)
-
 -- the names of the strands' glues: west, bottom, east of each
 abbrev pub strandNames : Params → List Glue
 strandNames p = gluesOf (p .text) (p .strands)
@@ -87,17 +76,25 @@ strandNames p = gluesOf (p .text) (p .strands)
 abbrev pub bases : Params → List Name
 bases p = basesOf (strandNames p)
 
--- the first name of entry i
-abbrev pub firstAt : Params → ℕ → Name
-firstAt p i = partOf (p .text) (getD (p .firstStarts) i 0) (getD (p .firstLengths) i 0)
+-- the first name of an entry
+abbrev pub firstName : Params → Entry → Name
+firstName p e = partOf (p .text) (e .«first_start») (e .«first_size»)
 
--- the cell that entry i is for
-abbrev pub cellAtEntry : Params → ℕ → Cell
-cellAtEntry p i = cellOf (bases p) (firstAt p i) (glueAt (p .text) (p .seconds) i)
+-- the cell that an entry is for
+abbrev pub cellOfEntry : Params → Entry → Cell
+cellOfEntry p e = cellOf (bases p) (firstName p e) (glueOf (p .text) (e .second))
+
+-- what an entry writes
+abbrev pub writeOfEntry : Params → Entry → Write
+writeOfEntry p e = writeOf (p .text) (p .penaltyDg) (p .penaltyDs) (cellOfEntry p e) (energyOf e)
 
 -- what the entries write, in order
 unfoldable pub writesOf : Params → List Write
-writesOf p = tabulate (entryCount p) (λ i. writeOf (p .text) (p .penaltyDg) (p .penaltyDs) (cellAtEntry p i) (entryAt (p .energies) i))
+writesOf p = map (writeOfEntry p) (p .entries .each)
+
+-- what the entries give, in order
+abbrev pub energiesOf : Params → List GsOrSeq
+energiesOf p = map energyOf (p .entries .each)
 
 -- ---- sizes
 
@@ -105,20 +102,6 @@ writesOf p = tabulate (entryCount p) (λ i. writeOf (p .text) (p .penaltyDg) (p 
 abbrev pub unfitCopied : ℕ → Copied → Bool
 unfitCopied users Nothing = false
 unfitCopied users (Strand k) = eqb k 0 || ltb users k
-
--- energy entries: 1,024
-abbrev pub unfitEnergies : List ℕ → Energies → Bool
-unfitEnergies text e =
-    ltb 1024 (length (e .forms))
-    || not (eqb (length (e .dgs)) (length (e .forms)))
-    || not (eqb (length (e .dss)) (length (e .forms)))
-    || not (eqb (length (e .starts)) (length (e .forms)))
-    || not (eqb (length (e .lengths)) (length (e .forms)))
-    || any (unfitAt text e) (upTo (length (e .forms)))
-
--- the entries are too many or unfit
-abbrev pub unfitEntries : Params → Bool
-unfitEntries p = unfitEnergies (p .text) (p .energies)
 
 -- a scaffold has 0 to 128 positions
 abbrev pub unfitScaffold : Params → Outcome → Bool
@@ -138,9 +121,7 @@ wrongSize p lent =
     tooManyStrands (p .users)
     || unfitNames (3 * p .users) (p .text) (p .strands)
     || unfitScaffold p lent
-    || unfitEntries p
-    || unfitNames (entryCount p) (p .text) (firsts p)
-    || unfitNames (entryCount p) (p .text) (p .seconds)
+    || unfitEntries (p .text) (p .entries)
     || unfitCopied (p .users) (p .quencher)
     || unfitCopied (p .users) (p .reporter)
     || unfitLent p lent
@@ -151,8 +132,8 @@ wrongSize p lent =
 abbrev pub paramChecks : Params → Outcome → List Check
 paramChecks p lent =
     WrongSize if wrongSize p lent
-    ∷ NotABase if any (hasBadBase (p .text)) (entriesOf (p .energies) (entryCount p))
-    ∷ TooShort if any (isShort (p .text)) (entriesOf (p .energies) (entryCount p))
+    ∷ NotABase if any (hasBadBase (p .text)) (energiesOf p)
+    ∷ TooShort if any (isShort (p .text)) (energiesOf p)
     ∷ UnknownName if any (isUnknown (bases p)) (gluesOf (p .text) (p .scaffold))
     ∷ TooManyGlues if tooManyBases (strandNames p)
     ∷ DuplicatePair if duplicated (cellsOf (writesOf p))

@@ -1,14 +1,22 @@
 // Where entries are written: one name or a pair, from the numbers of the names to a cell of the tables.
 ghost use mathlib.Core.Path.{_≡_};
-ghost use Prim.Native.Nat.{_<_};
+ghost use mathlib.Core.Bool.{false};
+ghost use Prim.Native.Nat.{_<_, _≤_};
 ghost use lib.ListN.{length};
 ghost use Rattle.lists.specs.Build.{tabulate};
-ghost use Rattle.sdc1d_params.specs.Entries.{cell, isWritten};
+ghost use Rattle.sdc_common.specs.inner.Table.{Table, held};
+ghost use Rattle.sdc1d_params.specs.Entries.{cell, isWritten, entryRows, unfitEntry};
 ghost use Rattle.sdc1d_params.specs.Tables.{duplicated};
-ghost use Rattle.sdc1d_params.specs.inner.Cells.{refOrPair, cellOfNames, cellFound, rowFrom, columnFrom, cellAt, InTables, markBoth, isMarked};
+ghost use Rattle.sdc1d_params.specs.inner.Cells.{refOrPair, cellOfNames, cellFound, cellAmong, rowOf, columnOf, cellAt, InTables, markBoth, isMarked};
+ghost use Rattle.sdc1d_params.specs.inner.Fit.{FitEntries};
+use crate::Entry;
+use crate::entries::ROW;
+use crate::entries::entry_at;
+use crate::entries::first_name;
+use sdc_common::table::number;
 
 // How an entry's names are lent: one name, and anything else is a pair.
-const REF: u8 = 0;
+const REF: usize = 0;
 
 // What an entry is for, by the numbers of the names: one name, or a pair. 0 is a name that is not known.
 pub(crate) enum RefOrPair {
@@ -20,7 +28,7 @@ pub(crate) enum RefOrPair {
 pub(crate) struct RowColumn(usize, usize);
 
 // What an entry is for, out of the mark of its second name and the numbers of both.
-fn ref_or_pair(kind: u8, first: usize, second: usize) -> RefOrPair
+fn ref_or_pair(kind: usize, first: usize, second: usize) -> RefOrPair
     ensures { λ r. ⌜ r ≡ refOrPair kind first second ⌝ }
 {
     if kind == REF {
@@ -48,17 +56,41 @@ fn cell_of(names: RefOrPair) -> RowColumn
     }
 }
 
-// The rows and columns in place of the numbers of the names.
-pub(crate) fn to_cells(kinds: &[u8], first: &mut [usize], second: &mut [usize])
-    requires { ⌜ InTables (now first) (now second) (length (now kinds)) ⌝ }
-    ensures { λ _. ⌜ now (first .exit) ≡ tabulate (length (now (kinds .entry))) (rowFrom (now (kinds .entry)) (now (first .entry)) (now (second .entry))) ⌝ }
-    ensures { λ _. ⌜ now (second .exit) ≡ tabulate (length (now (kinds .entry))) (columnFrom (now (kinds .entry)) (now (first .entry)) (now (second .entry))) ⌝ }
+// The cell of an entry, from a table of at most 31 bases.
+fn cell_at(text: &[u8], heads: &[usize], sizes: &[usize], count: usize, entry: Entry) -> RowColumn
+    requires { ⌜ Table (now text) (now heads) (now sizes) count × (count ≤ 31) ⌝ }
+    requires { ⌜ unfitEntry (now text) entry ≡ false ⌝ }
+    ensures { λ r. ⌜ cellFound r ≡ cellAmong (held (now (text .entry)) (now (heads .entry)) (now (sizes .entry)) count) (now (text .entry)) entry ⌝ }
 {
+    let second = entry.second;
+    let first_number = number(text, heads, sizes, count, first_name(entry));
+    let second_number = number(text, heads, sizes, count, second);
+    cell_of(ref_or_pair(second.mark, first_number, second_number))
+}
+
+// The row and the column of each entry, from a table of at most 31 bases.
+pub(crate) fn fill_cells(
+    text: &[u8],
+    heads: &[usize],
+    sizes: &[usize],
+    count: usize,
+    entries: &[usize],
+    energies: &[f64],
+    rows: &mut [usize],
+    columns: &mut [usize],
+)
+    requires { ⌜ Table (now text) (now heads) (now sizes) count × (count ≤ 31) ⌝ }
+    requires { ⌜ FitEntries (now text) (now entries) (now energies) ⌝ }
+    requires { ⌜ (length (now rows) ≡ entryRows (now entries)) × (length (now columns) ≡ entryRows (now entries)) ⌝ }
+    ensures { λ _. ⌜ now (rows .exit) ≡ tabulate (entryRows (now (entries .entry))) (rowOf (held (now (text .entry)) (now (heads .entry)) (now (sizes .entry)) count) (now (text .entry)) (now (entries .entry)) (now (energies .entry))) ⌝ }
+    ensures { λ _. ⌜ now (columns .exit) ≡ tabulate (entryRows (now (entries .entry))) (columnOf (held (now (text .entry)) (now (heads .entry)) (now (sizes .entry)) count) (now (text .entry)) (now (entries .entry)) (now (energies .entry))) ⌝ }
+{
+    let n = entries.len() / ROW;
     let mut i = 0;
-    while i < kinds.len() {
-        let place = cell_of(ref_or_pair(kinds[i], first[i], second[i]));
-        first[i] = place.0;
-        second[i] = place.1;
+    while i < n {
+        let place = cell_at(text, heads, sizes, count, entry_at(entries, energies, i));
+        rows[i] = place.0;
+        columns[i] = place.1;
         i += 1;
     }
 }

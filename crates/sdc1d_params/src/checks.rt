@@ -1,18 +1,16 @@
 // The checks of `from_params`, before anything is written.
 ghost use mathlib.Core.Path.{_≡_};
-ghost use mathlib.Core.Bool.{false};
 ghost use Prim.Native.Nat.{_≤_};
-ghost use lib.ListN.{length, replicate};
+ghost use lib.ListN.{length};
 ghost use Rattle.reply.specs.First.{firstOf};
 ghost use Rattle.reply.specs.declared.Reply.the-variants.{Admitted};
-ghost use Rattle.sdc_common.specs.Lent.{namesOf, gluesOf, unfitNames};
-ghost use Rattle.sdc_common.specs.Numbers.{basesOf, numbersAmong};
-ghost use Rattle.sdc_common.specs.Calls.{unfitStrands};
+ghost use Rattle.sdc1d_params.specs.Entries.{entryRows};
 ghost use Rattle.sdc1d_params.specs.Params.{paramsOf, lentOf, paramChecks};
 ghost use Rattle.sdc1d_params.specs.inner.Checked.{Checked};
-use crate::Copied;
+use crate::Copies;
+use crate::Penalty;
 use crate::cells::any_repeated;
-use crate::cells::to_cells;
+use crate::cells::fill_cells;
 use crate::entries::any_bad_base;
 use crate::entries::any_short;
 use crate::scaffold::any_unknown;
@@ -22,68 +20,19 @@ use reply::Place;
 use reply::Refusal;
 use reply::Reply;
 use sdc_common::MOST_BASES;
-use sdc_common::NumbersAnswer;
-use units::KcalPerMol;
-use units::KcalPerMolKelvin;
-
-// The numbers of names among those of the strands, and how many base names these use; all sizes were checked before.
-fn number_names(
-    text: &[u8],
-    users: usize,
-    strand_starts: &[usize],
-    strand_lengths: &[usize],
-    strand_marks: &[u8],
-    starts: &[usize],
-    lengths: &[usize],
-    marks: &[u8],
-    numbers: &mut [usize],
-) -> usize
-    requires { ⌜ unfitStrands users (now text) (namesOf (now «strand_starts») (now «strand_lengths») (now «strand_marks»)) ≡ false ⌝ }
-    requires { ⌜ unfitNames (length (now numbers)) (now text) (namesOf (now starts) (now lengths) (now marks)) ≡ false ⌝ }
-    ensures { λ r. ⌜ r ≡ length (basesOf (gluesOf (now (text .entry)) (namesOf (now («strand_starts» .entry)) (now («strand_lengths» .entry)) (now («strand_marks» .entry))))) ⌝ }
-    ensures { λ r. ⌜ now (numbers .exit) ≡ numbersAmong (gluesOf (now (text .entry)) (namesOf (now («strand_starts» .entry)) (now («strand_lengths» .entry)) (now («strand_marks» .entry)))) (gluesOf (now (text .entry)) (namesOf (now (starts .entry)) (now (lengths .entry)) (now (marks .entry)))) ⌝ }
-{
-    match sdc_common::name_numbers(
-        text,
-        users,
-        strand_starts,
-        strand_lengths,
-        strand_marks,
-        starts,
-        lengths,
-        marks,
-        numbers,
-    ) {
-        NumbersAnswer::Given(count) => count,
-        NumbersAnswer::Refused(_) => 0,
-    }
-}
+use sdc_common::table::base_names;
+use sdc_common::table::fill_numbers;
 
 // The first check that holds. Where none does, the numbers of the scaffold's names and the cells of the entries are left for the writing.
 pub(crate) fn check(
     text: &[u8],
     users: usize,
-    strand_starts: &[usize],
-    strand_lengths: &[usize],
-    strand_marks: &[u8],
-    scaffold_starts: &[usize],
-    scaffold_lengths: &[usize],
-    scaffold_marks: &[u8],
-    first_starts: &[usize],
-    first_lengths: &[usize],
-    first_marks: &[u8],
-    second_starts: &[usize],
-    second_lengths: &[usize],
-    second_marks: &[u8],
-    forms: &[u8],
-    dgs: &[f64],
-    dss: &[f64],
-    starts: &[usize],
-    lengths: &[usize],
-    penalty_dg: KcalPerMol,
-    penalty_ds: KcalPerMolKelvin,
-    quencher: Copied,
-    reporter: Copied,
+    strands: &[usize],
+    scaffold: &[usize],
+    entries: &[usize],
+    energies: &[f64],
+    penalty: Penalty,
+    copies: Copies,
     strand_glues: &[u8],
     scaffold_glues: &[u8],
     dg: &[f64],
@@ -92,33 +41,19 @@ pub(crate) fn check(
     rows: &mut [usize],
     columns: &mut [usize],
 ) -> Reply
-    requires { ⌜ (now «first_marks» ≡ replicate (length (now forms)) 1) × (length (now «scaffold_glues») ≤ 128) ⌝ }
-    requires { ⌜ (length (now numbers) ≡ length (now «scaffold_glues»)) × (length (now rows) ≡ length (now forms)) × (length (now columns) ≡ length (now forms)) ⌝ }
-    ensures { λ r. ⌜ r ≡ firstOf (paramChecks (paramsOf (now (text .entry)) users (now («strand_starts» .entry)) (now («strand_lengths» .entry)) (now («strand_marks» .entry)) (now («scaffold_starts» .entry)) (now («scaffold_lengths» .entry)) (now («scaffold_marks» .entry)) (now («first_starts» .entry)) (now («first_lengths» .entry)) (now («second_starts» .entry)) (now («second_lengths» .entry)) (now («second_marks» .entry)) (now (forms .entry)) (now (dgs .entry)) (now (dss .entry)) (now (starts .entry)) (now (lengths .entry)) («penalty_dg» .0) («penalty_ds» .0) quencher reporter) (lentOf (now («strand_glues» .entry)) (now («scaffold_glues» .entry)) (now (dg .entry)) (now (ds .entry)))) ⌝ }
-    ensures { λ r. ⌜ (r ≡ Admitted → Checked (paramsOf (now (text .entry)) users (now («strand_starts» .entry)) (now («strand_lengths» .entry)) (now («strand_marks» .entry)) (now («scaffold_starts» .entry)) (now («scaffold_lengths» .entry)) (now («scaffold_marks» .entry)) (now («first_starts» .entry)) (now («first_lengths» .entry)) (now («second_starts» .entry)) (now («second_lengths» .entry)) (now («second_marks» .entry)) (now (forms .entry)) (now (dgs .entry)) (now (dss .entry)) (now (starts .entry)) (now (lengths .entry)) («penalty_dg» .0) («penalty_ds» .0) quencher reporter) (now (numbers .exit)) (now (rows .exit)) (now (columns .exit))) ⌝ }
+    requires { ⌜ (length (now «scaffold_glues») ≤ 128) × (length (now numbers) ≡ length (now «scaffold_glues»)) ⌝ }
+    requires { ⌜ (length (now rows) ≡ entryRows (now entries)) × (length (now columns) ≡ entryRows (now entries)) ⌝ }
+    ensures { λ r. ⌜ r ≡ firstOf (paramChecks (paramsOf (now (text .entry)) users (now (strands .entry)) (now (scaffold .entry)) (now (entries .entry)) (now (energies .entry)) penalty copies) (lentOf (now («strand_glues» .entry)) (now («scaffold_glues» .entry)) (now (dg .entry)) (now (ds .entry)))) ⌝ }
+    ensures { λ r. ⌜ (r ≡ Admitted → Checked (paramsOf (now (text .entry)) users (now (strands .entry)) (now (scaffold .entry)) (now (entries .entry)) (now (energies .entry)) penalty copies) (now (entries .entry)) (now (energies .entry)) (now (numbers .exit)) (now (rows .exit)) (now (columns .exit))) ⌝ }
 {
     if wrong_size(
         text,
         users,
-        strand_starts,
-        strand_lengths,
-        strand_marks,
-        scaffold_starts,
-        scaffold_lengths,
-        scaffold_marks,
-        first_starts,
-        first_lengths,
-        first_marks,
-        second_starts,
-        second_lengths,
-        second_marks,
-        forms,
-        dgs,
-        dss,
-        starts,
-        lengths,
-        quencher,
-        reporter,
+        strands,
+        scaffold,
+        entries,
+        energies,
+        copies,
         strand_glues,
         scaffold_glues,
         dg,
@@ -126,73 +61,36 @@ pub(crate) fn check(
     ) {
         return Reply::Refused(Refusal::WrongSize, Place::Nowhere);
     }
-    if any_bad_base(text, forms, dgs, dss, starts, lengths) {
+    if any_bad_base(text, entries, energies) {
         return Reply::Refused(Refusal::NotABase, Place::Nowhere);
     }
-    if any_short(text, forms, dgs, dss, starts, lengths) {
+    if any_short(text, entries, energies) {
         return Reply::Refused(Refusal::TooShort, Place::Nowhere);
     }
-    number_names(
-        text,
-        users,
-        strand_starts,
-        strand_lengths,
-        strand_marks,
-        scaffold_starts,
-        scaffold_lengths,
-        scaffold_marks,
-        numbers,
-    );
-    if any_unknown(
-        text,
-        scaffold_starts,
-        scaffold_lengths,
-        scaffold_marks,
-        numbers,
-    ) {
+    let mut heads = [0usize; 183];
+    let mut sizes = [0usize; 183];
+    let bases = base_names(text, strands, &mut heads, &mut sizes);
+    fill_numbers(text, &heads, &sizes, bases, scaffold, numbers);
+    if any_unknown(text, scaffold, numbers) {
         return Reply::Refused(Refusal::UnknownName, Place::Nowhere);
     }
-    number_names(
-        text,
-        users,
-        strand_starts,
-        strand_lengths,
-        strand_marks,
-        first_starts,
-        first_lengths,
-        first_marks,
-        rows,
-    );
-    let bases = number_names(
-        text,
-        users,
-        strand_starts,
-        strand_lengths,
-        strand_marks,
-        second_starts,
-        second_lengths,
-        second_marks,
-        columns,
-    );
     if MOST_BASES < bases {
         return Reply::Refused(Refusal::TooManyGlues, Place::Nowhere);
     }
-    to_cells(second_marks, rows, columns);
+    fill_cells(
+        text,
+        &heads,
+        &sizes,
+        bases,
+        entries,
+        energies,
+        rows,
+        columns,
+    );
     if any_repeated(rows, columns) {
         return Reply::Refused(Refusal::DuplicatePair, Place::Nowhere);
     }
-    if any_out(
-        text,
-        forms,
-        dgs,
-        dss,
-        starts,
-        lengths,
-        penalty_dg,
-        penalty_ds,
-        rows,
-        columns,
-    ) {
+    if any_out(text, entries, energies, penalty, rows, columns) {
         return Reply::Refused(Refusal::OutOfRange, Place::Nowhere);
     }
     Reply::Admitted

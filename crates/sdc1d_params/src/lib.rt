@@ -12,16 +12,23 @@ ghost use mathlib.Core.Path.{_≡_};
 ghost use Rattle.reply.specs.Number.{replyNumber};
 ghost use Rattle.sdc1d_params.specs.Params.{paramsOf, lentOf, outcomeOf, fromParams};
 use build::build;
+use entries::MOST_ENTRIES;
+use entries::ROW;
 use reply::Place;
 use reply::Refusal;
 use reply::Reply;
-use sdc_common::names::PRESENT;
-use sizes::MOST_ENTRIES;
+use sdc_common::names::LentName;
 use units::KcalPerMol;
 use units::KcalPerMolKelvin;
 
 // The most positions of a scaffold.
 const MOST_POSITIONS: usize = 128;
+
+// The junction penalty, which is added to both numbers of every entry.
+pub struct Penalty {
+    pub dg: KcalPerMol,
+    pub ds: KcalPerMolKelvin,
+}
 
 // Whose glues the quencher or the reporter copies: no strand's, or those of a user strand, which are numbered from 1.
 pub enum Copied {
@@ -29,79 +36,69 @@ pub enum Copied {
     Strand(usize),
 }
 
-// The glues of the strands and of the scaffold, and the two glue tables, into the lent slices.
+// Whose glues the quencher and the reporter copy.
+pub struct Copies {
+    pub quencher: Copied,
+    pub reporter: Copied,
+}
+
+// An energy entry as it is lent: its first name, its second where it is for a pair, and its energy in one of two forms.
+pub struct Entry {
+    pub first_start: usize,
+    pub first_size: usize,
+    pub second: LentName,
+    pub form: usize,
+    pub start: usize,
+    pub size: usize,
+    pub dg: f64,
+    pub ds: f64,
+}
+
+// The glues of the strands and of the scaffold, and the two glue tables, into the lent slices. A name is a row of three numbers: its mark,
+// its start and its length. An entry is a row of eight, start and length of its first name, mark, start and length of its second, its form,
+// and start and length of its sequence, and a row of two doubles, dG and dS.
 pub fn from_params(
     text: &[u8],
     users: usize,
-    strand_starts: &[usize],
-    strand_lengths: &[usize],
-    strand_marks: &[u8],
-    scaffold_starts: &[usize],
-    scaffold_lengths: &[usize],
-    scaffold_marks: &[u8],
-    first_starts: &[usize],
-    first_lengths: &[usize],
-    second_starts: &[usize],
-    second_lengths: &[usize],
-    second_marks: &[u8],
-    forms: &[u8],
-    dgs: &[f64],
-    dss: &[f64],
-    starts: &[usize],
-    lengths: &[usize],
-    penalty_dg: KcalPerMol,
-    penalty_ds: KcalPerMolKelvin,
-    quencher: Copied,
-    reporter: Copied,
+    strands: &[usize],
+    scaffold: &[usize],
+    entries: &[usize],
+    energies: &[f64],
+    penalty: Penalty,
+    copies: Copies,
     strand_glues: &mut [u8],
     scaffold_glues: &mut [u8],
     dg: &mut [f64],
     ds: &mut [f64],
 ) -> Reply
-    ensures { λ r. ⌜ outcomeOf (replyNumber r) (now («strand_glues» .exit)) (now («scaffold_glues» .exit)) (now (dg .exit)) (now (ds .exit)) ≡ fromParams (paramsOf (now (text .entry)) users (now («strand_starts» .entry)) (now («strand_lengths» .entry)) (now («strand_marks» .entry)) (now («scaffold_starts» .entry)) (now («scaffold_lengths» .entry)) (now («scaffold_marks» .entry)) (now («first_starts» .entry)) (now («first_lengths» .entry)) (now («second_starts» .entry)) (now («second_lengths» .entry)) (now («second_marks» .entry)) (now (forms .entry)) (now (dgs .entry)) (now (dss .entry)) (now (starts .entry)) (now (lengths .entry)) («penalty_dg» .0) («penalty_ds» .0) quencher reporter) (lentOf (now («strand_glues» .entry)) (now («scaffold_glues» .entry)) (now (dg .entry)) (now (ds .entry))) ⌝ }
+    ensures { λ r. ⌜ outcomeOf (replyNumber r) (now («strand_glues» .exit)) (now («scaffold_glues» .exit)) (now (dg .exit)) (now (ds .exit)) ≡ fromParams (paramsOf (now (text .entry)) users (now (strands .entry)) (now (scaffold .entry)) (now (entries .entry)) (now (energies .entry)) penalty copies) (lentOf (now («strand_glues» .entry)) (now («scaffold_glues» .entry)) (now (dg .entry)) (now (ds .entry))) ⌝ }
 {
-    let entries = forms.len();
-    if MOST_ENTRIES < entries {
+    let count = entries.len() / ROW;
+    if MOST_ENTRIES < count {
         return Reply::Refused(Refusal::WrongSize, Place::Nowhere);
     }
     let positions = scaffold_glues.len();
     if MOST_POSITIONS < positions {
         return Reply::Refused(Refusal::WrongSize, Place::Nowhere);
     }
-    let first_marks = [PRESENT; 1024];
     let mut numbers = [0usize; 128];
     let mut rows = [0usize; 1024];
     let mut columns = [0usize; 1024];
     build(
         text,
         users,
-        strand_starts,
-        strand_lengths,
-        strand_marks,
-        scaffold_starts,
-        scaffold_lengths,
-        scaffold_marks,
-        first_starts,
-        first_lengths,
-        &first_marks[0..entries],
-        second_starts,
-        second_lengths,
-        second_marks,
-        forms,
-        dgs,
-        dss,
-        starts,
-        lengths,
-        penalty_dg,
-        penalty_ds,
-        quencher,
-        reporter,
+        strands,
+        scaffold,
+        entries,
+        energies,
+        penalty,
+        copies,
         strand_glues,
         scaffold_glues,
         dg,
         ds,
         &mut numbers[0..positions],
-        &mut rows[0..entries],
-        &mut columns[0..entries],
+        &mut rows[0..count],
+        &mut columns[0..count],
     )
 }

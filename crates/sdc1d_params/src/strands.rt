@@ -9,6 +9,7 @@ ghost use Rattle.sdc_common.specs.Numbers.{numbersAmong};
 ghost use Rattle.sdc_common.specs.Calls.{unfitStrands, tooManyBases};
 ghost use Rattle.sdc1d_params.specs.Params.{unfitCopied, quencherGlues, reporterGlues, withCopies};
 use crate::Copied;
+use crate::Copies;
 use sdc_common::strand_glues;
 
 // West, bottom and east of a strand.
@@ -50,21 +51,20 @@ fn reporter_sides(users: usize, glues: &[u8], reporter: Copied) -> Sides
 pub(crate) fn write_strands(
     text: &[u8],
     users: usize,
-    starts: &[usize],
-    lengths: &[usize],
-    marks: &[u8],
-    quencher: Copied,
-    reporter: Copied,
+    strands: &[usize],
+    copies: Copies,
     glues: &mut [u8],
 )
-    requires { ⌜ (unfitStrands users (now text) (namesOf (now starts) (now lengths) (now marks)) ≡ false) × (tooManyBases (gluesOf (now text) (namesOf (now starts) (now lengths) (now marks))) ≡ false) ⌝ }
-    requires { ⌜ (unfitCopied users quencher ≡ false) × (unfitCopied users reporter ≡ false) ⌝ }
+    requires { ⌜ (unfitStrands users (now text) (namesOf (now strands)) ≡ false) × (tooManyBases (gluesOf (now text) (namesOf (now strands))) ≡ false) ⌝ }
+    requires { ⌜ (unfitCopied users (copies .quencher) ≡ false) × (unfitCopied users (copies .reporter) ≡ false) ⌝ }
     requires { ⌜ length (now glues) ≡ 3 * (users + 3) ⌝ }
-    ensures { λ _. ⌜ now (glues .exit) ≡ withCopies (numbersAmong (gluesOf (now (text .entry)) (namesOf (now (starts .entry)) (now (lengths .entry)) (now (marks .entry)))) (gluesOf (now (text .entry)) (namesOf (now (starts .entry)) (now (lengths .entry)) (now (marks .entry))))) quencher reporter ⌝ }
+    ensures { λ _. ⌜ now (glues .exit) ≡ withCopies (numbersAmong (gluesOf (now (text .entry)) (namesOf (now (strands .entry)))) (gluesOf (now (text .entry)) (namesOf (now (strands .entry))))) (copies .quencher) (copies .reporter) ⌝ }
 {
+    let quencher = copies.quencher;
+    let reporter = copies.reporter;
     let end = 3 * users + 3;
     write_sides(&mut glues[0..3], Sides(0, 0, 0));
-    strand_glues(text, users, starts, lengths, marks, &mut glues[3..end]);
+    strand_glues(text, users, strands, &mut glues[3..end]);
     let from_quencher = quencher_sides(users, glues, quencher);
     let from_reporter = reporter_sides(users, glues, reporter);
     write_sides(&mut glues[end..end + 3], from_quencher);

@@ -9,17 +9,18 @@ ghost use Rattle.doubles.specs.Decimal.{zero};
 ghost use Rattle.lists.specs.Find.{any};
 ghost use Rattle.lists.specs.Fold.{foldl};
 ghost use Rattle.lists.specs.Build.{tabulate};
-ghost use Rattle.sdc1d_params.specs.Entries.{energiesOf, cell, unfitEntry, entryDg, entryDs};
+ghost use Rattle.sdc1d_params.specs.Entries.{cell, entryRows, unfitEnergy, entryDg, entryDs};
 ghost use Rattle.sdc1d_params.specs.inner.Fit.{FitEntries};
 ghost use Rattle.sdc1d_params.specs.Tables.{outOfRange, setBoth, writeDg, writeDs};
 ghost use Rattle.sdc1d_params.specs.inner.Cells.{writeAt, InTables};
+use crate::Penalty;
 use crate::cells::is_written;
 use crate::entries::Gs;
 use crate::entries::GsOrSeq;
+use crate::entries::ROW;
+use crate::entries::entry_at;
 use crate::entries::gs_or_seq;
 use crate::entries::gsorseq_to_gs;
-use units::KcalPerMol;
-use units::KcalPerMolKelvin;
 
 // The lowest dG of a cell.
 const LOWEST_DG: f64 = -1024.0;
@@ -34,14 +35,16 @@ const LOWEST_DS: f64 = -8.0;
 const HIGHEST_DS: f64 = 8.0;
 
 // What an entry writes: its numbers, the junction penalty added to both.
-fn with_penalty(text: &[u8], entry: GsOrSeq, pdg: KcalPerMol, pds: KcalPerMolKelvin) -> Gs
-    requires { ⌜ unfitEntry (now text) entry ≡ false ⌝ }
-    ensures { λ r. ⌜ (r .0 .0 ≡ Ieee.add binary64 (entryDg (now (text .entry)) entry) (pdg .0)) × (r .1 .0 ≡ Ieee.add binary64 (entryDs (now (text .entry)) entry) (pds .0)) ⌝ }
+fn with_penalty(text: &[u8], energy: GsOrSeq, penalty: Penalty) -> Gs
+    requires { ⌜ unfitEnergy (now text) energy ≡ false ⌝ }
+    ensures { λ r. ⌜ (r .0 .0 ≡ Ieee.add binary64 (entryDg (now (text .entry)) energy) (penalty .dg .0)) × (r .1 .0 ≡ Ieee.add binary64 (entryDs (now (text .entry)) energy) (penalty .ds .0)) ⌝ }
 {
-    let gs = gsorseq_to_gs(text, entry);
+    let gs = gsorseq_to_gs(text, energy);
     let dg = gs.0;
     let ds = gs.1;
-    Gs(dg.add(pdg), ds.add(pds))
+    let penalty_dg = penalty.dg;
+    let penalty_ds = penalty.ds;
+    Gs(dg.add(penalty_dg), ds.add(penalty_ds))
 }
 
 // Whether a sum that is written is out of its range.
@@ -62,27 +65,26 @@ fn is_out(row: usize, column: usize, gs: Gs) -> bool
 // Whether some sum that is written is out of its range.
 pub(crate) fn any_out(
     text: &[u8],
-    forms: &[u8],
-    dgs: &[f64],
-    dss: &[f64],
-    starts: &[usize],
-    lengths: &[usize],
-    pdg: KcalPerMol,
-    pds: KcalPerMolKelvin,
+    entries: &[usize],
+    energies: &[f64],
+    penalty: Penalty,
     rows: &[usize],
     columns: &[usize],
 ) -> bool
-    requires { ⌜ FitEntries (now text) (energiesOf (now forms) (now dgs) (now dss) (now starts) (now lengths)) ⌝ }
-    requires { ⌜ (length (now rows) ≡ length (now forms)) × (length (now columns) ≡ length (now forms)) ⌝ }
-    ensures { λ r. ⌜ r ≡ any outOfRange (tabulate (length (now (forms .entry))) (writeAt (now (text .entry)) (energiesOf (now (forms .entry)) (now (dgs .entry)) (now (dss .entry)) (now (starts .entry)) (now (lengths .entry))) (pdg .0) (pds .0) (now (rows .entry)) (now (columns .entry)))) ⌝ }
+    requires { ⌜ FitEntries (now text) (now entries) (now energies) ⌝ }
+    requires { ⌜ (length (now rows) ≡ entryRows (now entries)) × (length (now columns) ≡ entryRows (now entries)) ⌝ }
+    ensures { λ r. ⌜ r ≡ any outOfRange (tabulate (entryRows (now (entries .entry))) (writeAt (now (text .entry)) (now (entries .entry)) (now (energies .entry)) (penalty .dg .0) (penalty .ds .0) (now (rows .entry)) (now (columns .entry)))) ⌝ }
 {
+    let n = entries.len() / ROW;
     let mut i = 0;
-    while i < forms.len() {
-        let entry = gs_or_seq(forms, dgs, dss, starts, lengths, i);
-        if is_out(rows[i], columns[i], with_penalty(text, entry, pdg, pds)) {
+    while i < n {
+        let row = rows[i];
+        let column = columns[i];
+        let energy = gs_or_seq(entry_at(entries, energies, i));
+        i += 1;
+        if is_out(row, column, with_penalty(text, energy, penalty)) {
             return true;
         }
-        i += 1;
     }
     false
 }
@@ -114,31 +116,28 @@ fn set_both(table: &mut [f64], row: usize, column: usize, v: f64)
 // What each entry writes, in order.
 pub(crate) fn fill_tables(
     text: &[u8],
-    forms: &[u8],
-    dgs: &[f64],
-    dss: &[f64],
-    starts: &[usize],
-    lengths: &[usize],
-    pdg: KcalPerMol,
-    pds: KcalPerMolKelvin,
+    entries: &[usize],
+    energies: &[f64],
+    penalty: Penalty,
     rows: &[usize],
     columns: &[usize],
     dg: &mut [f64],
     ds: &mut [f64],
 )
-    requires { ⌜ FitEntries (now text) (energiesOf (now forms) (now dgs) (now dss) (now starts) (now lengths)) ⌝ }
-    requires { ⌜ InTables (now rows) (now columns) (length (now forms)) ⌝ }
+    requires { ⌜ FitEntries (now text) (now entries) (now energies) ⌝ }
+    requires { ⌜ InTables (now rows) (now columns) (entryRows (now entries)) ⌝ }
     requires { ⌜ (length (now dg) ≡ 4096) × (length (now ds) ≡ 4096) ⌝ }
-    ensures { λ _. ⌜ now (dg .exit) ≡ foldl writeDg (now (dg .entry)) (tabulate (length (now (forms .entry))) (writeAt (now (text .entry)) (energiesOf (now (forms .entry)) (now (dgs .entry)) (now (dss .entry)) (now (starts .entry)) (now (lengths .entry))) (pdg .0) (pds .0) (now (rows .entry)) (now (columns .entry)))) ⌝ }
-    ensures { λ _. ⌜ now (ds .exit) ≡ foldl writeDs (now (ds .entry)) (tabulate (length (now (forms .entry))) (writeAt (now (text .entry)) (energiesOf (now (forms .entry)) (now (dgs .entry)) (now (dss .entry)) (now (starts .entry)) (now (lengths .entry))) (pdg .0) (pds .0) (now (rows .entry)) (now (columns .entry)))) ⌝ }
+    ensures { λ _. ⌜ now (dg .exit) ≡ foldl writeDg (now (dg .entry)) (tabulate (entryRows (now (entries .entry))) (writeAt (now (text .entry)) (now (entries .entry)) (now (energies .entry)) (penalty .dg .0) (penalty .ds .0) (now (rows .entry)) (now (columns .entry)))) ⌝ }
+    ensures { λ _. ⌜ now (ds .exit) ≡ foldl writeDs (now (ds .entry)) (tabulate (entryRows (now (entries .entry))) (writeAt (now (text .entry)) (now (entries .entry)) (now (energies .entry)) (penalty .dg .0) (penalty .ds .0) (now (rows .entry)) (now (columns .entry)))) ⌝ }
 {
+    let n = entries.len() / ROW;
     let mut i = 0;
-    while i < forms.len() {
+    while i < n {
         let row = rows[i];
         let column = columns[i];
-        let entry = gs_or_seq(forms, dgs, dss, starts, lengths, i);
+        let energy = gs_or_seq(entry_at(entries, energies, i));
         i += 1;
-        let gs = with_penalty(text, entry, pdg, pds);
+        let gs = with_penalty(text, energy, penalty);
         let gs_dg = gs.0;
         let gs_ds = gs.1;
         set_both(dg, row, column, gs_dg.0);

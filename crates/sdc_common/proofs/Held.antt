@@ -18,7 +18,8 @@ use Rattle.lists.proofs.Find.{any-true, any-false}
 use Rattle.lists.proofs.Build.{length-tabulate}
 use Rattle.lists.proofs.Counted.{tabulate-suc, tabulate-same}
 use Rattle.sdc_common.specs.Names.{Name, baseLength, baseOf, starsOf, isFrom, sameName}
-use Rattle.sdc_common.specs.Lent.{partOf, unfitName, unfitGlue, isAbsent, isPresent, Names, glueOf, glueAt}
+use Rattle.sdc_common.specs.Lent.{partOf, unfitName, unfitGlue, isAbsent, isPresent, nameAt, glueOf}
+use Rattle.sdc_common.specs.declared.names.LentName.{LentName}
 use Rattle.sdc_common.specs.inner.Fit.{Fit}
 use Rattle.sdc_common.specs.Numbers.{isKnown, learn, numberAt, baseNumber, nameNumber, glueNumber}
 use Rattle.sdc_common.specs.inner.Table.{heldAt, held, Table}
@@ -56,38 +57,41 @@ present-step : (absent present unfit : Bool) → absent ≡ false → (not absen
 present-step true present unfit a e = absurd (let z : _≡_ {A = ℕ} 0 1 = cc in omega arith)
 present-step false present unfit a e = neither (not present) unfit e .1
 
-module _ (text : List ℕ) (mark start size : ℕ) where
-  pub present-fit : (mark ≡ 0 → ⊥) → Fit text mark start size → unfitName text start size ≡ false
+module _ (text : List ℕ) (name : LentName) where
+  abbrev pub spelled : Name
+  spelled = partOf text (name .start) (name .size)
+
+  pub present-fit : (name .mark ≡ 0 → ⊥) → Fit text name → unfitName text (name .start) (name .size) ≡ false
   unfolding unfitGlue
-  present-fit h e = present-step (isAbsent mark) (isPresent mark) (unfitName text start size) (ne-eqb mark 0 h) e
+  present-fit h e = present-step (isAbsent (name .mark)) (isPresent (name .mark)) (unfitName text (name .start) (name .size)) (ne-eqb (name .mark) 0 h) e
 
   -- a present name that is fit ends within the text
-  pub present-fits : (mark ≡ 0 → ⊥) → Fit text mark start size → start + size ≤ length text
-  present-fits h e = fits text start size (present-fit h e)
+  pub present-fits : (name .mark ≡ 0 → ⊥) → Fit text name → name .start + name .size ≤ length text
+  present-fits h e = fits text (name .start) (name .size) (present-fit h e)
 
-  pub glue-absent : mark ≡ 0 → glueOf text mark start size ≡ none
+  pub glue-absent : name .mark ≡ 0 → glueOf text name ≡ none
   unfolding glueOf
-  glue-absent h = rw (eq-eqb mark 0 h)
+  glue-absent h = rw (eq-eqb (name .mark) 0 h)
 
-  pub glue-present : (mark ≡ 0 → ⊥) → glueOf text mark start size ≡ some (partOf text start size)
+  pub glue-present : (name .mark ≡ 0 → ⊥) → glueOf text name ≡ some spelled
   unfolding glueOf
-  glue-present h = rw (ne-eqb mark 0 h)
+  glue-present h = rw (ne-eqb (name .mark) 0 h)
 
-  module _ (base : ℕ) (h : start + size ≤ length text) (e : base ≡ baseLength (take (start + size - start) (drop start text))) where
-    pub base-of-part : base ≡ baseLength (partOf text start size)
-    base-of-part = e ∙ ap baseLength (part-is text start size)
+  module _ (base : ℕ) (h : name .start + name .size ≤ length text) (e : base ≡ baseLength (take (name .start + name .size - name .start) (drop (name .start) text))) where
+    pub base-of-part : base ≡ baseLength spelled
+    base-of-part = e ∙ ap baseLength (part-is text (name .start) (name .size))
 
-    pub base-within : base ≤ size
-    base-within = let l = part-length text start size h in omega (arith, base-le (partOf text start size), base-of-part)
+    pub base-within : base ≤ name .size
+    base-within = let l = part-length text (name .start) (name .size) h in omega (arith, base-le spelled, base-of-part)
 
-    pub stars-of : size - base ≡ starsOf (partOf text start size)
+    pub stars-of : name .size - base ≡ starsOf spelled
     unfolding starsOf
-    stars-of = rw (part-length text start size h, base-of-part)
+    stars-of = rw (part-length text (name .start) (name .size) h, base-of-part)
 
     -- the part up to the stars is the base
-    pub base-part : partOf text start base ≡ baseOf (partOf text start size)
+    pub base-part : partOf text (name .start) base ≡ baseOf spelled
     unfolding partOf baseOf
-    base-part = let b = base-of-part in let w = base-within in sym (rw (← b) (take-take base size (drop start text) w))
+    base-part = let b = base-of-part in let w = base-within in sym (rw (← b) (take-take base (name .size) (drop (name .start) text) w))
 
 -- ---- the table
 
@@ -149,5 +153,5 @@ unfolding baseNumber
 number-unknown bases name e = rw e
 
 -- the number of the glue at a place, read off the table
-abbrev pub numberOfGlue : List ℕ → List ℕ → List ℕ → ℕ → Names → ℕ → ℕ
-numberOfGlue text heads sizes count names k = glueNumber (held text heads sizes count) (glueAt text names k)
+abbrev pub numberOfGlue : List ℕ → List ℕ → List ℕ → ℕ → List ℕ → ℕ → ℕ
+numberOfGlue text heads sizes count rows k = glueNumber (held text heads sizes count) (glueOf text (nameAt rows k))

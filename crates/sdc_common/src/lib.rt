@@ -1,6 +1,6 @@
 // Names of glues, as sdc_common.rs reads them, and their numbers.
 pub mod names;
-mod table;
+pub mod table;
 
 ghost use mathlib.Core.Path.{_≡_};
 ghost use lib.ListN.{length};
@@ -48,69 +48,45 @@ pub fn self_and_inverse(text: &[u8], start: usize, length: usize) -> NameAnswer
 }
 
 // Whether the strands' names are not as they should be: three for each user strand.
-pub fn unfit_strands(
-    text: &[u8],
-    users: usize,
-    starts: &[usize],
-    lengths: &[usize],
-    marks: &[u8],
-) -> bool
-    ensures { λ r. ⌜ r ≡ unfitStrands users (now (text .entry)) (namesOf (now (starts .entry)) (now (lengths .entry)) (now (marks .entry))) ⌝ }
+pub fn unfit_strands(text: &[u8], users: usize, strands: &[usize]) -> bool
+    ensures { λ r. ⌜ r ≡ unfitStrands users (now (text .entry)) (namesOf (now (strands .entry))) ⌝ }
 {
     if MOST_STRANDS < users {
         return true;
     }
-    unfit_names(3 * users, text, starts, lengths, marks)
+    unfit_names(3 * users, text, strands)
 }
 
 // The numbers of names among those of the strands' glues, reduced to base or base*: 0 for one that is absent or not known.
 pub fn name_numbers(
     text: &[u8],
     users: usize,
-    strand_starts: &[usize],
-    strand_lengths: &[usize],
-    strand_marks: &[u8],
-    starts: &[usize],
-    lengths: &[usize],
-    marks: &[u8],
+    strands: &[usize],
+    names: &[usize],
     numbers: &mut [usize],
 ) -> NumbersAnswer
-    ensures { λ r. ⌜ numbersFigures r ≡ nameNumbers users (now (text .entry)) (namesOf (now («strand_starts» .entry)) (now («strand_lengths» .entry)) (now («strand_marks» .entry))) (namesOf (now (starts .entry)) (now (lengths .entry)) (now (marks .entry))) (length (now (numbers .entry))) ⌝ }
-    ensures { λ r. ⌜ now (numbers .exit) ≡ numbersAfter users (now (text .entry)) (namesOf (now («strand_starts» .entry)) (now («strand_lengths» .entry)) (now («strand_marks» .entry))) (namesOf (now (starts .entry)) (now (lengths .entry)) (now (marks .entry))) (now (numbers .entry)) ⌝ }
+    ensures { λ r. ⌜ numbersFigures r ≡ nameNumbers users (now (text .entry)) (namesOf (now (strands .entry))) (namesOf (now (names .entry))) (length (now (numbers .entry))) ⌝ }
+    ensures { λ r. ⌜ now (numbers .exit) ≡ numbersAfter users (now (text .entry)) (namesOf (now (strands .entry))) (namesOf (now (names .entry))) (now (numbers .entry)) ⌝ }
 {
-    if unfit_strands(text, users, strand_starts, strand_lengths, strand_marks) {
+    if unfit_strands(text, users, strands) {
         return NumbersAnswer::Refused(Refusal::WrongSize);
     }
-    if unfit_names(numbers.len(), text, starts, lengths, marks) {
+    if unfit_names(numbers.len(), text, names) {
         return NumbersAnswer::Refused(Refusal::WrongSize);
     }
     let mut heads = [0usize; 183];
     let mut sizes = [0usize; 183];
-    let count = base_names(
-        text,
-        strand_starts,
-        strand_lengths,
-        strand_marks,
-        &mut heads,
-        &mut sizes,
-    );
-    fill_numbers(text, &heads, &sizes, count, starts, lengths, marks, numbers);
+    let count = base_names(text, strands, &mut heads, &mut sizes);
+    fill_numbers(text, &heads, &sizes, count, names, numbers);
     NumbersAnswer::Given(count)
 }
 
 // The numbers of all strand glues: of each strand west, bottom, east.
-pub fn strand_glues(
-    text: &[u8],
-    users: usize,
-    starts: &[usize],
-    lengths: &[usize],
-    marks: &[u8],
-    glues: &mut [u8],
-) -> Reply
-    ensures { λ r. ⌜ replyNumber r ≡ strandGlues users (now (text .entry)) (namesOf (now (starts .entry)) (now (lengths .entry)) (now (marks .entry))) (length (now (glues .entry))) ⌝ }
-    ensures { λ r. ⌜ now (glues .exit) ≡ gluesAfter users (now (text .entry)) (namesOf (now (starts .entry)) (now (lengths .entry)) (now (marks .entry))) (now (glues .entry)) ⌝ }
+pub fn strand_glues(text: &[u8], users: usize, strands: &[usize], glues: &mut [u8]) -> Reply
+    ensures { λ r. ⌜ replyNumber r ≡ strandGlues users (now (text .entry)) (namesOf (now (strands .entry))) (length (now (glues .entry))) ⌝ }
+    ensures { λ r. ⌜ now (glues .exit) ≡ gluesAfter users (now (text .entry)) (namesOf (now (strands .entry))) (now (glues .entry)) ⌝ }
 {
-    if unfit_strands(text, users, starts, lengths, marks) {
+    if unfit_strands(text, users, strands) {
         return Reply::Refused(Refusal::WrongSize, Place::Nowhere);
     }
     if glues.len() != 3 * users {
@@ -118,10 +94,10 @@ pub fn strand_glues(
     }
     let mut heads = [0usize; 183];
     let mut sizes = [0usize; 183];
-    let count = base_names(text, starts, lengths, marks, &mut heads, &mut sizes);
+    let count = base_names(text, strands, &mut heads, &mut sizes);
     if MOST_BASES < count {
         return Reply::Refused(Refusal::TooManyGlues, Place::Nowhere);
     }
-    fill_glues(text, &heads, &sizes, count, starts, lengths, marks, glues);
+    fill_glues(text, &heads, &sizes, count, strands, glues);
     Reply::Admitted
 }

@@ -1,18 +1,25 @@
 // Names as parts of a text: their bases, whether two are the same, and whether lent names are as they should be.
 ghost use mathlib.Core.Path.{_≡_};
-ghost use Prim.Native.Nat.{_≤_};
+ghost use Prim.Native.Nat.{_/_, _<_, _≤_};
 ghost use lib.ListN.{length};
 ghost use Rattle.sdc_common.specs.Names.{baseLength, sameName};
-ghost use Rattle.sdc_common.specs.Lent.{unfitName, unfitGlue, namesOf, unfitNames};
+ghost use Rattle.sdc_common.specs.Lent.{unfitName, unfitGlue, nameAt, namesOf, unfitNames};
 
 // The mark of a name that is absent.
-pub const ABSENT: u8 = 0;
+pub const ABSENT: usize = 0;
 
 // The mark of a name that is there.
-pub const PRESENT: u8 = 1;
+pub const PRESENT: usize = 1;
 
 // The longest name, its stars counted.
 const LONGEST: usize = 64;
+
+// A name as it is lent: whether it is there, and its part of the text.
+pub struct LentName {
+    pub mark: usize,
+    pub start: usize,
+    pub size: usize,
+}
 
 // The length of a name without its trailing stars.
 pub(crate) fn base_length(name: &[u8]) -> usize
@@ -62,34 +69,43 @@ pub(crate) fn unfit_name(text: &[u8], start: usize, length: usize) -> bool
 }
 
 // Whether a mark has neither value, or a present name is unfit.
-fn unfit_glue(text: &[u8], mark: u8, start: usize, length: usize) -> bool
-    ensures { λ r. ⌜ r ≡ unfitGlue (now (text .entry)) mark start length ⌝ }
+pub fn unfit_glue(text: &[u8], name: LentName) -> bool
+    ensures { λ r. ⌜ r ≡ unfitGlue (now (text .entry)) name ⌝ }
 {
-    if mark == ABSENT {
+    if name.mark == ABSENT {
         return false;
     }
-    if mark != PRESENT {
+    if name.mark != PRESENT {
         return true;
     }
-    unfit_name(text, start, length)
+    unfit_name(text, name.start, name.size)
+}
+
+// Name i of rows of three numbers: a mark, a start and a length.
+pub fn name_at(names: &[usize], i: usize) -> LentName
+    requires { ⌜ i < length (now names) / 3 ⌝ }
+    ensures { λ r. ⌜ r ≡ nameAt (now (names .entry)) i ⌝ }
+{
+    LentName {
+        mark: names[3 * i],
+        start: names[3 * i + 1],
+        size: names[3 * i + 2],
+    }
 }
 
 // Whether n names are not as they should be.
-pub fn unfit_names(n: usize, text: &[u8], starts: &[usize], lengths: &[usize], marks: &[u8]) -> bool
-    ensures { λ r. ⌜ r ≡ unfitNames n (now (text .entry)) (namesOf (now (starts .entry)) (now (lengths .entry)) (now (marks .entry))) ⌝ }
+pub fn unfit_names(n: usize, text: &[u8], names: &[usize]) -> bool
+    ensures { λ r. ⌜ r ≡ unfitNames n (now (text .entry)) (namesOf (now (names .entry))) ⌝ }
 {
-    if starts.len() != n {
+    if names.len() % 3 != 0 {
         return true;
     }
-    if lengths.len() != n {
-        return true;
-    }
-    if marks.len() != n {
+    if names.len() / 3 != n {
         return true;
     }
     let mut i = 0;
     while i < n {
-        if unfit_glue(text, marks[i], starts[i], lengths[i]) {
+        if unfit_glue(text, name_at(names, i)) {
             return true;
         }
         i += 1;

@@ -1,6 +1,6 @@
 // The table of bases: each by its start and length in the text, in the order of first appearance, and the numbers read off it.
 ghost use mathlib.Core.Path.{_≡_};
-ghost use Prim.Native.Nat.{_<_, _≤_, _+_, _*_};
+ghost use Prim.Native.Nat.{_<_, _≤_, _+_, _*_, _/_};
 ghost use lib.ListN.{length};
 ghost use mathlib.Core.List.{map};
 ghost use Rattle.lists.specs.Find.{firstIndex};
@@ -10,7 +10,9 @@ ghost use Rattle.sdc_common.specs.inner.Fit.{Fit, FitNames};
 ghost use Rattle.sdc_common.specs.Numbers.{learn, basesOf, glueNumber};
 ghost use Rattle.sdc_common.specs.inner.Table.{Table, held};
 use crate::names::ABSENT;
+use crate::names::LentName;
 use crate::names::base_length;
+use crate::names::name_at;
 use crate::names::same_bytes;
 
 // The number of a glue that is absent, or whose base no strand has.
@@ -36,24 +38,23 @@ fn find(text: &[u8], heads: &[usize], sizes: &[usize], count: usize, name: &[u8]
 // The table after one glue more, and its count: a new base comes last.
 fn learn_glue(
     text: &[u8],
-    mark: u8,
-    start: usize,
-    length: usize,
+    name: LentName,
     heads: &mut [usize],
     sizes: &mut [usize],
     count: usize,
 ) -> usize
     requires { ⌜ Table (now text) (now heads) (now sizes) count ⌝ }
-    requires { ⌜ Fit (now text) mark start length ⌝ }
+    requires { ⌜ Fit (now text) name ⌝ }
     requires { ⌜ count < 183 ⌝ }
     ensures { λ r. ⌜ Table (now (text .entry)) (now (heads .exit)) (now (sizes .exit)) r ⌝ }
-    ensures { λ r. ⌜ held (now (text .entry)) (now (heads .exit)) (now (sizes .exit)) r ≡ learn (held (now (text .entry)) (now (heads .entry)) (now (sizes .entry)) count) (glueOf (now (text .entry)) mark start length) ⌝ }
+    ensures { λ r. ⌜ held (now (text .entry)) (now (heads .exit)) (now (sizes .exit)) r ≡ learn (held (now (text .entry)) (now (heads .entry)) (now (sizes .entry)) count) (glueOf (now (text .entry)) name) ⌝ }
     ensures { λ r. ⌜ r ≤ count + 1 ⌝ }
 {
-    if mark == ABSENT {
+    if name.mark == ABSENT {
         return count;
     }
-    let end = start + length;
+    let start = name.start;
+    let end = start + name.size;
     let base = base_length(&text[start..end]);
     let base_end = start + base;
     if find(text, heads, sizes, count, &text[start..base_end]) < count {
@@ -65,76 +66,62 @@ fn learn_glue(
 }
 
 // The base names of the strands' glues, into the table; their count.
-pub(crate) fn base_names(
-    text: &[u8],
-    starts: &[usize],
-    lengths: &[usize],
-    marks: &[u8],
-    heads: &mut [usize],
-    sizes: &mut [usize],
-) -> usize
-    requires { ⌜ FitNames (now text) (namesOf (now starts) (now lengths) (now marks)) ⌝ }
-    requires { ⌜ length (now marks) ≤ 183 ⌝ }
+pub fn base_names(text: &[u8], names: &[usize], heads: &mut [usize], sizes: &mut [usize]) -> usize
+    requires { ⌜ FitNames (now text) (now names) ⌝ }
+    requires { ⌜ length (now names) / 3 ≤ 183 ⌝ }
     requires { ⌜ (length (now heads) ≡ 183) × (length (now sizes) ≡ 183) ⌝ }
     ensures { λ r. ⌜ Table (now (text .entry)) (now (heads .exit)) (now (sizes .exit)) r ⌝ }
-    ensures { λ r. ⌜ held (now (text .entry)) (now (heads .exit)) (now (sizes .exit)) r ≡ basesOf (gluesOf (now (text .entry)) (namesOf (now (starts .entry)) (now (lengths .entry)) (now (marks .entry)))) ⌝ }
+    ensures { λ r. ⌜ held (now (text .entry)) (now (heads .exit)) (now (sizes .exit)) r ≡ basesOf (gluesOf (now (text .entry)) (namesOf (now (names .entry)))) ⌝ }
 {
     let mut count = 0;
+    let n = names.len() / 3;
     let mut i = 0;
-    while i < marks.len() {
-        count = learn_glue(text, marks[i], starts[i], lengths[i], heads, sizes, count);
+    while i < n {
+        count = learn_glue(text, name_at(names, i), heads, sizes, count);
         i += 1;
     }
     count
 }
 
 // The number of a glue: 0 where it is absent, or its base is not in the table.
-fn number(
-    text: &[u8],
-    heads: &[usize],
-    sizes: &[usize],
-    count: usize,
-    mark: u8,
-    start: usize,
-    length: usize,
-) -> usize
+pub fn number(text: &[u8], heads: &[usize], sizes: &[usize], count: usize, name: LentName) -> usize
     requires { ⌜ Table (now text) (now heads) (now sizes) count ⌝ }
-    requires { ⌜ Fit (now text) mark start length ⌝ }
-    ensures { λ r. ⌜ r ≡ glueNumber (held (now (text .entry)) (now (heads .entry)) (now (sizes .entry)) count) (glueOf (now (text .entry)) mark start length) ⌝ }
+    requires { ⌜ Fit (now text) name ⌝ }
+    ensures { λ r. ⌜ r ≡ glueNumber (held (now (text .entry)) (now (heads .entry)) (now (sizes .entry)) count) (glueOf (now (text .entry)) name) ⌝ }
     ensures { λ r. ⌜ r ≤ 2 * count ⌝ }
 {
-    if mark == ABSENT {
+    if name.mark == ABSENT {
         return NO_NUMBER;
     }
-    let end = start + length;
+    let start = name.start;
+    let end = start + name.size;
     let base = base_length(&text[start..end]);
     let base_end = start + base;
     let place = find(text, heads, sizes, count, &text[start..base_end]);
     if count <= place {
         return NO_NUMBER;
     }
-    1 + 2 * place + (length - base) % 2
+    1 + 2 * place + (name.size - base) % 2
 }
 
 // The numbers of the names, one after the other.
-pub(crate) fn fill_numbers(
+pub fn fill_numbers(
     text: &[u8],
     heads: &[usize],
     sizes: &[usize],
     count: usize,
-    starts: &[usize],
-    lengths: &[usize],
-    marks: &[u8],
+    names: &[usize],
     numbers: &mut [usize],
 )
     requires { ⌜ Table (now text) (now heads) (now sizes) count ⌝ }
-    requires { ⌜ FitNames (now text) (namesOf (now starts) (now lengths) (now marks)) ⌝ }
-    requires { ⌜ length (now numbers) ≡ length (now marks) ⌝ }
-    ensures { λ _. ⌜ now (numbers .exit) ≡ map (glueNumber (held (now (text .entry)) (now (heads .entry)) (now (sizes .entry)) count)) (gluesOf (now (text .entry)) (namesOf (now (starts .entry)) (now (lengths .entry)) (now (marks .entry)))) ⌝ }
+    requires { ⌜ FitNames (now text) (now names) ⌝ }
+    requires { ⌜ length (now numbers) ≡ length (now names) / 3 ⌝ }
+    ensures { λ _. ⌜ now (numbers .exit) ≡ map (glueNumber (held (now (text .entry)) (now (heads .entry)) (now (sizes .entry)) count)) (gluesOf (now (text .entry)) (namesOf (now (names .entry)))) ⌝ }
 {
+    let n = names.len() / 3;
     let mut i = 0;
-    while i < marks.len() {
-        numbers[i] = number(text, heads, sizes, count, marks[i], starts[i], lengths[i]);
+    while i < n {
+        numbers[i] = number(text, heads, sizes, count, name_at(names, i));
         i += 1;
     }
 }
@@ -145,20 +132,19 @@ pub(crate) fn fill_glues(
     heads: &[usize],
     sizes: &[usize],
     count: usize,
-    starts: &[usize],
-    lengths: &[usize],
-    marks: &[u8],
+    names: &[usize],
     glues: &mut [u8],
 )
     requires { ⌜ Table (now text) (now heads) (now sizes) count ⌝ }
-    requires { ⌜ FitNames (now text) (namesOf (now starts) (now lengths) (now marks)) ⌝ }
-    requires { ⌜ length (now glues) ≡ length (now marks) ⌝ }
+    requires { ⌜ FitNames (now text) (now names) ⌝ }
+    requires { ⌜ length (now glues) ≡ length (now names) / 3 ⌝ }
     requires { ⌜ count ≤ 31 ⌝ }
-    ensures { λ _. ⌜ now (glues .exit) ≡ map (glueNumber (held (now (text .entry)) (now (heads .entry)) (now (sizes .entry)) count)) (gluesOf (now (text .entry)) (namesOf (now (starts .entry)) (now (lengths .entry)) (now (marks .entry)))) ⌝ }
+    ensures { λ _. ⌜ now (glues .exit) ≡ map (glueNumber (held (now (text .entry)) (now (heads .entry)) (now (sizes .entry)) count)) (gluesOf (now (text .entry)) (namesOf (now (names .entry)))) ⌝ }
 {
+    let n = names.len() / 3;
     let mut i = 0;
-    while i < marks.len() {
-        glues[i] = number(text, heads, sizes, count, marks[i], starts[i], lengths[i]) as u8;
+    while i < n {
+        glues[i] = number(text, heads, sizes, count, name_at(names, i)) as u8;
         i += 1;
     }
 }

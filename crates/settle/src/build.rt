@@ -1,13 +1,13 @@
 // The design of a file's rows, and of beginnings of them.
 use crate::reads;
-use crate::reads::first_bytes;
 use crate::reads::first_numbers;
 use crate::reads::first_places;
 use reply::Place;
 use reply::Refusal;
 use reply::Reply;
 use sdc_common::strand_glues;
-use sdc1d_params::Copied;
+use sdc1d_params::Copies;
+use sdc1d_params::Penalty;
 use sdc1d_params::from_params;
 use sheet::once::copied;
 use sheet::once::junction_penalty;
@@ -32,8 +32,8 @@ pub(crate) const MOST_POSITIONS: usize = 128;
 // The most energy entries.
 pub(crate) const MOST_ENTRIES: usize = 1024;
 
-// The first so many strands, positions and entries of the rows, as `from_params` builds them into the lent slices. What it takes is gathered
-// in four steps, each with slices of its own.
+// The first so many strands, positions and entries of the rows, as `from_params` builds them into the lent slices. Names and entries are
+// gathered in two steps, each with slices of its own.
 pub(crate) fn build(
     text: &[u8],
     kinds: &[u8],
@@ -50,88 +50,32 @@ pub(crate) fn build(
     if MOST_USERS < users || MOST_POSITIONS < positions || MOST_ENTRIES < entries {
         return Reply::Refused(Refusal::WrongSize, Place::Nowhere);
     }
-    let glues = 3 * users;
     let mut room = [0usize; 61];
     rows_of(kinds, STRAND, reads::places(&mut room, users));
     let rows = first_places(&room, users);
-    let mut starts = [0usize; 183];
-    let mut lengths = [0usize; 183];
-    let mut marks = [0u8; 183];
-    parts::strands(
-        kinds,
-        words,
-        rows,
-        reads::places(&mut starts, glues),
-        reads::places(&mut lengths, glues),
-        reads::bytes(&mut marks, glues),
-    );
-    with_scaffold(
-        text,
-        kinds,
-        words,
-        numbers,
-        positions,
-        entries,
-        users,
-        first_places(&starts, glues),
-        first_places(&lengths, glues),
-        first_bytes(&marks, glues),
-        copied(text, kinds, words, rows, QUENCHER),
-        copied(text, kinds, words, rows, REPORTER),
-        strand_glues,
-        scaffold_glues,
-        dg,
-        ds,
-    )
-}
-
-// The second step: the names of the positions.
-fn with_scaffold(
-    text: &[u8],
-    kinds: &[u8],
-    words: &[usize],
-    numbers: &[f64],
-    positions: usize,
-    entries: usize,
-    users: usize,
-    strand_starts: &[usize],
-    strand_lengths: &[usize],
-    strand_marks: &[u8],
-    quencher: Copied,
-    reporter: Copied,
-    strand_glues: &mut [u8],
-    scaffold_glues: &mut [u8],
-    dg: &mut [f64],
-    ds: &mut [f64],
-) -> Reply {
-    let mut rows = [0usize; 128];
-    rows_of(kinds, POSITION, reads::places(&mut rows, positions));
-    let mut starts = [0usize; 128];
-    let mut lengths = [0usize; 128];
-    let mut marks = [0u8; 128];
+    let mut strands = [0usize; 549];
+    parts::strands(kinds, words, rows, reads::places(&mut strands, 9 * users));
+    let mut sites = [0usize; 128];
+    rows_of(kinds, POSITION, reads::places(&mut sites, positions));
+    let mut scaffold = [0usize; 384];
     parts::positions(
         kinds,
         words,
-        first_places(&rows, positions),
-        reads::places(&mut starts, positions),
-        reads::places(&mut lengths, positions),
-        reads::bytes(&mut marks, positions),
+        first_places(&sites, positions),
+        reads::places(&mut scaffold, 3 * positions),
     );
-    with_names(
+    let quencher = copied(text, kinds, words, rows, QUENCHER);
+    let reporter = copied(text, kinds, words, rows, REPORTER);
+    with_entries(
         text,
         kinds,
         words,
         numbers,
         entries,
         users,
-        strand_starts,
-        strand_lengths,
-        strand_marks,
-        first_places(&starts, positions),
-        first_places(&lengths, positions),
-        first_bytes(&marks, positions),
-        quencher,
-        reporter,
+        first_places(&strands, 9 * users),
+        first_places(&scaffold, 3 * positions),
+        Copies { quencher, reporter },
         strand_glues,
         scaffold_glues,
         dg,
@@ -139,139 +83,45 @@ fn with_scaffold(
     )
 }
 
-// The third step: the names of the entries.
-fn with_names(
+// The second step: the entries, and the call.
+fn with_entries(
     text: &[u8],
     kinds: &[u8],
     words: &[usize],
     numbers: &[f64],
     entries: usize,
     users: usize,
-    strand_starts: &[usize],
-    strand_lengths: &[usize],
-    strand_marks: &[u8],
-    scaffold_starts: &[usize],
-    scaffold_lengths: &[usize],
-    scaffold_marks: &[u8],
-    quencher: Copied,
-    reporter: Copied,
+    strands: &[usize],
+    scaffold: &[usize],
+    copies: Copies,
     strand_glues: &mut [u8],
     scaffold_glues: &mut [u8],
     dg: &mut [f64],
     ds: &mut [f64],
 ) -> Reply {
+    if MOST_ENTRIES < entries {
+        return Reply::Refused(Refusal::WrongSize, Place::Nowhere);
+    }
     let mut room = [0usize; 1024];
     rows_of(kinds, ENERGY_GIVEN, reads::places(&mut room, entries));
     let rows = first_places(&room, entries);
-    let mut first_starts = [0usize; 1024];
-    let mut first_lengths = [0usize; 1024];
-    let mut second_starts = [0usize; 1024];
-    let mut second_lengths = [0usize; 1024];
-    let mut second_marks = [0u8; 1024];
-    parts::entry_names(
-        kinds,
-        words,
-        rows,
-        reads::places(&mut first_starts, entries),
-        reads::places(&mut first_lengths, entries),
-        reads::places(&mut second_starts, entries),
-        reads::places(&mut second_lengths, entries),
-        reads::bytes(&mut second_marks, entries),
-    );
-    with_energies(
-        text,
-        kinds,
-        words,
-        numbers,
-        rows,
-        users,
-        strand_starts,
-        strand_lengths,
-        strand_marks,
-        scaffold_starts,
-        scaffold_lengths,
-        scaffold_marks,
-        first_places(&first_starts, entries),
-        first_places(&first_lengths, entries),
-        first_places(&second_starts, entries),
-        first_places(&second_lengths, entries),
-        first_bytes(&second_marks, entries),
-        quencher,
-        reporter,
-        strand_glues,
-        scaffold_glues,
-        dg,
-        ds,
-    )
-}
-
-// The last step: the entries' energies, and the call.
-fn with_energies(
-    text: &[u8],
-    kinds: &[u8],
-    words: &[usize],
-    numbers: &[f64],
-    rows: &[usize],
-    users: usize,
-    strand_starts: &[usize],
-    strand_lengths: &[usize],
-    strand_marks: &[u8],
-    scaffold_starts: &[usize],
-    scaffold_lengths: &[usize],
-    scaffold_marks: &[u8],
-    first_starts: &[usize],
-    first_lengths: &[usize],
-    second_starts: &[usize],
-    second_lengths: &[usize],
-    second_marks: &[u8],
-    quencher: Copied,
-    reporter: Copied,
-    strand_glues: &mut [u8],
-    scaffold_glues: &mut [u8],
-    dg: &mut [f64],
-    ds: &mut [f64],
-) -> Reply {
-    let entries = rows.len();
-    let mut forms = [0u8; 1024];
-    let mut dgs = [0.0; 1024];
-    let mut dss = [0.0; 1024];
-    let mut starts = [0usize; 1024];
-    let mut lengths = [0usize; 1024];
-    parts::entry_energies(
-        kinds,
-        words,
-        numbers,
-        rows,
-        reads::bytes(&mut forms, entries),
-        reads::numbers(&mut dgs, entries),
-        reads::numbers(&mut dss, entries),
-        reads::places(&mut starts, entries),
-        reads::places(&mut lengths, entries),
-    );
+    let mut names = [0usize; 8192];
+    parts::entries(kinds, words, rows, reads::places(&mut names, 8 * entries));
+    let mut energies = [0.0; 2048];
+    parts::energies(numbers, rows, reads::numbers(&mut energies, 2 * entries));
     let penalty = junction_penalty(kinds, numbers);
     from_params(
         text,
         users,
-        strand_starts,
-        strand_lengths,
-        strand_marks,
-        scaffold_starts,
-        scaffold_lengths,
-        scaffold_marks,
-        first_starts,
-        first_lengths,
-        second_starts,
-        second_lengths,
-        second_marks,
-        first_bytes(&forms, entries),
-        first_numbers(&dgs, entries),
-        first_numbers(&dss, entries),
-        first_places(&starts, entries),
-        first_places(&lengths, entries),
-        KcalPerMol(penalty.0),
-        KcalPerMolKelvin(penalty.1),
-        quencher,
-        reporter,
+        strands,
+        scaffold,
+        first_places(&names, 8 * entries),
+        first_numbers(&energies, 2 * entries),
+        Penalty {
+            dg: KcalPerMol(penalty.0),
+            ds: KcalPerMolKelvin(penalty.1),
+        },
+        copies,
         strand_glues,
         scaffold_glues,
         dg,
@@ -317,28 +167,20 @@ pub(crate) fn glues_reply(text: &[u8], kinds: &[u8], words: &[usize], users: usi
     if MOST_USERS < users {
         return Reply::Refused(Refusal::WrongSize, Place::Nowhere);
     }
-    let count = 3 * users;
     let mut room = [0usize; 61];
     rows_of(kinds, STRAND, reads::places(&mut room, users));
-    let rows = first_places(&room, users);
-    let mut starts = [0usize; 183];
-    let mut lengths = [0usize; 183];
-    let mut marks = [0u8; 183];
+    let mut strands = [0usize; 549];
     parts::strands(
         kinds,
         words,
-        rows,
-        reads::places(&mut starts, count),
-        reads::places(&mut lengths, count),
-        reads::bytes(&mut marks, count),
+        first_places(&room, users),
+        reads::places(&mut strands, 9 * users),
     );
     let mut glues = [0u8; 183];
     strand_glues(
         text,
         users,
-        first_places(&starts, count),
-        first_places(&lengths, count),
-        first_bytes(&marks, count),
-        reads::bytes(&mut glues, count),
+        first_places(&strands, 9 * users),
+        reads::bytes(&mut glues, 3 * users),
     )
 }

@@ -39,14 +39,12 @@ pub(crate) fn report(
     rows_of(kinds, POSITION, reads::places(&mut rows, positions));
     let mut starts = [0usize; 128];
     let mut sizes = [0usize; 128];
-    let mut named = [0u8; 128];
-    parts::positions(
+    parts::shown(
         kinds,
         words,
         first_places(&rows, positions),
         reads::places(&mut starts, positions),
         reads::places(&mut sizes, positions),
-        reads::bytes(&mut named, positions),
     );
     report_names(
         style,
@@ -84,14 +82,12 @@ fn report_names(
     let users = strand_rows.len();
     let mut starts = [0usize; 61];
     let mut sizes = [0usize; 61];
-    let mut named = [0u8; 61];
-    parts::positions(
+    parts::shown(
         kinds,
         words,
         strand_rows,
         reads::places(&mut starts, users),
         reads::places(&mut sizes, users),
-        reads::bytes(&mut named, users),
     );
     let mut deck = [0u32; 129];
     let DeckWritten::Words(size) = deck::write(DeckForm::Singles, configuration, &mut deck) else {

@@ -1,10 +1,10 @@
 -- What the calls take of lists of rows: a lent slice is filled to its end, entry m as these definitions say.
 use mathlib.Core.Bool.{Bool, cond, _||_}
-use mathlib.Core.List.{List}
+use mathlib.Core.List.{List, [], _∷_}
 use Prim.Native.Nat.{ℕ, _+_, _-_, _/_, _%_}
 use lib.Dec.{eqb, ltb}
 use lib.Ieee.{Float}
-use lib.ListN.{length}
+use lib.ListN.{length, getD}
 use Rattle.doubles.specs.Decimal.{zero}
 use Rattle.statements.specs.Grammar.{quencher, reporter, energySequence, pairGiven, pairSequence, blocked}
 use Rattle.statements.specs.declared.words.Word.{Word}
@@ -60,11 +60,38 @@ formAt kinds rows m = markOf (isSequence (kindAmong kinds rows m))
 abbrev pub blockedAt : List ℕ → List ℕ → ℕ → ℕ
 blockedAt kinds rows m = markOf (eqb (kindAmong kinds rows m) blocked)
 
+-- ---- rows, as `from_params` takes them
+
+-- the word at entry m as a row of three: its mark, its start, its size
+abbrev pub nameRow : List ℕ → List ℕ → List ℕ → Part → ℕ → List ℕ
+nameRow kinds words rows part m = markAt kinds words rows part m ∷ startAt kinds words rows part m ∷ sizeAt kinds words rows part m ∷ []
+
+-- number k of rows of three, one behind the other
+unfoldable pub nameNumberAt : List ℕ → List ℕ → List ℕ → Part → ℕ → ℕ
+nameNumberAt kinds words rows part k = getD (nameRow kinds words rows part (k / 3)) (k % 3) 0
+
+-- entry m as a row of eight: start and size of the first name; mark, start and size of the second; form, start and size of the bases
+abbrev pub entryRow : List ℕ → List ℕ → List ℕ → ℕ → List ℕ
+entryRow kinds words rows m =
+    startAt kinds words rows First m
+    ∷ sizeAt kinds words rows First m
+    ∷ pairAt kinds rows m
+    ∷ startAt kinds words rows Second m
+    ∷ sizeAt kinds words rows Second m
+    ∷ formAt kinds rows m
+    ∷ startAt kinds words rows Sequence m
+    ∷ sizeAt kinds words rows Sequence m
+    ∷ []
+
+-- number k of rows of eight, one behind the other
+unfoldable pub entryNumberAt : List ℕ → List ℕ → List ℕ → ℕ → ℕ
+entryNumberAt kinds words rows k = getD (entryRow kinds words rows (k / 8)) (k % 8) 0
+
 -- ---- numbers
 
--- number j at entry m
-abbrev pub numberAt : List Float → List ℕ → ℕ → ℕ → Float
-numberAt numbers rows j m = numberAmong numbers rows m j
+-- double k of rows of two, dG and dS of each entry
+abbrev pub energyAt : List Float → List ℕ → ℕ → Float
+energyAt numbers rows k = numberAmong numbers rows (k / 2) (k % 2)
 
 -- strand 0 has 0.0; then come the strands of the rows, the quencher and the reporter
 unfoldable pub potentialAt : List ℕ → List Float → List ℕ → ℕ → Float

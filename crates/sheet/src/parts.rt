@@ -1,10 +1,11 @@
 // What the calls take of lists of rows. Each lent slice is filled to its end.
 ghost use mathlib.Core.Path.{_≡_};
-ghost use Prim.Native.Nat.{_<_};
+ghost use lib.Dec.{eqb};
 ghost use lib.ListN.{length};
 ghost use Rattle.lists.specs.Build.{tabulate};
-ghost use Rattle.sheet.specs.Parts.{isPair, isSequence, markOf, partAt, startAt, sizeAt, markAt, pairAt, formAt, blockedAt, numberAt, potentialAt};
-ghost use Rattle.sheet.specs.declared.parts.Part.the-variants.{Glues, First, Second, Sequence};
+ghost use Rattle.statements.specs.Grammar.{blocked};
+ghost use Rattle.sheet.specs.Parts.{isPair, isSequence, markOf, partAt, startAt, sizeAt, nameNumberAt, entryNumberAt, energyAt, potentialAt, blockedAt};
+ghost use Rattle.sheet.specs.declared.parts.Part.the-variants.{Glues, First};
 use crate::once::number_once;
 use crate::rows::kind_among;
 use crate::rows::number_among;
@@ -50,10 +51,20 @@ fn is_sequence(kind: u8) -> bool
 }
 
 // A mark for what is there.
-fn mark_of(holds: bool) -> u8
+fn mark_of(holds: bool) -> usize
     ensures { λ r. ⌜ r ≡ markOf holds ⌝ }
 {
     if holds {
+        return 1;
+    }
+    0
+}
+
+// The mark of a position, 1 where it is blocked.
+fn block_of(kind: u8) -> u8
+    ensures { λ r. ⌜ r ≡ markOf (eqb kind blocked) ⌝ }
+{
+    if kind == BLOCKED {
         return 1;
     }
     0
@@ -76,73 +87,47 @@ fn part_at(kinds: &[u8], words: &[usize], rows: &[usize], part: Part, m: usize) 
     }
 }
 
-// The start of each word.
-fn fill_starts(kinds: &[u8], words: &[usize], rows: &[usize], part: Part, starts: &mut [usize])
-    ensures { λ _. ⌜ now (starts .exit) ≡ tabulate (length (now (starts .entry))) (startAt (now (kinds .entry)) (now (words .entry)) (now (rows .entry)) part) ⌝ }
+// Number k of rows of three, the mark, the start and the size of each word.
+fn name_number(kinds: &[u8], words: &[usize], rows: &[usize], part: Part, k: usize) -> usize
+    ensures { λ r. ⌜ r ≡ nameNumberAt (now (kinds .entry)) (now (words .entry)) (now (rows .entry)) part k ⌝ }
 {
-    let mut m = 0;
-    while m < starts.len() {
-        let word = part_at(kinds, words, rows, part, m);
-        starts[m] = word.start;
-        m += 1;
+    let word = part_at(kinds, words, rows, part, k / 3);
+    match k % 3 {
+        0 => mark_of(0 < word.size),
+        1 => word.start,
+        _ => word.size,
     }
 }
 
-// The size of each word.
-fn fill_sizes(kinds: &[u8], words: &[usize], rows: &[usize], part: Part, sizes: &mut [usize])
-    ensures { λ _. ⌜ now (sizes .exit) ≡ tabulate (length (now (sizes .entry))) (sizeAt (now (kinds .entry)) (now (words .entry)) (now (rows .entry)) part) ⌝ }
+// A row of three for each word.
+fn fill_names(kinds: &[u8], words: &[usize], rows: &[usize], part: Part, names: &mut [usize])
+    ensures { λ _. ⌜ now (names .exit) ≡ tabulate (length (now (names .entry))) (nameNumberAt (now (kinds .entry)) (now (words .entry)) (now (rows .entry)) part) ⌝ }
 {
-    let mut m = 0;
-    while m < sizes.len() {
-        let word = part_at(kinds, words, rows, part, m);
-        sizes[m] = word.size;
-        m += 1;
+    let mut k = 0;
+    while k < names.len() {
+        names[k] = name_number(kinds, words, rows, part, k);
+        k += 1;
     }
 }
 
-// A mark for each word that is there.
-fn fill_marks(kinds: &[u8], words: &[usize], rows: &[usize], part: Part, marks: &mut [u8])
-    ensures { λ _. ⌜ now (marks .exit) ≡ tabulate (length (now (marks .entry))) (markAt (now (kinds .entry)) (now (words .entry)) (now (rows .entry)) part) ⌝ }
+// Number k of rows of eight, all that an entry is but its two doubles.
+fn entry_number(kinds: &[u8], words: &[usize], rows: &[usize], k: usize) -> usize
+    ensures { λ r. ⌜ r ≡ entryNumberAt (now (kinds .entry)) (now (words .entry)) (now (rows .entry)) k ⌝ }
 {
-    let mut m = 0;
-    while m < marks.len() {
-        let word = part_at(kinds, words, rows, part, m);
-        marks[m] = mark_of(0 < word.size);
-        m += 1;
-    }
-}
-
-// A mark for each entry that is for a pair of names.
-fn fill_pairs(kinds: &[u8], rows: &[usize], marks: &mut [u8])
-    ensures { λ _. ⌜ now (marks .exit) ≡ tabulate (length (now (marks .entry))) (pairAt (now (kinds .entry)) (now (rows .entry))) ⌝ }
-{
-    let mut m = 0;
-    while m < marks.len() {
-        marks[m] = mark_of(is_pair(kind_among(kinds, rows, m)));
-        m += 1;
-    }
-}
-
-// A mark for each entry that gives a sequence.
-fn fill_forms(kinds: &[u8], rows: &[usize], forms: &mut [u8])
-    ensures { λ _. ⌜ now (forms .exit) ≡ tabulate (length (now (forms .entry))) (formAt (now (kinds .entry)) (now (rows .entry))) ⌝ }
-{
-    let mut m = 0;
-    while m < forms.len() {
-        forms[m] = mark_of(is_sequence(kind_among(kinds, rows, m)));
-        m += 1;
-    }
-}
-
-// Number j of each row.
-fn fill_numbers(numbers: &[f64], rows: &[usize], j: usize, out: &mut [f64])
-    requires { ⌜ j < 3 ⌝ }
-    ensures { λ _. ⌜ now (out .exit) ≡ tabulate (length (now (out .entry))) (numberAt (now (numbers .entry)) (now (rows .entry)) j) ⌝ }
-{
-    let mut m = 0;
-    while m < out.len() {
-        out[m] = number_among(numbers, rows, m, j);
-        m += 1;
+    let m = k / 8;
+    let kind = kind_among(kinds, rows, m);
+    let first = part_at(kinds, words, rows, Part::First, m);
+    let second = part_at(kinds, words, rows, Part::Second, m);
+    let bases = part_at(kinds, words, rows, Part::Sequence, m);
+    match k % 8 {
+        0 => first.start,
+        1 => first.size,
+        2 => mark_of(is_pair(kind)),
+        3 => second.start,
+        4 => second.size,
+        5 => mark_of(is_sequence(kind)),
+        6 => bases.start,
+        _ => bases.size,
     }
 }
 
@@ -173,40 +158,51 @@ pub fn potentials(kinds: &[u8], numbers: &[f64], rows: &[usize], out: &mut [f64]
     }
 }
 
-// The glue names of the strands, three for each.
-pub fn strands(
-    kinds: &[u8],
-    words: &[usize],
-    rows: &[usize],
-    starts: &mut [usize],
-    lengths: &mut [usize],
-    marks: &mut [u8],
-)
-    ensures { λ _. ⌜ now (starts .exit) ≡ tabulate (length (now (starts .entry))) (startAt (now (kinds .entry)) (now (words .entry)) (now (rows .entry)) Glues) ⌝ }
-    ensures { λ _. ⌜ now (lengths .exit) ≡ tabulate (length (now (lengths .entry))) (sizeAt (now (kinds .entry)) (now (words .entry)) (now (rows .entry)) Glues) ⌝ }
-    ensures { λ _. ⌜ now (marks .exit) ≡ tabulate (length (now (marks .entry))) (markAt (now (kinds .entry)) (now (words .entry)) (now (rows .entry)) Glues) ⌝ }
+// The glue names of the strands, three for each: a row of mark, start and size for each name.
+pub fn strands(kinds: &[u8], words: &[usize], rows: &[usize], names: &mut [usize])
+    ensures { λ _. ⌜ now (names .exit) ≡ tabulate (length (now (names .entry))) (nameNumberAt (now (kinds .entry)) (now (words .entry)) (now (rows .entry)) Glues) ⌝ }
 {
-    fill_starts(kinds, words, rows, Part::Glues, starts);
-    fill_sizes(kinds, words, rows, Part::Glues, lengths);
-    fill_marks(kinds, words, rows, Part::Glues, marks);
+    fill_names(kinds, words, rows, Part::Glues, names);
 }
 
-// The glue names of the positions.
-pub fn positions(
-    kinds: &[u8],
-    words: &[usize],
-    rows: &[usize],
-    starts: &mut [usize],
-    lengths: &mut [usize],
-    marks: &mut [u8],
-)
-    ensures { λ _. ⌜ now (starts .exit) ≡ tabulate (length (now (starts .entry))) (startAt (now (kinds .entry)) (now (words .entry)) (now (rows .entry)) First) ⌝ }
-    ensures { λ _. ⌜ now (lengths .exit) ≡ tabulate (length (now (lengths .entry))) (sizeAt (now (kinds .entry)) (now (words .entry)) (now (rows .entry)) First) ⌝ }
-    ensures { λ _. ⌜ now (marks .exit) ≡ tabulate (length (now (marks .entry))) (markAt (now (kinds .entry)) (now (words .entry)) (now (rows .entry)) First) ⌝ }
+// The glue names of the positions, a row of mark, start and size for each.
+pub fn positions(kinds: &[u8], words: &[usize], rows: &[usize], names: &mut [usize])
+    ensures { λ _. ⌜ now (names .exit) ≡ tabulate (length (now (names .entry))) (nameNumberAt (now (kinds .entry)) (now (words .entry)) (now (rows .entry)) First) ⌝ }
 {
-    fill_starts(kinds, words, rows, Part::First, starts);
-    fill_sizes(kinds, words, rows, Part::First, lengths);
-    fill_marks(kinds, words, rows, Part::First, marks);
+    fill_names(kinds, words, rows, Part::First, names);
+}
+
+// The start of the first word of each row.
+fn fill_starts(kinds: &[u8], words: &[usize], rows: &[usize], starts: &mut [usize])
+    ensures { λ _. ⌜ now (starts .exit) ≡ tabulate (length (now (starts .entry))) (startAt (now (kinds .entry)) (now (words .entry)) (now (rows .entry)) First) ⌝ }
+{
+    let mut m = 0;
+    while m < starts.len() {
+        let word = part_at(kinds, words, rows, Part::First, m);
+        starts[m] = word.start;
+        m += 1;
+    }
+}
+
+// The size of the first word of each row.
+fn fill_sizes(kinds: &[u8], words: &[usize], rows: &[usize], sizes: &mut [usize])
+    ensures { λ _. ⌜ now (sizes .exit) ≡ tabulate (length (now (sizes .entry))) (sizeAt (now (kinds .entry)) (now (words .entry)) (now (rows .entry)) First) ⌝ }
+{
+    let mut m = 0;
+    while m < sizes.len() {
+        let word = part_at(kinds, words, rows, Part::First, m);
+        sizes[m] = word.size;
+        m += 1;
+    }
+}
+
+// The names that are shown, of positions or of strands: the first word of each row.
+pub fn shown(kinds: &[u8], words: &[usize], rows: &[usize], starts: &mut [usize], sizes: &mut [usize])
+    ensures { λ _. ⌜ now (starts .exit) ≡ tabulate (length (now (starts .entry))) (startAt (now (kinds .entry)) (now (words .entry)) (now (rows .entry)) First) ⌝ }
+    ensures { λ _. ⌜ now (sizes .exit) ≡ tabulate (length (now (sizes .entry))) (sizeAt (now (kinds .entry)) (now (words .entry)) (now (rows .entry)) First) ⌝ }
+{
+    fill_starts(kinds, words, rows, starts);
+    fill_sizes(kinds, words, rows, sizes);
 }
 
 // A mark for each position: 1 where it is blocked.
@@ -215,56 +211,30 @@ pub fn blocks(kinds: &[u8], rows: &[usize], marks: &mut [u8])
 {
     let mut m = 0;
     while m < marks.len() {
-        marks[m] = mark_of(kind_among(kinds, rows, m) == BLOCKED);
+        marks[m] = block_of(kind_among(kinds, rows, m));
         m += 1;
     }
 }
 
-// The names of the entries: the first of each, and the second where it is for a pair, which its mark says.
-pub fn entry_names(
-    kinds: &[u8],
-    words: &[usize],
-    rows: &[usize],
-    first_starts: &mut [usize],
-    first_lengths: &mut [usize],
-    second_starts: &mut [usize],
-    second_lengths: &mut [usize],
-    second_marks: &mut [u8],
-)
-    ensures { λ _. ⌜ now («first_starts» .exit) ≡ tabulate (length (now («first_starts» .entry))) (startAt (now (kinds .entry)) (now (words .entry)) (now (rows .entry)) First) ⌝ }
-    ensures { λ _. ⌜ now («first_lengths» .exit) ≡ tabulate (length (now («first_lengths» .entry))) (sizeAt (now (kinds .entry)) (now (words .entry)) (now (rows .entry)) First) ⌝ }
-    ensures { λ _. ⌜ now («second_starts» .exit) ≡ tabulate (length (now («second_starts» .entry))) (startAt (now (kinds .entry)) (now (words .entry)) (now (rows .entry)) Second) ⌝ }
-    ensures { λ _. ⌜ now («second_lengths» .exit) ≡ tabulate (length (now («second_lengths» .entry))) (sizeAt (now (kinds .entry)) (now (words .entry)) (now (rows .entry)) Second) ⌝ }
-    ensures { λ _. ⌜ now («second_marks» .exit) ≡ tabulate (length (now («second_marks» .entry))) (pairAt (now (kinds .entry)) (now (rows .entry))) ⌝ }
+// The entries, a row of eight for each: start and size of the first name; mark, start and size of the second, which is there where the entry
+// is for a pair; the form, and start and size of the bases.
+pub fn entries(kinds: &[u8], words: &[usize], rows: &[usize], out: &mut [usize])
+    ensures { λ _. ⌜ now (out .exit) ≡ tabulate (length (now (out .entry))) (entryNumberAt (now (kinds .entry)) (now (words .entry)) (now (rows .entry))) ⌝ }
 {
-    fill_starts(kinds, words, rows, Part::First, first_starts);
-    fill_sizes(kinds, words, rows, Part::First, first_lengths);
-    fill_starts(kinds, words, rows, Part::Second, second_starts);
-    fill_sizes(kinds, words, rows, Part::Second, second_lengths);
-    fill_pairs(kinds, rows, second_marks);
+    let mut k = 0;
+    while k < out.len() {
+        out[k] = entry_number(kinds, words, rows, k);
+        k += 1;
+    }
 }
 
-// The energies of the entries: two numbers, or a sequence, which its form says.
-pub fn entry_energies(
-    kinds: &[u8],
-    words: &[usize],
-    numbers: &[f64],
-    rows: &[usize],
-    forms: &mut [u8],
-    dgs: &mut [f64],
-    dss: &mut [f64],
-    starts: &mut [usize],
-    lengths: &mut [usize],
-)
-    ensures { λ _. ⌜ now (forms .exit) ≡ tabulate (length (now (forms .entry))) (formAt (now (kinds .entry)) (now (rows .entry))) ⌝ }
-    ensures { λ _. ⌜ now (dgs .exit) ≡ tabulate (length (now (dgs .entry))) (numberAt (now (numbers .entry)) (now (rows .entry)) 0) ⌝ }
-    ensures { λ _. ⌜ now (dss .exit) ≡ tabulate (length (now (dss .entry))) (numberAt (now (numbers .entry)) (now (rows .entry)) 1) ⌝ }
-    ensures { λ _. ⌜ now (starts .exit) ≡ tabulate (length (now (starts .entry))) (startAt (now (kinds .entry)) (now (words .entry)) (now (rows .entry)) Sequence) ⌝ }
-    ensures { λ _. ⌜ now (lengths .exit) ≡ tabulate (length (now (lengths .entry))) (sizeAt (now (kinds .entry)) (now (words .entry)) (now (rows .entry)) Sequence) ⌝ }
+// The energies of the entries, a row of dG and dS for each.
+pub fn energies(numbers: &[f64], rows: &[usize], out: &mut [f64])
+    ensures { λ _. ⌜ now (out .exit) ≡ tabulate (length (now (out .entry))) (energyAt (now (numbers .entry)) (now (rows .entry))) ⌝ }
 {
-    fill_forms(kinds, rows, forms);
-    fill_numbers(numbers, rows, 0, dgs);
-    fill_numbers(numbers, rows, 1, dss);
-    fill_starts(kinds, words, rows, Part::Sequence, starts);
-    fill_sizes(kinds, words, rows, Part::Sequence, lengths);
+    let mut k = 0;
+    while k < out.len() {
+        out[k] = number_among(numbers, rows, k / 2, k % 2);
+        k += 1;
+    }
 }

@@ -7,7 +7,7 @@
 
 use crate::measure::{measure, Row};
 use compare::bases::strand;
-use compare::judge::parameters::{Lent, Names, CELLS};
+use compare::judge::parameters::{Lent, CELLS};
 use compare::parameters::{Energy, Key, Name, Parameters};
 use compare::random::Random;
 use mujplesten as mj;
@@ -152,28 +152,14 @@ impl Slices {
     }
 }
 
-fn names(names: &Names) -> mj::Names<'_> {
-    mj::Names {
-        starts: &names.starts,
-        lengths: &names.lengths,
-        marks: &names.marks,
-    }
-}
-
 fn lent_to_port(lent: &Lent) -> mj::Params<'_> {
     mj::Params {
         text: &lent.text,
         users: lent.users,
-        strands: names(&lent.strands),
-        scaffold: names(&lent.scaffold),
-        first_starts: &lent.firsts.starts,
-        first_lengths: &lent.firsts.lengths,
-        seconds: names(&lent.seconds),
-        forms: &lent.forms,
-        dgs: &lent.dgs,
-        dss: &lent.dss,
-        starts: &lent.starts,
-        lengths: &lent.lengths,
+        strands: &lent.strands,
+        scaffold: &lent.scaffold,
+        entries: &lent.entries,
+        energies: &lent.energies,
         penalty_dg: lent.penalty_dg,
         penalty_ds: lent.penalty_ds,
         quencher: lent.quencher,

@@ -22,7 +22,7 @@ pub use design::{
     chain_energy, friends, ring_energy, ring_search, scaffold_bond, search, state, state_energy,
     states, strand_bond, Design,
 };
-pub use names::{name, strand_glues, Names};
+pub use names::{name, strand_glues};
 pub use params::{params, Built, Params};
 pub use sequences::{
     loop_penalty, pair, pair_dg, pair_ds, pair_reply, pair_strength, published_dg, published_ds,

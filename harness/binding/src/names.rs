@@ -15,24 +15,12 @@ mod c {
             text: *const u8,
             n: usize,
             users: usize,
-            starts: *const usize,
-            start_count: usize,
-            lengths: *const usize,
-            length_count: usize,
-            marks: *const u8,
-            mark_count: usize,
+            strands: *const usize,
+            strand_numbers: usize,
             glues: *mut u8,
             lent: usize,
         ) -> u32;
     }
-}
-
-/// Names as a call takes them: parts of one text, each with a mark beside it, 0 absent, 1 present.
-#[derive(Debug, Clone, Copy)]
-pub struct Names<'a> {
-    pub starts: &'a [usize],
-    pub lengths: &'a [usize],
-    pub marks: &'a [u8],
 }
 
 // SAFETY, for every call in this file: pointers and lengths are those of live slices and numbers;
@@ -60,18 +48,15 @@ pub fn name(
     }
 }
 
-pub fn strand_glues(text: &[u8], users: usize, names: Names, glues: &mut [u8]) -> u32 {
+/// A name is a row of three numbers: its mark, 0 absent, 1 present; its start; its length.
+pub fn strand_glues(text: &[u8], users: usize, strands: &[usize], glues: &mut [u8]) -> u32 {
     unsafe {
         c::mj_strand_glues(
             text.as_ptr(),
             text.len(),
             users,
-            names.starts.as_ptr(),
-            names.starts.len(),
-            names.lengths.as_ptr(),
-            names.lengths.len(),
-            names.marks.as_ptr(),
-            names.marks.len(),
+            strands.as_ptr(),
+            strands.len(),
             glues.as_mut_ptr(),
             glues.len(),
         )

@@ -449,8 +449,7 @@ static void blocked_positions(void)
 
 /* One strand with glues a, b* and c**, at the start of the text; after them two bases. */
 static const char text[] = "ab*c**AC";
-static const size_t starts[] = { 0, 1, 3 }, lengths[] = { 1, 2, 3 };
-static const uint8_t marks[] = { 1, 1, 1 };
+static const size_t strand[] = { 1, 0, 1, 1, 1, 2, 1, 3, 3 };
 
 static void names(void)
 {
@@ -464,9 +463,9 @@ static void names(void)
     count("b* does not", is_base == 0);
     reply("a name that leaves the text", mj_name(t, 8, 7, SIZE_MAX, &start, &length, &is_base), 1);
     count("no base", start == 0 && length == 0 && is_base == 0);
-    reply("too few glues", mj_strand_glues(t, 8, 1, starts, 3, lengths, 3, marks, 3, glues, 2), 1);
+    reply("too few glues", mj_strand_glues(t, 8, 1, strand, 9, glues, 2), 1);
     count("glues kept", glues[0] == 9 && glues[2] == 9);
-    reply("glues", mj_strand_glues(t, 8, 1, starts, 3, lengths, 3, marks, 3, glues, 3), 0);
+    reply("glues", mj_strand_glues(t, 8, 1, strand, 9, glues, 3), 0);
     count("their numbers", glues[0] == 1 && glues[1] == 4 && glues[2] == 5);
 }
 
@@ -519,13 +518,11 @@ static void sums(void)
 static uint32_t built(size_t site, size_t length, uint8_t *glues, uint8_t *scaffold, double *dg,
                       double *ds)
 {
-    static const size_t first[] = { 1 }, one[] = { 1 }, sequence[] = { 6 }, two[] = { 2 };
-    static const uint8_t absent[] = { 0 }, form[] = { 1 };
-    static const double unlooked[] = { NAN };
-    return mj_params((const uint8_t *)text, 8, 1, starts, 3, lengths, 3, marks, 3, &site, 1,
-                           &length, 1, marks, 1, first, 1, one, 1, first, 1, one, 1, absent, 1, form,
-                           1, unlooked, 1, unlooked, 1, sequence, 1, two, 1, 0.5, 0.0, 1, 0, glues, 12,
-                           scaffold, 1, dg, 4096, ds, 4096);
+    static const size_t entry[] = { 1, 1, 0, SIZE_MAX, SIZE_MAX, 1, 6, 2 };
+    static const double unlooked[] = { NAN, NAN };
+    const size_t name[] = { 1, site, length };
+    return mj_params((const uint8_t *)text, 8, 1, strand, 9, name, 3, entry, 8, unlooked, 2, 0.5, 0.0,
+                     1, 0, glues, 12, scaffold, 1, dg, 4096, ds, 4096);
 }
 
 static void params(void)

@@ -1,7 +1,7 @@
 //! Lines about names: `name N` and `raw.name TEXT START LENGTH` give a name's base, `raw.glues TEXT
 //! USERS NAMES LENT` the numbers of all strand glues.
 
-use crate::slices::{numbers_and_bytes, Filled};
+use crate::slices::{list, Filled};
 use crate::WHOLE;
 use mujplesten as mj;
 use protocol::{bytes, expect_words, joined, sequence_word, whole, Complaint, Reply, Words};
@@ -42,14 +42,9 @@ fn base(text: &[u8], start: usize, length: usize, full: bool) -> Result<Reply, C
 }
 
 fn glues(text: &[u8], users: usize, names: &str, lent: usize) -> Result<Reply, Complaint> {
-    let (starts, lengths, marks) = numbers_and_bytes(names)?;
-    let names = mj::Names {
-        starts: &starts,
-        lengths: &lengths,
-        marks: &marks,
-    };
+    let names: Vec<usize> = list(names, whole)?;
     let mut glues = Filled::bytes(lent);
-    match mj::strand_glues(text, users, names, &mut glues.slice) {
+    match mj::strand_glues(text, users, &names, &mut glues.slice) {
         0 => Ok(Reply::Ok(joined(&glues.slice, ","))),
         number if glues.is_kept() => Ok(Reply::refused(number)),
         number => Err(format!("refused {number} after writing")),

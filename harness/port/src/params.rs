@@ -1,52 +1,32 @@
-//! The line `params TEXT USERS STRANDS SCAFFOLD FIRSTS SECONDS ENERGIES PENALTIES COPIED LENT`: a
-//! parameter set as slices of any length and content, and how long the slices are that are lent to be
-//! written. `ok sg=… sc=… dg=… ds=…` gives them as the oracle's `p.build` does.
+//! The line `params TEXT USERS STRANDS SCAFFOLD ENTRIES ENERGIES PENALTIES COPIED LENT`: a parameter
+//! set as slices of any length and content, and how long the slices are that are lent to be written. `ok sg=… sc=… dg=… ds=…` gives them as the oracle's `p.build` does.
 
-use crate::slices::{list, lists, numbers_and_bytes, Filled};
+use crate::slices::{list, Filled};
 use mujplesten as mj;
 use protocol::{bits, bytes, double, expect_words, joined, whole, Complaint, Reply, Words};
 
 pub fn answer(words: Words) -> Result<Reply, Complaint> {
-    expect_words(words, &[10])?;
+    expect_words(words, &[9])?;
     let text = bytes(words[1])?.ok_or("absent is not allowed here")?;
-    let strands = numbers_and_bytes(words[3])?;
-    let scaffold = numbers_and_bytes(words[4])?;
-    let [first_starts, first_lengths] = lists(words[5])?;
-    let seconds = numbers_and_bytes(words[6])?;
-    let [forms, dgs, dss, starts, lengths] = lists(words[7])?;
-    let penalties: Vec<f64> = list(words[8], double)?;
-    let copied: Vec<usize> = list(words[9], whole)?;
-    let lent: Vec<usize> = list(words[10], whole)?;
+    let penalties: Vec<f64> = list(words[7], double)?;
+    let copied: Vec<usize> = list(words[8], whole)?;
+    let lent: Vec<usize> = list(words[9], whole)?;
     let ([penalty_dg, penalty_ds], [quencher, reporter]) = (&penalties[..], &copied[..]) else {
         return Err("two penalties and two strands are wanted".to_string());
     };
     let set = mj::Params {
         text: &text,
         users: whole(words[2])?,
-        strands: names(&strands),
-        scaffold: names(&scaffold),
-        first_starts: &list(first_starts, whole)?,
-        first_lengths: &list(first_lengths, whole)?,
-        seconds: names(&seconds),
-        forms: &list(forms, whole)?,
-        dgs: &list(dgs, double)?,
-        dss: &list(dss, double)?,
-        starts: &list(starts, whole)?,
-        lengths: &list(lengths, whole)?,
+        strands: &list(words[3], whole)?,
+        scaffold: &list(words[4], whole)?,
+        entries: &list(words[5], whole)?,
+        energies: &list(words[6], double)?,
         penalty_dg: *penalty_dg,
         penalty_ds: *penalty_ds,
         quencher: *quencher,
         reporter: *reporter,
     };
     build(set, &lent)
-}
-
-fn names((starts, lengths, marks): &(Vec<usize>, Vec<usize>, Vec<u8>)) -> mj::Names<'_> {
-    mj::Names {
-        starts,
-        lengths,
-        marks,
-    }
 }
 
 fn build(set: mj::Params, lent: &[usize]) -> Result<Reply, Complaint> {

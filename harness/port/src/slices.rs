@@ -1,14 +1,9 @@
 //! Lists of a line as slices, and slices that are lent to be written.
 
 use crate::DOUBLE;
-use protocol::{whole, Complaint};
+use protocol::Complaint;
 
-/// The lists of a word: `,` within, `;` between, `-` for an empty one.
-pub fn lists<const N: usize>(word: &str) -> Result<[&str; N], Complaint> {
-    let lists: Vec<&str> = word.split(';').collect();
-    <[&str; N]>::try_from(lists).map_err(|_| format!("{N} lists are wanted: {word}"))
-}
-
+/// The list of a word: `,` within, `-` for an empty one.
 pub fn list<T>(
     word: &str,
     one: impl Fn(&str) -> Result<T, Complaint>,
@@ -17,16 +12,6 @@ pub fn list<T>(
         "-" => Ok(vec![]),
         list => list.split(',').map(one).collect(),
     }
-}
-
-/// Names: starts, lengths, marks.
-pub fn numbers_and_bytes(word: &str) -> Result<(Vec<usize>, Vec<usize>, Vec<u8>), Complaint> {
-    let [starts, lengths, marks] = lists(word)?;
-    Ok((
-        list(starts, whole)?,
-        list(lengths, whole)?,
-        list(marks, whole)?,
-    ))
 }
 
 /// A slice that is lent to be written, with what it held before, which no call writes.

@@ -2,7 +2,7 @@
 
 use crate::guarded::{Figure, Guarded};
 use crate::{near, Tally};
-use compare::judge::parameters::{Lent, Names, CELLS};
+use compare::judge::parameters::{Lent, CELLS};
 use compare::parameters::{damage, parameters, Shape};
 use compare::random::Random;
 use mujplesten as mj;
@@ -79,7 +79,7 @@ fn part<T: Clone + Default>(random: &mut Random, whole: &[T]) -> Vec<T> {
     part
 }
 
-/// As `near`, but most often the wanted one: a set has seventeen slices.
+/// As `near`, but most often the wanted one: a set has nine slices.
 fn near_mostly(random: &mut Random, wanted: usize) -> usize {
     match random.once_in(24) {
         true => near(random, wanted),
@@ -87,53 +87,27 @@ fn near_mostly(random: &mut Random, wanted: usize) -> usize {
     }
 }
 
-struct Parts(Vec<usize>, Vec<usize>, Vec<u8>);
-
-impl Parts {
-    fn of(random: &mut Random, names: &Names) -> Self {
-        let (starts, lengths) = (part(random, &names.starts), part(random, &names.lengths));
-        Parts(starts, lengths, part(random, &names.marks))
-    }
-
-    fn names(&self) -> mj::Names<'_> {
-        mj::Names {
-            starts: &self.0,
-            lengths: &self.1,
-            marks: &self.2,
-        }
-    }
-}
-
 fn glues(random: &mut Random, set: &Lent, tally: &mut Tally) {
-    let strands = Parts::of(random, &set.strands);
+    let strands = part(random, &set.strands);
     let users = near_mostly(random, set.users);
     let mut glues = Guarded::new(near_mostly(random, 3 * set.users), 0xa5);
     let text = part(random, &set.text);
-    let number = mj::strand_glues(&text, users, strands.names(), glues.lent());
+    let number = mj::strand_glues(&text, users, &strands, glues.lent());
     tally.call("strand_glues", number, glues.is_fit(number));
 }
 
 fn params(random: &mut Random, set: &Lent, tally: &mut Tally) {
     let text = part(random, &set.text);
-    let [strands, scaffold, seconds] =
-        [&set.strands, &set.scaffold, &set.seconds].map(|names| Parts::of(random, names));
-    let firsts = Parts::of(random, &set.firsts);
-    let forms = part(random, &set.forms);
-    let (dgs, dss) = (part(random, &set.dgs), part(random, &set.dss));
-    let (starts, lengths) = (part(random, &set.starts), part(random, &set.lengths));
+    let [strands, scaffold, entries] =
+        [&set.strands, &set.scaffold, &set.entries].map(|rows| part(random, rows));
+    let energies = part(random, &set.energies);
     let lent = mj::Params {
         text: &text,
         users: near_mostly(random, set.users),
-        strands: strands.names(),
-        scaffold: scaffold.names(),
-        first_starts: &firsts.0,
-        first_lengths: &firsts.1,
-        seconds: seconds.names(),
-        forms: &forms,
-        dgs: &dgs,
-        dss: &dss,
-        starts: &starts,
-        lengths: &lengths,
+        strands: &strands,
+        scaffold: &scaffold,
+        entries: &entries,
+        energies: &energies,
         penalty_dg: set.penalty_dg,
         penalty_ds: set.penalty_ds,
         quencher: near_mostly(random, set.quencher),

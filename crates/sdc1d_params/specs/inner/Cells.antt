@@ -6,11 +6,15 @@ use mathlib.Core.Path.{_≡_}
 use lib.Dec.{eqb}
 use lib.Ieee.{Float}
 use lib.ListN.{length, getD, set}
-use Rattle.sdc1d_params.specs.Entries.{Cell, cell, Energies, entryAt, isWritten}
+use Rattle.sdc_common.specs.Names.{Name}
+use Rattle.sdc_common.specs.Lent.{partOf, glueOf}
+use Rattle.sdc_common.specs.declared.names.LentName.{LentName}
+use Rattle.sdc1d_params.specs.Entries.{Cell, cell, cellOf, energyOf, entryAt, isWritten}
 use Rattle.sdc1d_params.specs.Tables.{Write, writeOf, placeOf}
 use Rattle.sdc1d_params.specs.declared.cells.RefOrPair.{RefOrPair}
 use Rattle.sdc1d_params.specs.declared.cells.RefOrPair.the-variants.{Ref, Pair}
 use Rattle.sdc1d_params.specs.declared.cells.RowColumn.{RowColumn}
+use Rattle.sdc1d_params.specs.declared.Entry.{Entry}
 
 -- the number of the base of a name that has this number: a base has the odd one of two
 abbrev pub baseAt : ℕ → ℕ
@@ -25,21 +29,26 @@ cellOfNames (Pair first second) = cell first second
 abbrev pub refOrPair : ℕ → ℕ → ℕ → RefOrPair
 refOrPair kind first second = cond (eqb kind 0) (Ref first) (Pair first second)
 
--- the cell of entry i, from the numbers of its names
-unfoldable pub cellFrom : List ℕ → List ℕ → List ℕ → ℕ → Cell
-cellFrom kinds first second i = cellOfNames (refOrPair (getD kinds i 0) (getD first i 0) (getD second i 0))
+-- the first name of an entry, which is always there
+abbrev pub firstOf : Entry → LentName
+firstOf e = record { mark = 1; start = e .«first_start»; size = e .«first_size» }
 
--- its row
-abbrev pub rowFrom : List ℕ → List ℕ → List ℕ → ℕ → ℕ
-rowFrom kinds first second i = cellFrom kinds first second i .row
+-- the cell of an entry among these bases
+abbrev pub cellAmong : List Name → List ℕ → Entry → Cell
+cellAmong bases text e = cellOf bases (partOf text (e .«first_start») (e .«first_size»)) (glueOf text (e .second))
+
+-- the row of entry i among these bases
+abbrev pub rowOf : List Name → List ℕ → List ℕ → List Float → ℕ → ℕ
+rowOf bases text numbers doubles i = cellAmong bases text (entryAt numbers doubles i) .row
 
 -- its column
-abbrev pub columnFrom : List ℕ → List ℕ → List ℕ → ℕ → ℕ
-columnFrom kinds first second i = cellFrom kinds first second i .column
+abbrev pub columnOf : List Name → List ℕ → List ℕ → List Float → ℕ → ℕ
+columnOf bases text numbers doubles i = cellAmong bases text (entryAt numbers doubles i) .column
 
 -- what entry i writes, from the rows and columns of the cells
-abbrev pub writeAt : List ℕ → Energies → Float → Float → List ℕ → List ℕ → ℕ → Write
-writeAt text e penaltyDg penaltyDs rows columns i = writeOf text penaltyDg penaltyDs (cell (getD rows i 0) (getD columns i 0)) (entryAt e i)
+abbrev pub writeAt : List ℕ → List ℕ → List Float → Float → Float → List ℕ → List ℕ → ℕ → Write
+writeAt text numbers doubles penaltyDg penaltyDs rows columns i =
+    writeOf text penaltyDg penaltyDs (cell (getD rows i 0) (getD columns i 0)) (energyOf (entryAt numbers doubles i))
 
 -- the rows and columns lie in the tables
 pub record InTables (rows columns : List ℕ) (n : ℕ) : Type 0 where

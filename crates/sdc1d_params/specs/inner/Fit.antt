@@ -2,18 +2,17 @@
 use mathlib.Core.Bool.{false}
 use mathlib.Core.List.{List}
 use mathlib.Core.Path.{_≡_}
-use Prim.Native.Nat.{ℕ, _<_}
+use Prim.Native.Nat.{ℕ, _*_, _<_}
+use lib.Ieee.{Float}
 use lib.ListN.{length}
-use Rattle.sdc1d_params.specs.Entries.{Energies, unfitEntry, entryAt}
+use Rattle.sdc1d_params.specs.Entries.{energyOf, entryAt, entryRows, unfitEntry}
+use Rattle.sdc1d_params.specs.declared.entries.GsOrSeq.{GsOrSeq}
 
--- as many of each number
-pub record Entries (e : Energies) : Type 0 where
-  pub dgs : length (e .dgs) ≡ length (e .forms)
-  pub dss : length (e .dss) ≡ length (e .forms)
-  pub starts : length (e .starts) ≡ length (e .forms)
-  pub lengths : length (e .lengths) ≡ length (e .forms)
+-- two doubles for each row, and each entry fit
+pub record FitEntries (text numbers : List ℕ) (doubles : List Float) : Type 0 where
+  pub many : length doubles ≡ 2 * entryRows numbers
+  pub each : (k : ℕ) → k < entryRows numbers → unfitEntry text (entryAt numbers doubles k) ≡ false
 
--- and each of them fit
-pub record FitEntries (text : List ℕ) (e : Energies) : Type 0 where
-  pub many : Entries e
-  pub each : (k : ℕ) → k < length (e .forms) → unfitEntry text (entryAt e k) ≡ false
+-- what entry i gives
+abbrev pub energyAt : List ℕ → List Float → ℕ → GsOrSeq
+energyAt numbers doubles i = energyOf (entryAt numbers doubles i)

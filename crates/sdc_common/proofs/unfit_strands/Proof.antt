@@ -7,14 +7,8 @@ use Rattle.sdc_common.proofs.unfit_strands.Tie as tie
 returns : tie.Need-returns
 returns c = simp (lt-ltb 61 _ (c .if1 .taken))
 
-mul-unfit-names : tie.Need-mul-unfit-names
-mul-unfit-names c = search needs
-
-unfit-names-requires : tie.Need-unfit-names-requires
-unfit-names-requires c κs = search needs
-
 returns-2 : tie.Need-returns-2
 returns-2 c = simp (le-ltb 61 _ (c .before .if1 .left)) (c .unfit-names .ensures)
 
 pub unfit-strands-spec : {M : Type 1} → statement M
-unfit-strands-spec = tie.close (tie.spec returns mul-unfit-names unfit-names-requires returns-2)
+unfit-strands-spec = tie.close (tie.spec returns (λ c. search needs) (λ c κs. search needs) returns-2)

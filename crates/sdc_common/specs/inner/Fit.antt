@@ -2,16 +2,15 @@
 use mathlib.Core.Bool.{false}
 use mathlib.Core.List.{List}
 use mathlib.Core.Path.{_≡_}
-use Prim.Native.Nat.{ℕ, _<_}
+use Prim.Native.Nat.{ℕ, _/_, _<_}
 use lib.ListN.{length}
-use Rattle.sdc_common.specs.Lent.{Names, unfitGlue, unfitAt}
+use Rattle.sdc_common.specs.Lent.{nameAt, unfitGlue}
+use Rattle.sdc_common.specs.declared.names.LentName.{LentName}
 
--- a glue that is as it should be
-abbrev pub Fit : List ℕ → ℕ → ℕ → ℕ → Type 0
-Fit text mark start size = unfitGlue text mark start size ≡ false
+-- a name that is as it should be
+abbrev pub Fit : List ℕ → LentName → Type 0
+Fit text name = unfitGlue text name ≡ false
 
--- as many starts, lengths and marks, and each glue fit
-pub record FitNames (text : List ℕ) (names : Names) : Type 0 where
-  pub starts : length (names .starts) ≡ length (names .marks)
-  pub lengths : length (names .lengths) ≡ length (names .marks)
-  pub each : (k : ℕ) → k < length (names .marks) → unfitAt text names k ≡ false
+-- each name of the rows is
+abbrev pub FitNames : List ℕ → List ℕ → Type 0
+FitNames text rows = (k : ℕ) → k < length rows / 3 → Fit text (nameAt rows k)

@@ -323,11 +323,7 @@ fn decks_with_runs(checks: &mut Checks) {
 
 /// One strand with glues a, b* and c**, at the start of the text; after them two bases.
 const TEXT: &[u8] = b"ab*c**AC";
-const STRANDS: mj::Names = mj::Names {
-    starts: &[0, 1, 3],
-    lengths: &[1, 2, 3],
-    marks: &[1, 1, 1],
-};
+const STRAND: &[usize] = &[1, 0, 1, 1, 1, 2, 1, 3, 3];
 
 fn names(checks: &mut Checks) {
     let (mut start, mut length, mut is_base) = (WHOLE, WHOLE, WHOLE);
@@ -345,10 +341,10 @@ fn names(checks: &mut Checks) {
     let base = (start, length, is_base);
     checks.count("no base", base == (0, 0, 0), format!("{base:?}"));
     let mut glues = [9; 3];
-    let number = mj::strand_glues(TEXT, 1, STRANDS, &mut glues[..2]);
+    let number = mj::strand_glues(TEXT, 1, STRAND, &mut glues[..2]);
     checks.reply("too few glues", number, 1);
     checks.count("glues kept", glues == [9; 3], format!("{glues:?}"));
-    checks.reply("glues", mj::strand_glues(TEXT, 1, STRANDS, &mut glues), 0);
+    checks.reply("glues", mj::strand_glues(TEXT, 1, STRAND, &mut glues), 0);
     checks.count("their numbers", glues == [1, 4, 5], format!("{glues:?}"));
 }
 
@@ -360,24 +356,10 @@ fn params(checks: &mut Checks) {
         let set = mj::Params {
             text: TEXT,
             users: 1,
-            strands: STRANDS,
-            scaffold: mj::Names {
-                starts: &[start],
-                lengths: &[length],
-                marks: &[1],
-            },
-            first_starts: &[1],
-            first_lengths: &[1],
-            seconds: mj::Names {
-                starts: &[usize::MAX],
-                lengths: &[usize::MAX],
-                marks: &[0],
-            },
-            forms: &[1],
-            dgs: &[f64::NAN],
-            dss: &[f64::NAN],
-            starts: &[6],
-            lengths: &[2],
+            strands: STRAND,
+            scaffold: &[1, start, length],
+            entries: &[1, 1, 0, usize::MAX, usize::MAX, 1, 6, 2],
+            energies: &[f64::NAN, f64::NAN],
             penalty_dg: 0.5,
             penalty_ds: 0.0,
             quencher: 1,

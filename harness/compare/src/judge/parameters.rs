@@ -12,32 +12,21 @@ const MOST_BASES: usize = 31;
 const GLUES: usize = 64;
 pub const CELLS: usize = GLUES * GLUES;
 
-/// Names as they are lent: parts of one text, each with a mark beside it, 1 if it is there.
-#[derive(Debug, Clone, Default)]
-pub struct Names {
-    pub starts: Vec<usize>,
-    pub lengths: Vec<usize>,
-    pub marks: Vec<u8>,
-}
-
 /// What `from_params` is lent: slices of any length and content.
 #[derive(Debug, Clone, Default)]
 pub struct Lent {
     pub text: Vec<u8>,
     pub users: usize,
-    /// West, bottom, east of each user strand.
-    pub strands: Names,
-    pub scaffold: Names,
-    /// Each entry's first name; its marks are not lent.
-    pub firsts: Names,
-    /// A mark of 0 is an entry for one name.
-    pub seconds: Names,
-    /// 0 for two doubles, 1 for a sequence.
-    pub forms: Vec<u8>,
-    pub dgs: Vec<f64>,
-    pub dss: Vec<f64>,
-    pub starts: Vec<usize>,
-    pub lengths: Vec<usize>,
+    /// West, bottom, east of each user strand. A name is a row of three numbers: a mark, 1 if it is
+    /// there, and its start and its length in the text.
+    pub strands: Vec<usize>,
+    pub scaffold: Vec<usize>,
+    /// A row of eight numbers for each entry: start and length of its first name; mark, start and
+    /// length of its second, where a mark of 0 is an entry for one name; its form, 0 for two doubles,
+    /// 1 for a sequence; start and length of the sequence.
+    pub entries: Vec<usize>,
+    /// A row of two doubles for each entry.
+    pub energies: Vec<f64>,
     pub penalty_dg: f64,
     pub penalty_ds: f64,
     /// 0 for none.
@@ -78,26 +67,71 @@ pub fn name(text: &[u8], start: usize, length: usize) -> (usize, usize, bool) {
     (start, base.len(), is_base)
 }
 
-impl Names {
-    fn are_unfit(&self, count: usize, text: &[u8]) -> bool {
-        if [self.starts.len(), self.lengths.len(), self.marks.len()] != [count; 3] {
-            return true;
-        }
-        (0..count).any(|i| match self.marks[i] {
+/// A name as it is lent.
+#[derive(Debug, Clone, Copy)]
+struct Name {
+    mark: usize,
+    start: usize,
+    length: usize,
+}
+
+impl Name {
+    fn is_unfit(self, text: &[u8]) -> bool {
+        match self.mark {
             0 => false,
-            1 => name_verdict(text, self.starts[i], self.lengths[i]).number() != 0,
+            1 => name_verdict(text, self.start, self.length).number() != 0,
             _ => true,
-        })
+        }
     }
 
-    fn name<'a>(&self, text: &'a [u8], index: usize) -> Option<&'a [u8]> {
-        let start = self.starts[index];
-        let present = self.marks[index] == 1;
-        present.then(|| &text[start..start + self.lengths[index]])
+    fn spelled(self, text: &[u8]) -> Option<&[u8]> {
+        (self.mark == 1).then(|| &text[self.start..self.start + self.length])
+    }
+}
+
+fn names(rows: &[usize]) -> impl Iterator<Item = Name> + '_ {
+    rows.chunks_exact(3).map(|row| Name {
+        mark: row[0],
+        start: row[1],
+        length: row[2],
+    })
+}
+
+fn are_unfit(rows: &[usize], count: usize, text: &[u8]) -> bool {
+    rows.len() != 3 * count || names(rows).any(|name| name.is_unfit(text))
+}
+
+fn all_spelled<'a>(
+    rows: &'a [usize],
+    text: &'a [u8],
+) -> impl Iterator<Item = Option<&'a [u8]>> + 'a {
+    names(rows).map(|name| name.spelled(text))
+}
+
+/// An energy entry as it is lent.
+#[derive(Debug, Clone, Copy)]
+struct Entry {
+    first: Name,
+    second: Name,
+    form: usize,
+    start: usize,
+    length: usize,
+    dg: f64,
+    ds: f64,
+}
+
+impl Entry {
+    fn is_unfit(self, text: &[u8]) -> bool {
+        let energy = match self.form {
+            0 => false,
+            1 => leaves(text, self.start, self.length) || self.length > sequences::LONGEST,
+            _ => true,
+        };
+        self.first.is_unfit(text) || self.second.is_unfit(text) || energy
     }
 
-    fn all<'a>(&'a self, text: &'a [u8]) -> impl Iterator<Item = Option<&'a [u8]>> + 'a {
-        (0..self.starts.len()).map(|index| self.name(text, index))
+    fn sequence(self, text: &[u8]) -> Option<&[u8]> {
+        (self.form == 1).then(|| &text[self.start..self.start + self.length])
     }
 }
 
@@ -110,7 +144,9 @@ impl Lent {
         }
         // A faulty sequence has no energy, and the numbers that need one come later.
         let has_sequence_of = |number| {
-            let sequences = (0..self.forms.len()).filter_map(|entry| self.sequence(entry));
+            let sequences = self
+                .entries()
+                .filter_map(|entry| entry.sequence(&self.text));
             let mut verdicts = sequences.map(sequences::sequence);
             verdicts.any(|verdict| verdict.number() == number)
         };
@@ -119,7 +155,7 @@ impl Lent {
             return Verdict::lowest(&of_sequences);
         }
         let bases = self.bases();
-        let spelled = || self.scaffold.all(&self.text).flatten();
+        let spelled = || all_spelled(&self.scaffold, &self.text).flatten();
         let unknown = spelled().any(|name| number_as_spelled(&bases, name).is_none());
         let pairs: Vec<(usize, usize)> = self.writes(&bases).map(|(pair, _, _)| pair).collect();
         let twice = |index: usize| pairs[..index].contains(&pairs[index]);
@@ -134,47 +170,48 @@ impl Lent {
         ])
     }
 
+    /// The first name of an entry is always there.
+    fn entries(&self) -> impl Iterator<Item = Entry> + '_ {
+        let rows = self.entries.chunks_exact(8);
+        rows.zip(self.energies.chunks_exact(2))
+            .map(|(row, energy)| Entry {
+                first: Name {
+                    mark: 1,
+                    start: row[0],
+                    length: row[1],
+                },
+                second: Name {
+                    mark: row[2],
+                    start: row[3],
+                    length: row[4],
+                },
+                form: row[5],
+                start: row[6],
+                length: row[7],
+                dg: energy[0],
+                ds: energy[1],
+            })
+    }
+
     fn wrong_sizes(&self) -> bool {
-        let positions = self.scaffold.starts.len();
-        let entries = self.forms.len();
+        let positions = self.written[1];
+        let entries = self.entries.len() / 8;
         if self.users > MOST_USERS || positions > MOST_POSITIONS || entries > MOST_ENTRIES {
             return true;
         }
-        let lengths = [
-            self.dgs.len(),
-            self.dss.len(),
-            self.starts.len(),
-            self.lengths.len(),
-        ];
         let copied = [self.quencher, self.reporter];
-        lengths != [entries; 4]
+        self.entries.len() != 8 * entries
+            || self.energies.len() != 2 * entries
             || self.written != [3 * (self.users + 3), positions, CELLS, CELLS]
             || copied.iter().any(|strand| *strand > self.users)
-            || self.strands.are_unfit(3 * self.users, &self.text)
-            || self.scaffold.are_unfit(positions, &self.text)
-            || self.firsts.are_unfit(entries, &self.text)
-            || self.seconds.are_unfit(entries, &self.text)
-            || (0..entries).any(|entry| self.is_unfit_entry(entry))
-    }
-
-    fn is_unfit_entry(&self, entry: usize) -> bool {
-        let (start, length) = (self.starts[entry], self.lengths[entry]);
-        match self.forms[entry] {
-            0 => false,
-            1 => leaves(&self.text, start, length) || length > sequences::LONGEST,
-            _ => true,
-        }
-    }
-
-    fn sequence(&self, entry: usize) -> Option<&[u8]> {
-        let start = self.starts[entry];
-        let is_one = self.forms[entry] == 1;
-        is_one.then(|| &self.text[start..start + self.lengths[entry]])
+            || are_unfit(&self.strands, 3 * self.users, &self.text)
+            || are_unfit(&self.scaffold, positions, &self.text)
+            || self.entries().any(|entry| entry.is_unfit(&self.text))
     }
 
     /// In the order of first appearance.
     fn bases(&self) -> Vec<&[u8]> {
-        bases_of(self.strands.all(&self.text))
+        bases_of(all_spelled(&self.strands, &self.text))
     }
 
     /// The unordered pair that each entry with known names stands for, as glues, and the two sums.
@@ -182,18 +219,18 @@ impl Lent {
         &'a self,
         bases: &'a [&[u8]],
     ) -> impl Iterator<Item = ((usize, usize), f64, f64)> + 'a {
-        (0..self.forms.len()).filter_map(|entry| {
-            let first = self.firsts.name(&self.text, entry).expect("never absent");
-            let (x, y) = match self.seconds.name(&self.text, entry) {
+        self.entries().filter_map(|entry| {
+            let first = entry.first.spelled(&self.text).expect("never absent");
+            let (x, y) = match entry.second.spelled(&self.text) {
                 Some(second) => (number(bases, first)?, number(bases, second)?),
                 None => {
                     let base = number(bases, reduced(first).0)?;
                     (base, base + 1)
                 }
             };
-            let (dg, ds) = match self.sequence(entry) {
+            let (dg, ds) = match entry.sequence(&self.text) {
                 Some(sequence) => energies(sequence),
-                None => (self.dgs[entry], self.dss[entry]),
+                None => (entry.dg, entry.ds),
             };
             let pair = (x.min(y), x.max(y));
             Some((pair, dg + self.penalty_dg, ds + self.penalty_ds))
@@ -245,7 +282,9 @@ impl Lent {
         };
         Built {
             strand_glues: self.strand_glues(&bases),
-            scaffold_glues: self.scaffold.all(&self.text).map(spelled).collect(),
+            scaffold_glues: all_spelled(&self.scaffold, &self.text)
+                .map(spelled)
+                .collect(),
             dg,
             ds,
         }
@@ -254,7 +293,7 @@ impl Lent {
     /// Strand 0, the user strands, quencher and reporter.
     fn strand_glues(&self, bases: &[&[u8]]) -> Vec<u8> {
         let mut glues = vec![0; 3];
-        glues.extend(self.strands.all(&self.text).map(|name| glue(bases, name)));
+        glues.extend(all_spelled(&self.strands, &self.text).map(|name| glue(bases, name)));
         let sides = |strand: usize| [0, 1, 2].map(|side| glues[3 * strand + side]);
         // Strand 0 has no glues, so that copying it is copying nothing.
         let [west, bottom, _] = sides(self.quencher);
@@ -271,7 +310,7 @@ impl Lent {
     pub fn strand_glues_verdict(&self, lent: usize) -> Verdict {
         let wrong = self.users > MOST_USERS
             || lent != 3 * self.users
-            || self.strands.are_unfit(3 * self.users, &self.text);
+            || are_unfit(&self.strands, 3 * self.users, &self.text);
         if wrong {
             return Verdict::lowest(&[(1, true)]);
         }
@@ -280,8 +319,7 @@ impl Lent {
 
     pub fn user_glues(&self) -> Vec<u8> {
         let bases = self.bases();
-        self.strands
-            .all(&self.text)
+        all_spelled(&self.strands, &self.text)
             .map(|name| glue(&bases, name))
             .collect()
     }

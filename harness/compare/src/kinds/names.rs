@@ -129,13 +129,8 @@ fn ask_glues(random: &mut Random, set: &Parameters, ask: &mut Ask) {
 }
 
 fn ask_lent_glues(lent: &Lent, written: usize, oracle: Option<String>, ask: &mut Ask) {
-    let names = &lent.strands;
-    let names = [
-        joined(&names.starts, ","),
-        joined(&names.lengths, ","),
-        joined(&names.marks, ","),
-    ];
-    let (text, users, names) = (sequence_word(&lent.text), lent.users, names.join(";"));
+    let (text, users) = (sequence_word(&lent.text), lent.users);
+    let names = joined(&lent.strands, ",");
     let line = format!("raw.glues {text} {users} {names} {written}");
     let verdict = lent.strand_glues_verdict(written);
     let mut question = Question::of_port(line, verdict, || joined(lent.user_glues(), ","));
@@ -149,23 +144,16 @@ fn ask_lent_glues(lent: &Lent, written: usize, oracle: Option<String>, ask: &mut
 /// One change of the strands' names; often it is none that matters.
 fn damage(random: &mut Random, lent: &mut Lent) {
     let far = lent.text.len();
-    let odd = random.pick(&[0, 1, 64, 65, far, far + 1, usize::MAX]);
-    let put = |slice: &mut Vec<usize>, random: &mut Random| {
-        if !slice.is_empty() {
-            let index = random.below(slice.len());
-            slice[index] = odd;
-        }
-    };
+    let odd = random.pick(&[0, 1, 2, 64, 65, 255, far, far + 1, usize::MAX]);
     match random.below(7) {
-        0 => put(&mut lent.strands.starts, random),
-        1 => put(&mut lent.strands.lengths, random),
-        2 => lent.strands.marks.push(0),
-        3 => lent.strands.starts.truncate(far),
-        4 => lent.users = odd,
-        5 => lent.strands.lengths.push(0),
+        0 => lent.strands.extend([0, 0, 0]),
+        1 => lent.strands.push(0),
+        2 => lent.strands.truncate(far),
+        3 => lent.users = odd,
         _ => {
-            if let Some(mark) = lent.strands.marks.first_mut() {
-                *mark = random.pick(&[0, 1, 2, 255]);
+            if !lent.strands.is_empty() {
+                let index = random.below(lent.strands.len());
+                lent.strands[index] = odd;
             }
         }
     }

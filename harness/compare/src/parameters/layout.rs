@@ -1,7 +1,7 @@
 //! A set as a call is lent it: every name and sequence a part of one text.
 
 use super::{Energy, Key, Parameters};
-use crate::judge::parameters::{Lent, Names, CELLS};
+use crate::judge::parameters::{Lent, CELLS};
 use crate::random::Random;
 
 /// The text of a set while it is laid out.
@@ -28,15 +28,13 @@ impl Layout {
         (self.text.len() - part.len(), part.len())
     }
 
-    /// The numbers beside an absent part are not looked at.
-    fn perhaps(&mut self, random: &mut Random, part: Option<&[u8]>, into: &mut Names) {
+    /// A row of three numbers. Those beside an absent part are not looked at.
+    fn perhaps(&mut self, random: &mut Random, part: Option<&[u8]>) -> [usize; 3] {
         let (start, length) = match part {
             Some(part) => self.part(random, part),
             None => (unread(random), unread(random)),
         };
-        into.starts.push(start);
-        into.lengths.push(length);
-        into.marks.push(u8::from(part.is_some()));
+        [usize::from(part.is_some()), start, length]
     }
 }
 
@@ -63,27 +61,27 @@ impl Parameters {
             ..Lent::default()
         };
         for name in self.strands.iter().flatten() {
-            layout.perhaps(random, name.as_deref(), &mut lent.strands);
+            lent.strands.extend(layout.perhaps(random, name.as_deref()));
         }
         for name in &self.scaffold {
-            layout.perhaps(random, name.as_deref(), &mut lent.scaffold);
+            lent.scaffold
+                .extend(layout.perhaps(random, name.as_deref()));
         }
         for (key, energy) in &self.entries {
             let (first, second) = match key {
                 Key::One(name) => (name, None),
                 Key::Pair(first, second) => (first, Some(second.as_slice())),
             };
-            layout.perhaps(random, Some(first), &mut lent.firsts);
-            layout.perhaps(random, second, &mut lent.seconds);
+            let [_, first_start, first_length] = layout.perhaps(random, Some(first));
+            let second = layout.perhaps(random, second);
             let (form, dg, ds, (start, length)) = match energy {
                 Energy::Given(dg, ds) => (0, *dg, *ds, (unread(random), unread(random))),
                 Energy::Sequence(s) => (1, f64::NAN, 1e308, layout.part(random, s)),
             };
-            lent.forms.push(form);
-            lent.dgs.push(dg);
-            lent.dss.push(ds);
-            lent.starts.push(start);
-            lent.lengths.push(length);
+            lent.entries.extend([first_start, first_length]);
+            lent.entries.extend(second);
+            lent.entries.extend([form, start, length]);
+            lent.energies.extend([dg, ds]);
         }
         lent.text = layout.text;
         lent

@@ -4,16 +4,12 @@ use Rattle.exports.proofs.params.mj_params.Statement.{statement}
 use Rattle.exports.proofs.params.mj_params.Tie as tie
 
 returns : tie.Need-returns
-returns c =
-    let answer = c .before .before .before .before .before .before .before .before .before in
-    let second = answer .before .before .before .before .before in
-    rw (c .number .ensures) (rw (second .before .copied .ensures, second .copied2 .ensures) at (answer .from-params .ensures))
+returns c = rw (c .number .ensures) (rw (c .before .before .before .before .before .before .before .before .before .before .before .before .before .before .copies .ensures) at (c .before .before .before .before .before .before .before .before .before .from-params .ensures))
 
 pub mj-params-spec : {M : Type 1} → statement M
 mj-params-spec =
     tie.close
     (tie.spec
-    (λ c κs. search needs)
     (λ c κs. search needs)
     (λ c κs. search needs)
     (λ c κs. search needs)

@@ -2,57 +2,63 @@
 use borrow.Author.Needs.{needs}
 use mathlib.Core.Path.{_≡_, refl, sym, ap, _∙_}
 use mathlib.Core.Bool.{true, false}
-use Prim.Native.Nat.{ℕ, _-_, _≤_}
+use Prim.Native.Nat.{ℕ, _≤_, _-_}
 use native.Mathlib.Omega.{arith}
-use lib.ListN.{length}
 use denote.Ref.{now}
 use Rattle.lists.specs.Find.{any}
 use Rattle.lists.specs.Build.{tabulate}
-use Rattle.lists.proofs.Counted.{any-more, any-found}
-use Rattle.sdc1d_params.specs.Entries.{unfitEntry, isShort, energiesOf, entryAt, entriesOf}
+use Rattle.lists.proofs.Counted.{any-more, any-found, map-tabulate}
+use Rattle.sdc1d_params.specs.Entries.{energyOf, entryAt, entryRows, unfitEnergy, isShort}
+use Rattle.sdc1d_params.specs.inner.Fit.{energyAt}
+use Rattle.sdc1d_params.proofs.Lengths.{energy-fit}
 use Rattle.sdc1d_params.proofs.entries.any_short.Statement.{statement}
 use Rattle.sdc1d_params.proofs.entries.any_short.Tie as tie
 
 abbrev Inv-loop : tie.InvT-loop
-Inv-loop text forms dgs dss starts lengths i₀ i = (i ≤ length forms) × (any (isShort text) (entriesOf (energiesOf forms dgs dss starts lengths) i) ≡ false)
+Inv-loop text entries energies n i₀ i = (i ≤ n) × (any (isShort text) (tabulate i (energyAt entries energies)) ≡ false) × (n ≡ entryRows entries)
 
 abbrev μ-loop : tie.MeasureT-loop
-μ-loop text forms dgs dss starts lengths i₀ i = length forms - i
+μ-loop text entries energies n i₀ i = n - i
 
 loop-holds : tie.Need-loop-holds Inv-loop μ-loop
 unfolding any tabulate
-loop-holds c = (omega arith, refl)
+loop-holds c = (omega arith, refl, refl)
 
-gs-or-seq-requires : tie.Need-gs-or-seq-requires Inv-loop μ-loop
-gs-or-seq-requires c κs = (c .before .before .before .before .before .before .before .before .pre .many, omega arith)
+entry-at-requires : tie.Need-entry-at-requires Inv-loop μ-loop
+entry-at-requires c κs = let n = c .before .loop .inv .2 in (omega arith, c .before .before .before .before .before .pre .many)
 
 is-short-requires : tie.Need-is-short-requires Inv-loop μ-loop
 is-short-requires c κs =
-    let a = c .before .before .before .before .before .before .before .before .before .args in
-    let e = energiesOf (now (a .forms)) (now (a .dgs)) (now (a .dss)) (now (a .starts)) (now (a .lengths)) in
-    ap (unfitEntry (now (a .text))) (c .gs-or-seq .ensures) ∙ c .before .before .before .before .before .before .before .before .before .pre .each (c .before .before .loop .i) (omega arith)
+    let a = c .before .before .before .before .before .before .before .args in
+    let n = c .before .before .before .loop .inv .2 in
+    let i = c .before .before .before .loop .i in
+    ap (unfitEnergy (now (a .text))) (c .gs-or-seq .ensures ∙ ap energyOf (c .before .entry-at .ensures))
+    ∙ energy-fit (now (a .text)) (entryAt (now (a .entries)) (now (a .energies)) i) (c .before .before .before .before .before .before .before .pre .each i (omega arith))
 
 returns : tie.Need-returns Inv-loop μ-loop
 returns c =
-    let a = c .before .before .before .before .before .before .before .before .before .before .before .args in
-    let e = energiesOf (now (a .forms)) (now (a .dgs)) (now (a .dss)) (now (a .starts)) (now (a .lengths)) in
-    let here : isShort (now (a .text)) (entryAt e (c .before .before .before .before .loop .i)) ≡ true = sym (ap (isShort (now (a .text))) (c .before .before .gs-or-seq .ensures)) ∙ sym (c .before .is-short .ensures) ∙ c .if1 .taken in
-    sym (any-found (isShort (now (a .text))) (length (now (a .forms))) (entryAt e) (c .before .before .before .before .loop .i) (omega arith) here)
+    let a = c .before .before .before .before .before .before .before .before .before .args in
+    let n = c .before .before .before .before .before .loop .inv .2 in
+    let f = energyAt (now (a .entries)) (now (a .energies)) in
+    let here : isShort (now (a .text)) (f (c .before .before .before .before .before .loop .i)) ≡ true = sym (ap (isShort (now (a .text))) (c .before .before .gs-or-seq .ensures ∙ ap energyOf (c .before .before .before .entry-at .ensures))) ∙ sym (c .before .is-short .ensures) ∙ c .if1 .taken in
+    sym (ap (any (isShort (now (a .text)))) (map-tabulate energyOf (entryRows (now (a .entries))) (entryAt (now (a .entries)) (now (a .energies))))
+    ∙ any-found (isShort (now (a .text))) (entryRows (now (a .entries))) f (c .before .before .before .before .before .loop .i) (omega arith) here)
 
 loop-again : tie.Need-loop-again Inv-loop μ-loop
 loop-again c =
-    let a = c .before .before .before .before .before .before .before .before .before .before .before .args in
-    let l = c .before .before .before .before .loop in
-    let e = energiesOf (now (a .forms)) (now (a .dgs)) (now (a .dss)) (now (a .starts)) (now (a .lengths)) in
-    let other : isShort (now (a .text)) (entryAt e (l .i)) ≡ false = sym (ap (isShort (now (a .text))) (c .before .before .gs-or-seq .ensures)) ∙ sym (c .before .is-short .ensures) ∙ c .if1 .left in
-    (omega arith, any-more (isShort (now (a .text))) (entryAt e) (l .i) (l .inv .1) other)
+    let a = c .before .before .before .before .before .before .before .before .before .args in
+    let l = c .before .before .before .before .before .loop in
+    let f = energyAt (now (a .entries)) (now (a .energies)) in
+    let other : isShort (now (a .text)) (f (l .i)) ≡ false = sym (ap (isShort (now (a .text))) (c .before .before .gs-or-seq .ensures ∙ ap energyOf (c .before .before .before .entry-at .ensures))) ∙ sym (c .before .is-short .ensures) ∙ c .if1 .left in
+    (omega arith, any-more (isShort (now (a .text))) f (l .i) (l .inv .1) other, l .inv .2)
 
 returns-2 : tie.Need-returns-2 Inv-loop μ-loop
 returns-2 c =
-    let a = c .before .before .before .before .before .before .before .before .args in
-    let e = energiesOf (now (a .forms)) (now (a .dgs)) (now (a .dss)) (now (a .starts)) (now (a .lengths)) in
-    let end : c .before .loop .i ≡ length (now (a .forms)) = omega arith in
-    sym (ap (λ (k : ℕ). any (isShort (now (a .text))) (entriesOf e k)) (sym end) ∙ c .before .loop .inv .1)
+    let a = c .before .before .before .before .before .args in
+    let n = c .before .loop .inv .2 in
+    let end : c .before .loop .i ≡ entryRows (now (a .entries)) = omega arith in
+    sym (ap (any (isShort (now (a .text)))) (map-tabulate energyOf (entryRows (now (a .entries))) (entryAt (now (a .entries)) (now (a .energies))))
+    ∙ ap (λ (k : ℕ). any (isShort (now (a .text))) (tabulate k (energyAt (now (a .entries)) (now (a .energies))))) (sym end) ∙ c .before .loop .inv .1)
 
 pub any-short-spec : {M : Type 1} → statement M
 any-short-spec =
@@ -61,7 +67,8 @@ any-short-spec =
     Inv-loop
     μ-loop
     loop-holds
-    gs-or-seq-requires
+    entry-at-requires
+    (λ c κs. search needs)
     is-short-requires
     returns
     (λ c. search needs)

@@ -2,64 +2,73 @@
 use borrow.Author.Needs.{needs}
 use mathlib.Core.Path.{_≡_, refl, sym, ap, _∙_}
 use mathlib.Core.Bool.{true, false}
-use Prim.Native.Nat.{ℕ, _-_, _≤_}
+use Prim.Native.Nat.{ℕ, _*_, _≤_, _-_}
 use native.Mathlib.Omega.{arith}
 use lib.ListN.{length}
 use denote.Ref.{now}
+use borrow.Author.Tests.{eq-eqb, ne-eqb, lt-ltb, le-ltb}
 use Rattle.lists.specs.Find.{any}
-use Rattle.lists.specs.Build.{tabulate, upTo}
+use Rattle.lists.specs.Build.{tabulate}
+use Rattle.lists.proofs.Build.{length-tabulate}
 use Rattle.lists.proofs.Counted.{any-more, any-found}
-use Rattle.sdc1d_params.specs.Entries.{unfitEntry, energiesOf, entryAt, unfitAt}
+use Rattle.sdc1d_params.specs.Entries.{entryAt, entryRows, unfitEntry, unfitEntries}
 use Rattle.sdc1d_params.proofs.entries.unfit_entries.Statement.{statement}
 use Rattle.sdc1d_params.proofs.entries.unfit_entries.Tie as tie
 
 abbrev Inv-loop : tie.InvT-loop
-Inv-loop text forms dgs dss starts lengths i₀ i = (i ≤ length forms) × (any (unfitAt text (energiesOf forms dgs dss starts lengths)) (upTo i) ≡ false)
+Inv-loop text entries energies n i₀ i = (i ≤ n) × (any (unfitEntry text) (tabulate i (entryAt entries energies)) ≡ false) × (n ≡ entryRows entries) × (length energies ≡ 2 * entryRows entries)
 
 abbrev μ-loop : tie.MeasureT-loop
-μ-loop text forms dgs dss starts lengths i₀ i = length forms - i
+μ-loop text entries energies n i₀ i = n - i
+
+returns : tie.Need-returns Inv-loop μ-loop
+unfolding unfitEntries
+returns c = simp (ne-eqb _ _ (c .if1 .taken))
+
+returns-2 : tie.Need-returns-2 Inv-loop μ-loop
+unfolding unfitEntries
+returns-2 c = simp (eq-eqb _ _ (c .before .if1 .left), ne-eqb _ _ (c .if2 .taken))
+
+returns-3 : tie.Need-returns-3 Inv-loop μ-loop
+unfolding unfitEntries
+returns-3 c =
+    let a = c .before .before .before .before .before .before .args in
+    simp (eq-eqb _ _ (c .before .before .if1 .left), eq-eqb _ _ (c .before .if2 .left), length-tabulate (entryRows (now (a .entries))) (entryAt (now (a .entries)) (now (a .energies))), lt-ltb _ _ (c .if3 .taken))
 
 loop-holds : tie.Need-loop-holds Inv-loop μ-loop
 unfolding any tabulate
-loop-holds c = (omega arith, refl)
+loop-holds c = (omega arith, refl, refl, c .before .if2 .left)
 
-returns : tie.Need-returns Inv-loop μ-loop
-unfolding unfitAt
-returns c =
+entry-at-requires : tie.Need-entry-at-requires Inv-loop μ-loop
+entry-at-requires c κs = let n = c .before .loop .inv .2 in (omega arith, c .before .loop .inv .3)
+
+returns-4 : tie.Need-returns-4 Inv-loop μ-loop
+unfolding unfitEntries
+returns-4 c =
     let a = c .before .before .before .before .before .before .before .before .before .before .before .args in
-    let e = energiesOf (now (a .forms)) (now (a .dgs)) (now (a .dss)) (now (a .starts)) (now (a .lengths)) in
-    let bad : unfitAt (now (a .text)) e (c .before .before .before .before .loop .i) ≡ true = rw (sym (c .before .bad-form .ensures) ∙ c .if1 .taken) in
-    sym (any-found (unfitAt (now (a .text)) e) (length (now (a .forms))) (λ k. k) (c .before .before .before .before .loop .i) (omega arith) bad)
-
-gs-or-seq-requires : tie.Need-gs-or-seq-requires Inv-loop μ-loop
-gs-or-seq-requires c κs = (c .before .before .before .before .before .before .before .before .before .before .before .pre, omega arith)
-
-returns-2 : tie.Need-returns-2 Inv-loop μ-loop
-unfolding unfitAt
-returns-2 c =
-    let a = c .before .before .before .before .before .before .before .before .before .before .before .before .before .before .args in
-    let l = c .before .before .before .before .before .before .before .loop in
-    let e = energiesOf (now (a .forms)) (now (a .dgs)) (now (a .dss)) (now (a .starts)) (now (a .lengths)) in
-    let unfit : unfitEntry (now (a .text)) (entryAt e (l .i)) ≡ true = sym (ap (unfitEntry (now (a .text))) (c .before .before .gs-or-seq .ensures)) ∙ sym (c .before .unfit-entry .ensures) ∙ c .if2 .taken in
-    let bad : unfitAt (now (a .text)) e (l .i) ≡ true = rw (sym (c .before .before .before .before .bad-form .ensures) ∙ c .before .before .before .if1 .left, unfit) in
-    sym (any-found (unfitAt (now (a .text)) e) (length (now (a .forms))) (λ k. k) (l .i) (omega arith) bad)
+    let l = c .before .before .before .before .loop in
+    let n = l .inv .2 in
+    let f = entryAt (now (a .entries)) (now (a .energies)) in
+    let bad : unfitEntry (now (a .text)) (f (l .i)) ≡ true = sym (ap (unfitEntry (now (a .text))) (c .before .before .entry-at .ensures)) ∙ sym (c .before .unfit-entry .ensures) ∙ c .if4 .taken in
+    simp (eq-eqb _ _ (c .before .before .before .before .before .before .before .if1 .left), eq-eqb _ _ (c .before .before .before .before .before .before .if2 .left), length-tabulate (entryRows (now (a .entries))) f, le-ltb _ _ (c .before .before .before .before .before .if3 .left), any-found (unfitEntry (now (a .text))) (entryRows (now (a .entries))) f (l .i) (omega arith) bad)
 
 loop-again : tie.Need-loop-again Inv-loop μ-loop
-unfolding unfitAt
 loop-again c =
-    let a = c .before .before .before .before .before .before .before .before .before .before .before .before .before .before .args in
-    let l = c .before .before .before .before .before .before .before .loop in
-    let e = energiesOf (now (a .forms)) (now (a .dgs)) (now (a .dss)) (now (a .starts)) (now (a .lengths)) in
-    let fit : unfitEntry (now (a .text)) (entryAt e (l .i)) ≡ false = sym (ap (unfitEntry (now (a .text))) (c .before .before .gs-or-seq .ensures)) ∙ sym (c .before .unfit-entry .ensures) ∙ c .if2 .left in
-    let good : unfitAt (now (a .text)) e (l .i) ≡ false = rw (sym (c .before .before .before .before .bad-form .ensures) ∙ c .before .before .before .if1 .left, fit) in
-    (omega arith, any-more (unfitAt (now (a .text)) e) (λ k. k) (l .i) (l .inv .1) good)
+    let a = c .before .before .before .before .before .before .before .before .before .before .before .args in
+    let l = c .before .before .before .before .loop in
+    let f = entryAt (now (a .entries)) (now (a .energies)) in
+    let good : unfitEntry (now (a .text)) (f (l .i)) ≡ false = sym (ap (unfitEntry (now (a .text))) (c .before .before .entry-at .ensures)) ∙ sym (c .before .unfit-entry .ensures) ∙ c .if4 .left in
+    (omega arith, any-more (unfitEntry (now (a .text))) f (l .i) (l .inv .1) good, l .inv .2, l .inv .3)
 
-returns-3 : tie.Need-returns-3 Inv-loop μ-loop
-returns-3 c =
+returns-5 : tie.Need-returns-5 Inv-loop μ-loop
+unfolding unfitEntries
+returns-5 c =
     let a = c .before .before .before .before .before .before .before .before .args in
-    let e = energiesOf (now (a .forms)) (now (a .dgs)) (now (a .dss)) (now (a .starts)) (now (a .lengths)) in
-    let end : c .before .loop .i ≡ length (now (a .forms)) = omega arith in
-    sym (ap (λ (k : ℕ). any (unfitAt (now (a .text)) e) (upTo k)) (sym end) ∙ c .before .loop .inv .1)
+    let n = c .before .loop .inv .2 in
+    let f = entryAt (now (a .entries)) (now (a .energies)) in
+    let end : c .before .loop .i ≡ entryRows (now (a .entries)) = omega arith in
+    let none : any (unfitEntry (now (a .text))) (tabulate (entryRows (now (a .entries))) f) ≡ false = ap (λ (k : ℕ). any (unfitEntry (now (a .text))) (tabulate k f)) (sym end) ∙ c .before .loop .inv .1 in
+    simp (eq-eqb _ _ (c .before .before .before .before .if1 .left), eq-eqb _ _ (c .before .before .before .if2 .left), length-tabulate (entryRows (now (a .entries))) f, le-ltb _ _ (c .before .before .if3 .left), none)
 
 pub unfit-entries-spec : {M : Type 1} → statement M
 unfit-entries-spec =
@@ -67,14 +76,15 @@ unfit-entries-spec =
     (tie.spec
     Inv-loop
     μ-loop
-    loop-holds
-    (λ c. search needs)
-    (λ c κs. search needs)
     returns
-    gs-or-seq-requires
-    (λ c κs. search needs)
+    (λ c. search needs)
     returns-2
+    returns-3
+    loop-holds
+    entry-at-requires
+    (λ c κs. search needs)
+    returns-4
     (λ c. search needs)
     (λ c. search needs)
     loop-again
-    returns-3)
+    returns-5)

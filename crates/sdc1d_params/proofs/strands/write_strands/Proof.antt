@@ -12,50 +12,45 @@ use Rattle.sdc1d_params.proofs.strands.write_strands.Tie as tie
 
 quencher-sides-requires : tie.Need-quencher-sides-requires
 quencher-sides-requires c κs =
-    let a = c .before .before .before .before .before .before .before .before .before .before .before .before .before .before .args in
-    let strands : Names = namesOf (now (a .starts)) (now (a .lengths)) (now (a .marks)) in
-    let few = few-strands (a .users) (now (a .text)) strands (c .before .before .before .before .before .before .before .before .before .before .before .before .before .before .pre .0 .0) in
-    (few, omega arith, c .before .before .before .before .before .before .before .before .before .before .before .before .before .before .pre .1 .0 .0)
+    let a = c .before .before .before .before .before .before .before .before .before .before .before .before .args in
+    let few = few-strands (a .users) (now (a .text)) (namesOf (now (a .strands))) (c .before .before .before .before .before .before .before .before .before .before .before .before .pre .0 .0) in
+    (few, omega arith, c .before .before .before .before .before .before .before .before .before .before .before .before .pre .1 .0 .0)
 
 reporter-sides-requires : tie.Need-reporter-sides-requires
 reporter-sides-requires c κs =
-    let a = c .before .before .before .before .before .before .before .before .before .before .before .before .before .before .before .before .args in
-    let strands : Names = namesOf (now (a .starts)) (now (a .lengths)) (now (a .marks)) in
-    let few = few-strands (a .users) (now (a .text)) strands (c .before .before .before .before .before .before .before .before .before .before .before .before .before .before .before .before .pre .0 .0) in
-    (few, omega arith, c .before .before .before .before .before .before .before .before .before .before .before .before .before .before .before .before .pre .1 .0 .1)
+    let a = c .before .before .before .before .before .before .before .before .before .before .before .before .before .before .args in
+    let few = few-strands (a .users) (now (a .text)) (namesOf (now (a .strands))) (c .before .before .before .before .before .before .before .before .before .before .before .before .before .before .pre .0 .0) in
+    (few, omega arith, c .before .before .before .before .before .before .before .before .before .before .before .before .before .before .pre .1 .0 .1)
 
 add-write-sides : tie.Need-add-write-sides
 add-write-sides c =
-    let a = c .before .before .before .before .before .before .before .before .before .before .before .before .before .before .before .before .before .args in
-    let strands : Names = namesOf (now (a .starts)) (now (a .lengths)) (now (a .marks)) in
-    let few = few-strands (a .users) (now (a .text)) strands (c .before .before .before .before .before .before .before .before .before .before .before .before .before .before .before .before .before .pre .0 .0) in
+    let a = c .before .before .before .before .before .before .before .before .before .before .before .before .before .before .before .args in
+    let few = few-strands (a .users) (now (a .text)) (namesOf (now (a .strands))) (c .before .before .before .before .before .before .before .before .before .before .before .before .before .before .before .pre .0 .0) in
     omega arith
 
 add-write-sides-2 : tie.Need-add-write-sides-2
 add-write-sides-2 c =
-    let a = c .before .before .before .before .before .before .before .before .before .before .before .before .before .before .before .before .before .before .before .before .before .args in
-    let strands : Names = namesOf (now (a .starts)) (now (a .lengths)) (now (a .marks)) in
-    let few = few-strands (a .users) (now (a .text)) strands (c .before .before .before .before .before .before .before .before .before .before .before .before .before .before .before .before .before .before .before .before .before .pre .0 .0) in
+    let a = c .before .before .before .before .before .before .before .before .before .before .before .before .before .before .before .before .before .before .before .args in
+    let few = few-strands (a .users) (now (a .text)) (namesOf (now (a .strands))) (c .before .before .before .before .before .before .before .before .before .before .before .before .before .before .before .before .before .before .before .pre .0 .0) in
     omega arith
 
 add-write-sides-3 : tie.Need-add-write-sides-3
 add-write-sides-3 c =
-    let a = c .before .before .before .before .before .before .before .before .before .before .before .before .before .before .before .before .before .before .before .before .before .args in
-    let strands : Names = namesOf (now (a .starts)) (now (a .lengths)) (now (a .marks)) in
-    let few = few-strands (a .users) (now (a .text)) strands (c .before .before .before .before .before .before .before .before .before .before .before .before .before .before .before .before .before .before .before .before .before .pre .0 .0) in
+    let a = c .before .before .before .before .before .before .before .before .before .before .before .before .before .before .before .before .before .before .before .args in
+    let few = few-strands (a .users) (now (a .text)) (namesOf (now (a .strands))) (c .before .before .before .before .before .before .before .before .before .before .before .before .before .before .before .before .before .before .before .pre .0 .0) in
     omega arith
 
 part-write-sides-end-3 : tie.Need-part-write-sides-end-3
-part-write-sides-end-3 c = omega (arith, c .before .before .before .before .before .before .before .before .before .before .before .before .before .before .before .before .before .before .before .before .before .pre .1 .1)
+part-write-sides-end-3 c = omega (arith, c .before .before .before .before .before .before .before .before .before .before .before .before .before .before .before .before .before .before .before .pre .1 .1)
 
 returns : tie.Need-returns
 returns c =
-    let a = c .before .before .before .before .before .before .before .before .before .before .before .before .before .before .before .before .before .before .before .before .before .before .before .before .before .args in
-    let strands : Names = namesOf (now (a .starts)) (now (a .lengths)) (now (a .marks)) in
-    strands-laid (a .users) (now (a .glues)) (numbersAmong (gluesOf (now (a .text)) strands) (gluesOf (now (a .text)) strands)) (a .quencher) (a .reporter) (c .before .before .before .before .before .before .before .before .before .before .before .before .before .before .before .before .before .before .before .before .before .before .before .before .before .pre .1 .1)
-    (numbers-many (a .users) (now (a .text)) strands (c .before .before .before .before .before .before .before .before .before .before .before .before .before .before .before .before .before .before .before .before .before .before .before .before .before .pre .0 .0)) (c .before .before .before .before .before .before .before .before .before .before .before .before .before .before .before .before .before .before .before .before .before .before .before .before .before .pre .1 .0 .0) (c .before .before .before .before .before .before .before .before .before .before .before .before .before .before .before .before .before .before .before .before .before .before .before .before .before .pre .1 .0 .1) _ _ _ _
+    let a = c .before .before .before .before .before .before .before .before .before .before .before .before .before .before .before .before .before .before .before .before .before .before .before .args in
+    let strands : Names = namesOf (now (a .strands)) in
+    strands-laid (a .users) (now (a .glues)) (numbersAmong (gluesOf (now (a .text)) strands) (gluesOf (now (a .text)) strands)) (a .copies .quencher) (a .copies .reporter) (c .before .before .before .before .before .before .before .before .before .before .before .before .before .before .before .before .before .before .before .before .before .before .before .pre .1 .1)
+    (numbers-many (a .users) (now (a .text)) strands (c .before .before .before .before .before .before .before .before .before .before .before .before .before .before .before .before .before .before .before .before .before .before .before .pre .0 .0)) (c .before .before .before .before .before .before .before .before .before .before .before .before .before .before .before .before .before .before .before .before .before .before .before .pre .1 .0 .0) (c .before .before .before .before .before .before .before .before .before .before .before .before .before .before .before .before .before .before .before .before .before .before .before .pre .1 .0 .1) _ _ _ _
     (c .before .before .before .before .before .before .before .before .before .before .before .before .before .before .before .before .before .before .write-sides .ensures)
-    (c .before .before .before .before .before .before .before .before .before .before .before .before .before .before .strand-glues .ensures .1 ∙ glues-given (a .users) (now (a .text)) strands (c .before .before .before .before .before .before .before .before .before .before .before .before .before .before .before .before .before .before .before .before .before .before .before .before .before .pre .0 .0) (c .before .before .before .before .before .before .before .before .before .before .before .before .before .before .before .before .before .before .before .before .before .before .before .before .before .pre .0 .1) _ (part-many (a .users) _ (now (a .glues)) (c .before .before .before .before .before .before .before .before .before .before .before .before .before .before .before .before .before .before .write-sides .ensures) (c .before .before .before .before .before .before .before .before .before .before .before .before .before .before .before .before .before .before .before .before .before .before .before .before .before .pre .1 .1)))
+    (c .before .before .before .before .before .before .before .before .before .before .before .before .before .before .strand-glues .ensures .1 ∙ glues-given (a .users) (now (a .text)) strands (c .before .before .before .before .before .before .before .before .before .before .before .before .before .before .before .before .before .before .before .before .before .before .before .pre .0 .0) (c .before .before .before .before .before .before .before .before .before .before .before .before .before .before .before .before .before .before .before .before .before .before .before .pre .0 .1) _ (part-many (a .users) _ (now (a .glues)) (c .before .before .before .before .before .before .before .before .before .before .before .before .before .before .before .before .before .before .write-sides .ensures) (c .before .before .before .before .before .before .before .before .before .before .before .before .before .before .before .before .before .before .before .before .before .before .before .pre .1 .1)))
     (c .before .before .before .before .before .before .write-sides2 .ensures ∙ c .before .before .before .before .before .before .before .before .before .before .quencher-sides .ensures)
     (c .before .before .write-sides3 .ensures ∙ c .before .before .before .before .before .before .before .before .reporter-sides .ensures)
 

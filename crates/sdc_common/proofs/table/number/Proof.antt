@@ -8,70 +8,69 @@ use native.Mathlib.Omega.{arith}
 use denote.Ref.{now}
 use Rattle.lists.specs.Find.{firstIndex}
 use Rattle.sdc_common.specs.Names.{baseOf, sameName}
-use Rattle.sdc_common.specs.Lent.{partOf}
 use Rattle.sdc_common.specs.Numbers.{numberAt, glueNumber}
 use Rattle.sdc_common.specs.inner.Table.{held}
-use Rattle.sdc_common.proofs.Held.{part-is, present-fits, glue-absent, glue-present, base-within, base-part, stars-of, is-known, not-known, number-known, number-unknown}
+use Rattle.sdc_common.proofs.Held.{part-is, spelled, present-fits, glue-absent, glue-present, base-within, base-part, stars-of, is-known, not-known, number-known, number-unknown}
 use Rattle.sdc_common.proofs.table.number.Statement.{statement}
 use Rattle.sdc_common.proofs.table.number.Tie as tie
 
 returns : tie.Need-returns
 unfolding glueNumber
 returns c =
-    let a = c .before .before .before .before .args in
-    (sym (ap (glueNumber (held (now (a .text)) (now (a .heads)) (now (a .sizes)) (a .count))) (glue-absent (now (a .text)) (a .mark) (a .start) (a .length) (c .if1 .taken))), omega arith)
+    let a = c .before .before .before .before .before .args in
+    (sym (ap (glueNumber (held (now (a .text)) (now (a .heads)) (now (a .sizes)) (a .count))) (glue-absent (now (a .text)) (a .name) (c .if1 .taken))), omega arith)
 
 add-end : tie.Need-add-end
 add-end c =
-    let a = c .before .before .before .before .args in
-    omega (arith, present-fits (now (a .text)) (a .mark) (a .start) (a .length) (c .if1 .left) (c .before .before .before .before .pre .1))
+    let a = c .before .before .before .before .before .before .args in
+    omega (arith, present-fits (now (a .text)) (a .name) (c .before .if1 .left) (c .before .before .before .before .before .before .pre .1))
 
 part-base-length-end : tie.Need-part-base-length-end
 part-base-length-end c =
-    let a = c .before .before .before .before .args in
-    omega (arith, present-fits (now (a .text)) (a .mark) (a .start) (a .length) (c .if1 .left) (c .before .before .before .before .pre .1))
+    let a = c .before .before .before .before .before .before .args in
+    omega (arith, present-fits (now (a .text)) (a .name) (c .before .if1 .left) (c .before .before .before .before .before .before .pre .1))
 
 add-base-end : tie.Need-add-base-end
 add-base-end c =
-    let a = c .before .before .before .before .before .before .args in
-    let fit = present-fits (now (a .text)) (a .mark) (a .start) (a .length) (c .before .before .if1 .left) (c .before .before .before .before .before .before .pre .1) in
-    omega (arith, fit, base-within (now (a .text)) (a .mark) (a .start) (a .length) (c .base-length .result) fit (c .base-length .ensures .0))
+    let a = c .before .before .before .before .before .before .before .before .args in
+    let fit = present-fits (now (a .text)) (a .name) (c .before .before .before .if1 .left) (c .before .before .before .before .before .before .before .before .pre .1) in
+    omega (arith, fit, base-within (now (a .text)) (a .name) (c .base-length .result) fit (c .base-length .ensures .0))
 
 part-find-end : tie.Need-part-find-end
 part-find-end c =
-    let a = c .before .before .before .before .before .before .args in
-    let fit = present-fits (now (a .text)) (a .mark) (a .start) (a .length) (c .before .before .if1 .left) (c .before .before .before .before .before .before .pre .1) in
-    omega (arith, fit, base-within (now (a .text)) (a .mark) (a .start) (a .length) (c .base-length .result) fit (c .base-length .ensures .0))
+    let a = c .before .before .before .before .before .before .before .before .args in
+    let fit = present-fits (now (a .text)) (a .name) (c .before .before .before .if1 .left) (c .before .before .before .before .before .before .before .before .pre .1) in
+    omega (arith, fit, base-within (now (a .text)) (a .name) (c .base-length .result) fit (c .base-length .ensures .0))
 
 returns-2 : tie.Need-returns-2
 unfolding glueNumber
 returns-2 c =
-    let a = c .before .before .before .before .before .before .before .before .before .args in
+    let a = c .before .before .before .before .before .before .before .before .before .before .before .args in
     let text = now (a .text) in
-    let spelled = partOf text (a .start) (a .length) in
-    let fit = present-fits (now (c .before .before .before .before .before .before .before .before .before .args .text)) (c .before .before .before .before .before .before .before .before .before .args .mark) (c .before .before .before .before .before .before .before .before .before .args .start) (c .before .before .before .before .before .before .before .before .before .args .length) (c .before .before .before .before .before .if1 .left) (c .before .before .before .before .before .before .before .before .before .pre .1) in
+    let base = c .before .before .before .base-length .result in
+    let fit = present-fits text (a .name) (c .before .before .before .before .before .before .if1 .left) (c .before .before .before .before .before .before .before .before .before .before .before .pre .1) in
     let size = c .before .before .before .base-length .ensures .0 in
-    let bytes = part-is text (a .start) (c .before .before .before .base-length .result) ∙ base-part text (a .mark) (a .start) (a .length) (c .before .before .before .base-length .result) fit size in
+    let bytes = part-is text (a .name .start) base ∙ base-part text (a .name) base fit size in
     let bases = held text (now (a .heads)) (now (a .sizes)) (a .count) in
-    let place : c .before .find .result ≡ firstIndex (sameName (baseOf spelled)) bases = c .before .find .ensures .0 ∙ ap (λ (n : List ℕ). firstIndex (sameName n) bases) bytes in
-    let glue = glue-present text (a .mark) (a .start) (a .length) (c .before .before .before .before .before .if1 .left) in
-    (number-unknown bases spelled (not-known text (now (a .heads)) (now (a .sizes)) (a .count) (baseOf spelled) (c .before .find .result) place (c .if2 .taken)) ∙ sym (ap (glueNumber bases) glue), omega arith)
+    let place : c .before .find .result ≡ firstIndex (sameName (baseOf (spelled text (a .name)))) bases = c .before .find .ensures .0 ∙ ap (λ (n : List ℕ). firstIndex (sameName n) bases) bytes in
+    let glue = glue-present text (a .name) (c .before .before .before .before .before .before .if1 .left) in
+    (number-unknown bases (spelled text (a .name)) (not-known text (now (a .heads)) (now (a .sizes)) (a .count) (baseOf (spelled text (a .name))) (c .before .find .result) place (c .if2 .taken)) ∙ sym (ap (glueNumber bases) glue), omega arith)
 
 returns-3 : tie.Need-returns-3
 unfolding glueNumber
 returns-3 c =
-    let a = c .before .before .before .before .before .before .before .before .before .args in
+    let a = c .before .before .before .before .before .before .before .before .before .before .before .before .args in
     let text = now (a .text) in
-    let spelled = partOf text (a .start) (a .length) in
-    let fit = present-fits (now (c .before .before .before .before .before .before .before .before .before .args .text)) (c .before .before .before .before .before .before .before .before .before .args .mark) (c .before .before .before .before .before .before .before .before .before .args .start) (c .before .before .before .before .before .before .before .before .before .args .length) (c .before .before .before .before .before .if1 .left) (c .before .before .before .before .before .before .before .before .before .pre .1) in
-    let size = c .before .before .before .base-length .ensures .0 in
-    let bytes = part-is text (a .start) (c .before .before .before .base-length .result) ∙ base-part text (a .mark) (a .start) (a .length) (c .before .before .before .base-length .result) fit size in
+    let base = c .before .before .before .before .base-length .result in
+    let fit = present-fits text (a .name) (c .before .before .before .before .before .before .before .if1 .left) (c .before .before .before .before .before .before .before .before .before .before .before .before .pre .1) in
+    let size = c .before .before .before .before .base-length .ensures .0 in
+    let bytes = part-is text (a .name .start) base ∙ base-part text (a .name) base fit size in
     let bases = held text (now (a .heads)) (now (a .sizes)) (a .count) in
-    let place : c .before .find .result ≡ firstIndex (sameName (baseOf spelled)) bases = c .before .find .ensures .0 ∙ ap (λ (n : List ℕ). firstIndex (sameName n) bases) bytes in
-    let glue = glue-present text (a .mark) (a .start) (a .length) (c .before .before .before .before .before .if1 .left) in
-    let known = is-known text (now (a .heads)) (now (a .sizes)) (a .count) (baseOf spelled) (c .before .find .result) place (c .if2 .left) in
-    let stars = stars-of text (a .mark) (a .start) (a .length) (c .before .before .before .base-length .result) fit size in
-    (ap₂ numberAt place stars ∙ number-known bases spelled known ∙ sym (ap (glueNumber bases) glue), omega (arith, mod-lt (a .length - c .before .before .before .base-length .result) {m = 2} (omega arith)))
+    let place : c .before .before .find .result ≡ firstIndex (sameName (baseOf (spelled text (a .name)))) bases = c .before .before .find .ensures .0 ∙ ap (λ (n : List ℕ). firstIndex (sameName n) bases) bytes in
+    let glue = glue-present text (a .name) (c .before .before .before .before .before .before .before .if1 .left) in
+    let known = is-known text (now (a .heads)) (now (a .sizes)) (a .count) (baseOf (spelled text (a .name))) (c .before .before .find .result) place (c .before .if2 .left) in
+    let stars = stars-of text (a .name) base fit size in
+    (ap₂ numberAt place stars ∙ number-known bases (spelled text (a .name)) known ∙ sym (ap (glueNumber bases) glue), omega (arith, mod-lt (a .name .size - base) {m = 2} (omega arith)))
 
 pub number-spec : {M : Type 1} → statement M
 number-spec =

@@ -25,7 +25,7 @@ loop-less c = omega (arith, filled-length (c .before .before .before .loop .inv)
 
 loop-again : tie.Need-loop-again Inv-loop μ-loop
 loop-again c =
-    filled-more (c .before .before .before .loop .inv) (c .before .before .loop-test .taken) (c .mark-of .ensures ∙ ap (λ (kind : ℕ). markOf (eqb kind blocked)) (c .before .kind-among .ensures))
+    filled-more (c .before .before .before .loop .inv) (c .before .before .loop-test .taken) (c .block-of .ensures ∙ ap (λ (kind : ℕ). markOf (eqb kind blocked)) (c .before .kind-among .ensures))
 
 same-length : tie.Need-same-length Inv-loop μ-loop
 same-length c = filled-length (c .before .loop .inv)

@@ -6,15 +6,16 @@ use native.Mathlib.Omega.{arith}
 use lib.ListN.{length}
 use Rattle.statements.specs.declared.words.Word.{Word}
 use Rattle.sheet.specs.Parts.{sizeAt}
+use Rattle.sheet.specs.declared.parts.Part.the-variants.{First}
 use Rattle.sheet.proofs.Fill.{Filled, filled-none, filled-length, filled-more, filled-whole}
 use Rattle.sheet.proofs.parts.fill_sizes.Statement.{statement}
 use Rattle.sheet.proofs.parts.fill_sizes.Tie as tie
 
 abbrev Inv-loop : tie.InvT-loop
-Inv-loop kinds words rows part sizes₀ m₀ sizes m = Filled (sizeAt kinds words rows part) sizes₀ m sizes
+Inv-loop kinds words rows sizes₀ m₀ sizes m = Filled (sizeAt kinds words rows First) sizes₀ m sizes
 
 abbrev μ-loop : tie.MeasureT-loop
-μ-loop kinds words rows part sizes₀ m₀ sizes m = length sizes₀ - m
+μ-loop kinds words rows sizes₀ m₀ sizes m = length sizes₀ - m
 
 loop-holds : tie.Need-loop-holds Inv-loop μ-loop
 loop-holds c = filled-none _ _

@@ -6,15 +6,16 @@ use native.Mathlib.Omega.{arith}
 use lib.ListN.{length}
 use Rattle.statements.specs.declared.words.Word.{Word}
 use Rattle.sheet.specs.Parts.{startAt}
+use Rattle.sheet.specs.declared.parts.Part.the-variants.{First}
 use Rattle.sheet.proofs.Fill.{Filled, filled-none, filled-length, filled-more, filled-whole}
 use Rattle.sheet.proofs.parts.fill_starts.Statement.{statement}
 use Rattle.sheet.proofs.parts.fill_starts.Tie as tie
 
 abbrev Inv-loop : tie.InvT-loop
-Inv-loop kinds words rows part starts₀ m₀ starts m = Filled (startAt kinds words rows part) starts₀ m starts
+Inv-loop kinds words rows starts₀ m₀ starts m = Filled (startAt kinds words rows First) starts₀ m starts
 
 abbrev μ-loop : tie.MeasureT-loop
-μ-loop kinds words rows part starts₀ m₀ starts m = length starts₀ - m
+μ-loop kinds words rows starts₀ m₀ starts m = length starts₀ - m
 
 loop-holds : tie.Need-loop-holds Inv-loop μ-loop
 loop-holds c = filled-none _ _

@@ -4,16 +4,7 @@ use Rattle.sheet.proofs.parts.positions.Statement.{statement}
 use Rattle.sheet.proofs.parts.positions.Tie as tie
 
 returns : tie.Need-returns
-returns c = (c .before .before .before .before .before .before .before .before .before .before .fill-starts .ensures, (c .before .before .before .before .before .before .fill-sizes .ensures, c .before .before .fill-marks .ensures))
+returns c = c .before .before .fill-names .ensures
 
 pub positions-spec : {M : Type 1} → statement M
-positions-spec =
-    tie.close
-    (tie.spec
-    (λ c κs. search needs)
-    (λ c κs. search needs)
-    (λ c κs. search needs)
-    (λ c. search needs)
-    (λ c. search needs)
-    (λ c. search needs)
-    returns)
+positions-spec = tie.close (tie.spec (λ c κs. search needs) (λ c. search needs) returns)

@@ -3,51 +3,37 @@
 use crate::judge::parameters::Lent;
 use crate::random::Random;
 
-/// How many slices of whole numbers, of bytes and of doubles a set has.
-pub const NUMBERS: usize = 10;
-pub const BYTES: usize = 4;
-pub const DOUBLES: usize = 2;
+/// How many slices of rows of whole numbers a set has.
+pub const NUMBERS: usize = 3;
 
 pub fn numbers(lent: &mut Lent, which: usize) -> &mut Vec<usize> {
     match which {
-        0 => &mut lent.strands.starts,
-        1 => &mut lent.strands.lengths,
-        2 => &mut lent.scaffold.starts,
-        3 => &mut lent.scaffold.lengths,
-        4 => &mut lent.firsts.starts,
-        5 => &mut lent.firsts.lengths,
-        6 => &mut lent.seconds.starts,
-        7 => &mut lent.seconds.lengths,
-        8 => &mut lent.starts,
-        _ => &mut lent.lengths,
+        0 => &mut lent.strands,
+        1 => &mut lent.scaffold,
+        _ => &mut lent.entries,
     }
 }
 
-/// Marks and forms.
-pub fn bytes(lent: &mut Lent, which: usize) -> &mut Vec<u8> {
+/// How many numbers a row has.
+pub fn width(which: usize) -> usize {
+    [3, 3, 8][which]
+}
+
+/// Where a row has a start, which its length follows.
+pub fn starts(which: usize) -> &'static [usize] {
     match which {
-        0 => &mut lent.strands.marks,
-        1 => &mut lent.scaffold.marks,
-        2 => &mut lent.seconds.marks,
-        _ => &mut lent.forms,
+        0 | 1 => &[1],
+        _ => &[0, 3, 6],
     }
 }
 
-pub fn doubles(lent: &mut Lent, which: usize) -> &mut Vec<f64> {
-    match which {
-        0 => &mut lent.dgs,
-        _ => &mut lent.dss,
-    }
-}
-
-/// A length that differs by one.
-pub fn resized<T: Clone>(slice: &mut Vec<T>, longer: bool, filling: T) {
-    match longer {
-        true => slice.push(filling),
-        false => {
-            slice.pop();
-        }
-    }
+/// A length that differs by so many.
+pub fn resized<T: Clone>(slice: &mut Vec<T>, longer: bool, by: usize, filling: T) {
+    let length = match longer {
+        true => slice.len() + by,
+        false => slice.len().saturating_sub(by),
+    };
+    slice.resize(length, filling);
 }
 
 /// One change, most of them a fault.
@@ -55,20 +41,23 @@ pub fn of_slices(random: &mut Random, lent: &mut Lent) {
     let longer = random.once_in(2);
     let far = lent.text.len();
     match random.below(8) {
-        0 => resized(numbers(lent, random.below(NUMBERS)), longer, 0),
-        1 => resized(bytes(lent, random.below(BYTES)), longer, 0),
-        2 => resized(doubles(lent, random.below(DOUBLES)), longer, 0.0),
+        0 => resized(numbers(lent, random.below(NUMBERS)), longer, 1, 0),
+        1 => {
+            let which = random.below(NUMBERS);
+            resized(numbers(lent, which), longer, width(which), 0);
+        }
+        2 => resized(&mut lent.energies, longer, random.within(1..=2), 0.0),
         3 => {
             let written = &mut lent.written[random.below(4)];
             *written = random.pick(&[*written + 1, written.saturating_sub(1), 0, *written]);
         }
-        4 => {
-            let odd = random.pick(&[0, 1, 1, 2, 255]);
-            let which = random.below(BYTES);
-            put(random, bytes(lent, which), odd);
-        }
-        5 | 6 => {
-            let odd = random.pick(&[0, 1, 2, 64, 65, 256, 257, far, far + 1, usize::MAX]);
+        4..=6 => {
+            let few = [0, 1, 1, 2, 255];
+            let far = [0, 1, 2, 64, 65, 256, 257, far, far + 1, usize::MAX];
+            let odd = match random.once_in(3) {
+                true => random.pick(&few),
+                false => random.pick(&far),
+            };
             let which = random.below(NUMBERS);
             put(random, numbers(lent, which), odd);
         }

@@ -1,6 +1,6 @@
 //! Sets that are just in or just out, one change at a time.
 
-use super::damage::{bytes, doubles, numbers, resized, BYTES, DOUBLES, NUMBERS};
+use super::damage::{numbers, resized, starts, width, NUMBERS};
 use super::{ask_both, ask_port};
 use crate::kinds::Ask;
 use crate::parameters::{parameters, Energy, Key, Name, Parameters, Shape};
@@ -120,25 +120,26 @@ pub fn bench_lines(random: &mut Random, ask: &mut Ask) {
     }
 }
 
-/// Every lent slice one shorter and one longer.
+/// Every lent slice one shorter and one longer, and so a row.
 pub fn every_length(random: &mut Random, ask: &mut Ask) {
     let lent = base().laid_out(random);
     for longer in [false, true] {
         for which in 0..NUMBERS {
+            for by in [1, width(which)] {
+                let mut lent = lent.clone();
+                resized(numbers(&mut lent, which), longer, by, 0);
+                ask_port(&lent, ask);
+            }
+        }
+        for by in [1, 2] {
             let mut lent = lent.clone();
-            resized(numbers(&mut lent, which), longer, 0);
+            resized(&mut lent.energies, longer, by, 0.0);
             ask_port(&lent, ask);
         }
-        for which in 0..BYTES {
-            let mut lent = lent.clone();
-            resized(bytes(&mut lent, which), longer, 0);
-            ask_port(&lent, ask);
-        }
-        for which in 0..DOUBLES {
-            let mut lent = lent.clone();
-            resized(doubles(&mut lent, which), longer, 0.0);
-            ask_port(&lent, ask);
-        }
+        let mut lent = lent.clone();
+        resized(&mut lent.entries, longer, 8, 0);
+        resized(&mut lent.energies, longer, 2, 0.0);
+        ask_port(&lent, ask);
     }
     for which in 0..4 {
         for change in [0, 1, 2] {
@@ -151,14 +152,31 @@ pub fn every_length(random: &mut Random, ask: &mut Ask) {
     }
 }
 
-/// Every mark and form with values that are none, and every number of a copied strand.
-pub fn every_mark(random: &mut Random, ask: &mut Ask) {
+/// Every number of every row with values in, at and beyond what it may be, and every number of a
+/// copied strand.
+pub fn every_number(random: &mut Random, ask: &mut Ask) {
     let lent = base().laid_out(random);
-    for which in 0..BYTES {
-        for index in 0..bytes(&mut lent.clone(), which).len() {
-            for value in [0, 1, 2, 128, 255] {
+    let end = lent.text.len();
+    let values = [0, 1, 2, 64, 65, 128, 255, 256, 257, end - 1, end, end + 1];
+    for which in 0..NUMBERS {
+        for index in 0..numbers(&mut lent.clone(), which).len() {
+            for value in values.into_iter().chain([1 << 32, usize::MAX]) {
                 let mut lent = lent.clone();
-                bytes(&mut lent, which)[index] = value;
+                numbers(&mut lent, which)[index] = value;
+                ask_port(&lent, ask);
+            }
+        }
+        for start in starts(which) {
+            for (from, length) in [
+                (end, 0),
+                (end + 1, 0),
+                (end, 1),
+                (usize::MAX, 2),
+                (2, usize::MAX),
+            ] {
+                let mut lent = lent.clone();
+                numbers(&mut lent, which)[*start] = from;
+                numbers(&mut lent, which)[start + 1] = length;
                 ask_port(&lent, ask);
             }
         }
@@ -167,47 +185,6 @@ pub fn every_mark(random: &mut Random, ask: &mut Ask) {
         for changed in 0..3 {
             let mut lent = lent.clone();
             *[&mut lent.quencher, &mut lent.reporter, &mut lent.users][changed] = strand;
-            ask_port(&lent, ask);
-        }
-    }
-}
-
-/// Every start and length with values in, at and beyond the end of the text.
-pub fn every_start(random: &mut Random, ask: &mut Ask) {
-    let lent = base().laid_out(random);
-    let end = lent.text.len();
-    for which in 0..NUMBERS {
-        for index in 0..numbers(&mut lent.clone(), which).len() {
-            for value in [
-                0,
-                1,
-                64,
-                65,
-                256,
-                257,
-                end - 1,
-                end,
-                end + 1,
-                1 << 32,
-                usize::MAX,
-            ] {
-                let mut lent = lent.clone();
-                numbers(&mut lent, which)[index] = value;
-                ask_port(&lent, ask);
-            }
-        }
-    }
-    for (start, length) in [
-        (end, 0),
-        (end + 1, 0),
-        (end, 1),
-        (usize::MAX, 2),
-        (2, usize::MAX),
-    ] {
-        for which in (0..NUMBERS).step_by(2) {
-            let mut lent = lent.clone();
-            numbers(&mut lent, which)[0] = start;
-            numbers(&mut lent, which + 1)[0] = length;
             ask_port(&lent, ask);
         }
     }

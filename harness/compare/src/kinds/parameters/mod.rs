@@ -6,7 +6,7 @@ mod damage;
 mod fixed;
 
 use super::{Ask, Kind};
-use crate::judge::parameters::{Built, Lent, Names};
+use crate::judge::parameters::{Built, Lent};
 use crate::judge::Verdict;
 use crate::parameters::{damage, parameters, Parameters, Shape};
 use crate::question::{Expected, Question};
@@ -37,8 +37,7 @@ impl Kind for ParameterSets {
         fixed::every_count(random, ask);
         fixed::bench_lines(random, ask);
         fixed::every_length(random, ask);
-        fixed::every_mark(random, ask);
-        fixed::every_start(random, ask);
+        fixed::every_number(random, ask);
     }
 
     fn random(&self, random: &mut Random, ask: &mut Ask) {
@@ -99,34 +98,17 @@ fn ask_port(lent: &Lent, ask: &mut Ask) {
     ask(Question::of_port(line(lent), lent.verdict(), figures));
 }
 
-/// `params TEXT USERS STRANDS SCAFFOLD FIRSTS SECONDS ENERGIES PENALTIES COPIED LENT`
+/// `params TEXT USERS STRANDS SCAFFOLD ENTRIES ENERGIES PENALTIES COPIED LENT`
 fn line(lent: &Lent) -> String {
     let numbers = |list: &[usize]| joined(list, ",");
-    let bytes = |list: &[u8]| joined(list, ",");
     let doubles = |list: &[f64]| joined(list.iter().map(|x| bits(*x)), ",");
-    let names = |names: &Names| {
-        let (starts, lengths) = (numbers(&names.starts), numbers(&names.lengths));
-        format!("{starts};{lengths};{}", bytes(&names.marks))
-    };
-    let energies = [
-        bytes(&lent.forms),
-        doubles(&lent.dgs),
-        doubles(&lent.dss),
-        numbers(&lent.starts),
-        numbers(&lent.lengths),
-    ];
     let words = [
         sequence_word(&lent.text),
         lent.users.to_string(),
-        names(&lent.strands),
-        names(&lent.scaffold),
-        format!(
-            "{};{}",
-            numbers(&lent.firsts.starts),
-            numbers(&lent.firsts.lengths)
-        ),
-        names(&lent.seconds),
-        energies.join(";"),
+        numbers(&lent.strands),
+        numbers(&lent.scaffold),
+        numbers(&lent.entries),
+        doubles(&lent.energies),
         doubles(&[lent.penalty_dg, lent.penalty_ds]),
         numbers(&[lent.quencher, lent.reporter]),
         numbers(&lent.written),

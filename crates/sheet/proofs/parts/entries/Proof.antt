@@ -1,18 +1,18 @@
--- `sheet::parts::fill_numbers` meets its contract. Assumes nothing.
+-- `sheet::parts::entries` meets its contract. Assumes nothing.
 use borrow.Author.Needs.{needs}
 use Prim.Native.Nat.{_-_}
 use native.Mathlib.Omega.{arith}
 use lib.ListN.{length}
-use Rattle.sheet.specs.Parts.{numberAt}
+use Rattle.sheet.specs.Parts.{entryNumberAt}
 use Rattle.sheet.proofs.Fill.{Filled, filled-none, filled-length, filled-more, filled-whole}
-use Rattle.sheet.proofs.parts.fill_numbers.Statement.{statement}
-use Rattle.sheet.proofs.parts.fill_numbers.Tie as tie
+use Rattle.sheet.proofs.parts.entries.Statement.{statement}
+use Rattle.sheet.proofs.parts.entries.Tie as tie
 
 abbrev Inv-loop : tie.InvT-loop
-Inv-loop numbers rows j out₀ m₀ out m = Filled (numberAt numbers rows j) out₀ m out
+Inv-loop kinds words rows out₀ k₀ out k = Filled (entryNumberAt kinds words rows) out₀ k out
 
 abbrev μ-loop : tie.MeasureT-loop
-μ-loop numbers rows j out₀ m₀ out m = length out₀ - m
+μ-loop kinds words rows out₀ k₀ out k = length out₀ - k
 
 loop-holds : tie.Need-loop-holds Inv-loop μ-loop
 loop-holds c = filled-none _ _
@@ -21,7 +21,7 @@ loop-less : tie.Need-loop-less Inv-loop μ-loop
 loop-less c = omega (arith, filled-length (c .before .before .loop .inv))
 
 loop-again : tie.Need-loop-again Inv-loop μ-loop
-loop-again c = filled-more (c .before .before .loop .inv) (c .before .loop-test .taken) (c .number-among .ensures)
+loop-again c = filled-more (c .before .before .loop .inv) (c .before .loop-test .taken) (c .entry-number .ensures)
 
 same-length : tie.Need-same-length Inv-loop μ-loop
 same-length c = filled-length (c .before .loop .inv)
@@ -29,8 +29,8 @@ same-length c = filled-length (c .before .loop .inv)
 returns : tie.Need-returns Inv-loop μ-loop
 returns c = filled-whole (c .before .loop .inv) (c .loop-test .left)
 
-pub fill-numbers-spec : {M : Type 1} → statement M
-fill-numbers-spec =
+pub entries-spec : {M : Type 1} → statement M
+entries-spec =
     tie.close
     (tie.spec
     Inv-loop

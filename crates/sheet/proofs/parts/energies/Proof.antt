@@ -1,0 +1,49 @@
+-- `sheet::parts::energies` meets its contract. Assumes nothing.
+use borrow.Author.Needs.{needs}
+use Prim.Native.Nat.{_-_}
+use native.Mathlib.Omega.{arith}
+use lib.ListN.{length}
+use Rattle.sheet.specs.Parts.{energyAt}
+use Rattle.sheet.proofs.Fill.{Filled, filled-none, filled-length, filled-more, filled-whole}
+use Rattle.sheet.proofs.parts.energies.Statement.{statement}
+use Rattle.sheet.proofs.parts.energies.Tie as tie
+
+abbrev Inv-loop : tie.InvT-loop
+Inv-loop numbers rows out₀ k₀ out k = Filled (energyAt numbers rows) out₀ k out
+
+abbrev μ-loop : tie.MeasureT-loop
+μ-loop numbers rows out₀ k₀ out k = length out₀ - k
+
+loop-holds : tie.Need-loop-holds Inv-loop μ-loop
+loop-holds c = filled-none _ _
+
+loop-less : tie.Need-loop-less Inv-loop μ-loop
+loop-less c = omega (arith, filled-length (c .before .before .loop .inv))
+
+loop-again : tie.Need-loop-again Inv-loop μ-loop
+loop-again c = filled-more (c .before .before .loop .inv) (c .before .loop-test .taken) (c .number-among .ensures)
+
+same-length : tie.Need-same-length Inv-loop μ-loop
+same-length c = filled-length (c .before .loop .inv)
+
+returns : tie.Need-returns Inv-loop μ-loop
+returns c = filled-whole (c .before .loop .inv) (c .loop-test .left)
+
+number-among-requires : tie.Need-number-among-requires Inv-loop μ-loop
+number-among-requires c κs = omega arith
+
+pub energies-spec : {M : Type 1} → statement M
+energies-spec =
+    tie.close
+    (tie.spec
+    Inv-loop
+    μ-loop
+    loop-holds
+    number-among-requires
+    (λ c. search needs)
+    (λ c. search needs)
+    (λ c. search needs)
+    loop-less
+    loop-again
+    same-length
+    returns)
