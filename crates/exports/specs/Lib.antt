@@ -5,3 +5,4 @@ pub mod Lowest
 pub mod Place
 pub mod Stored
 pub mod Told
+pub mod Builds

@@ -6,6 +6,7 @@ use reply::Place;
 use reply::Refusal;
 use reply::Reply;
 use sdc_common::strand_glues;
+use sdc1d_params::Build;
 use sdc1d_params::Copies;
 use sdc1d_params::Penalty;
 use sdc1d_params::from_params;
@@ -32,9 +33,11 @@ pub(crate) const MOST_POSITIONS: usize = 128;
 // The most energy entries.
 pub(crate) const MOST_ENTRIES: usize = 1024;
 
-// The first so many strands, positions and entries of the rows, as `from_params` builds them into the lent slices. Names and entries are
+// The first so many strands, positions and entries of the rows, as `from_params` builds them into the lent slices, in an ordinary build or
+// the archive's. Names and entries are
 // gathered in two steps, each with slices of its own.
 pub(crate) fn build(
+    which: Build,
     text: &[u8],
     kinds: &[u8],
     words: &[usize],
@@ -67,6 +70,7 @@ pub(crate) fn build(
     let quencher = copied(text, kinds, words, rows, QUENCHER);
     let reporter = copied(text, kinds, words, rows, REPORTER);
     with_entries(
+        which,
         text,
         kinds,
         words,
@@ -85,6 +89,7 @@ pub(crate) fn build(
 
 // The second step: the entries, and the call.
 fn with_entries(
+    which: Build,
     text: &[u8],
     kinds: &[u8],
     words: &[usize],
@@ -111,6 +116,7 @@ fn with_entries(
     parts::energies(numbers, rows, reads::numbers(&mut energies, 2 * entries));
     let penalty = junction_penalty(kinds, numbers);
     from_params(
+        which,
         text,
         users,
         strands,
@@ -129,7 +135,7 @@ fn with_entries(
     )
 }
 
-// The reply alone.
+// The reply alone, in the archive's build: of the refusals whose place is looked for so, none is that of a name with two stars.
 pub(crate) fn reply_to(
     text: &[u8],
     kinds: &[u8],
@@ -148,6 +154,7 @@ pub(crate) fn reply_to(
     let mut dg = [0.0; 4096];
     let mut ds = [0.0; 4096];
     build(
+        Build::Archive,
         text,
         kinds,
         words,

@@ -219,6 +219,43 @@ fn in_size(
     nowhere(Why::Refused)
 }
 
+// ---- stars
+
+// Whether a name ends in two or more stars.
+fn is_retired(text: &[u8], name: Word) -> bool {
+    match self_and_inverse(text, name.start, name.size) {
+        NameAnswer::Given(_, base, _) => base < name.size && 1 < name.size - base,
+        NameAnswer::Refused(_) => false,
+    }
+}
+
+// The first name of a strand or an entry that does, or a word of no bytes. Names of the scaffold follow the old rule.
+fn retired_name(text: &[u8], kinds: &[u8], words: &[usize], row: usize) -> Word {
+    let kind = byte_at(kinds, row);
+    if kind == POSITION || kind == BLOCKED {
+        return Word { start: 0, size: 0 };
+    }
+    let slots = glue_slots(kind);
+    for j in slots.0..slots.1 {
+        let name = word_of(words, row, j);
+        if is_retired(text, name) {
+            return name;
+        }
+    }
+    Word { start: 0, size: 0 }
+}
+
+// The first row that has such a name.
+fn in_stars(text: &[u8], kinds: &[u8], lines: &[usize], words: &[usize]) -> Found {
+    for row in 0..kinds.len() {
+        let name = retired_name(text, kinds, words, row);
+        if 0 < name.size {
+            return at_row(lines, row, name, Why::TwoStars);
+        }
+    }
+    nowhere(Why::Refused)
+}
+
 // ---- beginnings of the design
 
 // How few positions it takes for a reply that all of them give.
@@ -319,6 +356,7 @@ pub(crate) fn of_build(
             let count = entries_for(n, text, kinds, words, numbers, users, positions, entries);
             last_of(kinds, lines, words, ENERGY_GIVEN, count, Why::EnergyRange)
         }
+        Refusal::TwoStars => in_stars(text, kinds, lines, words),
         _ => nowhere(Why::Refused),
     }
 }
