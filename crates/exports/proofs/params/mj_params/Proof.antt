@@ -7,12 +7,12 @@ use Rattle.exports.proofs.params.mj_params.Tie as tie
 returns : tie.Need-returns
 returns c =
     let answer = c .before .before .before .before .before .before .before .before .before in
-    let named = sym (answer .before .before .before .before .before .before .before .before .of .ensures) ∙ answer .before .before .before .before .before .before .known .given .1 in
+    let named = sym (answer .before .before .before .before .before .before .before .before .before .of .ensures) ∙ answer .before .before .before .before .before .before .before .known .given .1 in
     rw named (rw (c .number .ensures) (rw (answer .before .before .before .before .before .copies .ensures) at (answer .from-params .ensures)))
 
 returns-2 : tie.Need-returns-2
 returns-2 c =
-    let named = sym (c .before .before .before .before .before .of .ensures) ∙ c .before .before .before .enum-told .given .1 in
+    let named = sym (c .before .before .before .of .ensures) ∙ c .before .enum-told .given .1 in
     rw (named, c .number2 .ensures) refl
 
 pub mj-params-spec : {M : Type 1} → statement M
