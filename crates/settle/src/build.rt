@@ -50,14 +50,24 @@ pub(crate) fn build(
     dg: &mut [f64],
     ds: &mut [f64],
 ) -> Reply {
-    if MOST_USERS < users || MOST_POSITIONS < positions || MOST_ENTRIES < entries {
+    if MOST_USERS < users {
         return Reply::Refused(Refusal::WrongSize, Place::Nowhere);
     }
+    let strand_numbers = 9 * users;
+    if MOST_POSITIONS < positions {
+        return Reply::Refused(Refusal::WrongSize, Place::Nowhere);
+    }
+    let scaffold_numbers = 3 * positions;
     let mut room = [0usize; 61];
     rows_of(kinds, STRAND, reads::places(&mut room, users));
     let rows = first_places(&room, users);
     let mut strands = [0usize; 549];
-    parts::strands(kinds, words, rows, reads::places(&mut strands, 9 * users));
+    parts::strands(
+        kinds,
+        words,
+        rows,
+        reads::places(&mut strands, strand_numbers),
+    );
     let mut sites = [0usize; 128];
     rows_of(kinds, POSITION, reads::places(&mut sites, positions));
     let mut scaffold = [0usize; 384];
@@ -65,7 +75,7 @@ pub(crate) fn build(
         kinds,
         words,
         first_places(&sites, positions),
-        reads::places(&mut scaffold, 3 * positions),
+        reads::places(&mut scaffold, scaffold_numbers),
     );
     let quencher = copied(text, kinds, words, rows, QUENCHER);
     let reporter = copied(text, kinds, words, rows, REPORTER);
@@ -77,8 +87,8 @@ pub(crate) fn build(
         numbers,
         entries,
         users,
-        first_places(&strands, 9 * users),
-        first_places(&scaffold, 3 * positions),
+        first_places(&strands, strand_numbers),
+        first_places(&scaffold, scaffold_numbers),
         Copies { quencher, reporter },
         strand_glues,
         scaffold_glues,

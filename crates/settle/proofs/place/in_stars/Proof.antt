@@ -16,6 +16,9 @@ loop-holds c = search needs
 retired-name-requires : tie.Need-retired-name-requires Inv-loop μ-loop
 retired-name-requires c κs = search needs
 
+at-row-requires : tie.Need-at-row-requires Inv-loop μ-loop
+at-row-requires c κs = search needs
+
 returns : tie.Need-returns Inv-loop μ-loop
 returns c = search needs
 
@@ -28,6 +31,9 @@ loop-less c = search needs
 loop-again : tie.Need-loop-again Inv-loop μ-loop
 loop-again c = search needs
 
+nowhere-requires : tie.Need-nowhere-requires Inv-loop μ-loop
+nowhere-requires c κs = search needs
+
 returns-2 : tie.Need-returns-2 Inv-loop μ-loop
 returns-2 c = search needs
 
@@ -39,8 +45,10 @@ in-stars-spec =
     μ-loop
     loop-holds
     retired-name-requires
+    at-row-requires
     returns
     add-row
     loop-less
     loop-again
+    nowhere-requires
     returns-2)
