@@ -16,7 +16,7 @@ use std::time::Instant;
 const USAGE: &str = "usage: stress [--seed S] [--calls N]";
 
 /// 0 and the numbers of the refusals that there are.
-const REPLIES: [u32; 17] = [0, 1, 2, 3, 4, 5, 6, 7, 8, 9, 10, 11, 12, 13, 14, 16, 17];
+const REPLIES: [u32; 18] = [0, 1, 2, 3, 4, 5, 6, 7, 8, 9, 10, 11, 12, 13, 14, 16, 17, 21];
 
 const SEED: u64 = 9;
 const CALLS: u64 = 1_000_000;

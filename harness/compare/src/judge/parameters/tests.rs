@@ -177,7 +177,10 @@ fn names_with_two_stars_retire() {
 fn a_lower_number_comes_before_21() {
     let mut scaffold = set(["a**", "b", "c"], &[]);
     scaffold.scaffold = vec![named("a**")];
-    let twice = set(["a", "b", "c"], &[Key::One("a".into()), pair("a***", "a**")]);
+    let twice = set(
+        ["a", "b", "c"],
+        &[Key::One("a".into()), pair("a***", "a**")],
+    );
     let mut sum = set(["a", "b", "c"], &[Key::One("a**".into())]);
     sum.penalty.0 = 2000.0;
     for (set, expected) in [(scaffold, 6), (twice, 8), (sum, 9)] {
