@@ -166,8 +166,8 @@ uint32_t mj_strand_glues(const uint8_t *text, size_t n, size_t users, const size
  * are known, all else 0.0. On a refusal all are kept.
  *
  * The build is 0, an ordinary one, which refuses strand and entry names that end in two or more stars,
- * or 1, the archive's, which takes old designs with such names; any other number is 1. Scaffold names
- * follow one rule in both. Replies 1, 2, 3, 6, 7, 8, 9, 21. */
+ * or 1, the archive's, which takes old designs with such names; any other number is refused with 1.
+ * Scaffold names follow one rule in both. Replies 1, 2, 3, 6, 7, 8, 9, 21. */
 uint32_t mj_params(uint32_t build, const uint8_t *text, size_t n, size_t users, const size_t *strands,
                    size_t strand_numbers, const size_t *scaffold, size_t scaffold_numbers,
                    const size_t *entries, size_t entry_numbers, const double *energies,
