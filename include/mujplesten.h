@@ -59,6 +59,7 @@
  *   20 ring     a scaffold of fewer than 3 positions that is to be a ring
  *   18 bare     a sum over the states of a scaffold of no positions
  *   19 weight   a weight outside its form that some state uses
+ *   21 stars    a strand or entry name that ends in two or more stars, in an ordinary build
  *
  * If several apply, the lowest is given. Four of them say where the fault lies:
  *
@@ -174,8 +175,12 @@ uint32_t mj_strand_glues(const uint8_t *text, size_t n, size_t users, const size
  * Written are strand_glues, three for strand 0, for each user strand, for the quencher (west and
  * bottom of its strand) and for the reporter (bottom and east of its strand); scaffold_glues, one for
  * each position; dg and ds, 4,096 cells each, a cell and its mirror for each entry both of whose names
- * are known, all else 0.0. On a refusal all are kept. Replies 1, 2, 3, 6, 7, 8, 9. */
-uint32_t mj_params(const uint8_t *text, size_t n, size_t users, const size_t *strands,
+ * are known, all else 0.0. On a refusal all are kept.
+ *
+ * The build is 0, an ordinary one, which refuses strand and entry names that end in two or more stars,
+ * or 1, the archive's, which takes old designs with such names; any other number is refused with 1.
+ * Scaffold names follow one rule in both. Replies 1, 2, 3, 6, 7, 8, 9, 21. */
+uint32_t mj_params(uint32_t build, const uint8_t *text, size_t n, size_t users, const size_t *strands,
                    size_t strand_numbers, const size_t *scaffold, size_t scaffold_numbers,
                    const size_t *entries, size_t entry_numbers, const double *energies,
                    size_t energy_doubles, double penalty_dg, double penalty_ds, size_t quencher,

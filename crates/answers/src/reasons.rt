@@ -33,9 +33,10 @@ pub enum Why {
     // range
     EnergyRange,
     KelvinRange,
-    // ambient, potential
+    // ambient, potential, stars
     AmbientRange,
     PotentialRange,
+    TwoStars,
     // Whatever else a call may refuse.
     Refused,
 }
@@ -140,6 +141,9 @@ fn print_refusal_reason(why: Why) {
         ),
         Why::PotentialRange => print(
             b"a potential, the logarithm of a concentration, is 1024 at most in size. Correct it",
+        ),
+        Why::TwoStars => print(
+            b"a glue of a strand or an energy ends in one star at most: an even number of stars is none, an odd one is one. Correct it; --archive takes old files",
         ),
         _ => print_size_reason(why),
     }

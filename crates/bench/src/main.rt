@@ -3,6 +3,7 @@
 use design::answers::CountAnswer;
 use reply::Refusal;
 use reply::Reply;
+use sdc1d_params::Build;
 use sdc1d_params::Copied;
 use sdc1d_params::Copies;
 use sdc1d_params::Penalty;
@@ -174,6 +175,7 @@ fn named(mark: usize) -> Reply {
     let mut dg = [0.0; 4096];
     let mut ds = [0.0; 4096];
     sdc1d_params::from_params(
+        Build::Ordinary,
         b"aaaaaaaaaaaaaaaaaaaaaaaaaaaaaaaa",
         11,
         &strands,

@@ -28,4 +28,4 @@ bench-table =
     }
 
 pub added : Added
-added = record { one-star = Names.line-a-one-star }
+added = record { one-star = Names.line-a-one-star; retired = Names.line-strand-two-stars; reduced = Names.line-strand-two-stars-archive }

@@ -12,7 +12,9 @@ use Rattle.utils.specs.Single.{stringDnaDgDs}
 use Rattle.utils.specs.Pair.{sequencePairDgDs}
 use Rattle.sdc1d_params.specs.Tables.{emptyTable}
 use Rattle.sdc1d_params.specs.Params.{fromParams}
-use Rattle.built.specs.Bench.{oneStrand, lent}
+use Rattle.sdc1d_params.specs.declared.Build.{Build}
+use Rattle.sdc1d_params.specs.declared.Build.the-variants.{Ordinary, Archive}
+use Rattle.built.specs.Bench.{oneStrand, starredStrand, lent}
 use Rattle.model.specs.States.{states}
 use Rattle.model.specs.Energy.{walk}
 use Rattle.design.specs.Design.{modelOf}
@@ -56,8 +58,8 @@ pub record BenchTable : Type 0 where
   pub loop-of-3 :
       sequencePairDgDs (A ∷ A ∷ A ∷ A ∷ A ∷ A ∷ []) (T ∷ A ∷ A ∷ A ∷ T ∷ T ∷ [])
       ≡ givenDgDs (nearest (plus 61 2) ⊕ nearest (plus 69 2) ⊕ nearest (minus 10 1) ⊕ nearest (plus 32 1)) (nearest (minus 213 4))
-  -- scaffold name `a**`, strands use `a`: 6; all that was lent is as it was
-  pub two-stars : fromParams (oneStrand 3) lent ≡ record { number = 6; strandGlues = lent .strandGlues; scaffoldGlues = lent .scaffoldGlues; dg = lent .dg; ds = lent .ds }
+  -- scaffold name `a**`, strands use `a`: 6, in both builds; all that was lent is as it was
+  pub two-stars : (build : Build) → fromParams build (oneStrand 3) lent ≡ record { number = 6; strandGlues = lent .strandGlues; scaffoldGlues = lent .scaffoldGlues; dg = lent .dg; ds = lent .ds }
   -- no position: search: empty, 0.0; one state
   pub no-position : (searchAnswer bare [] ≡ given zero) × (searchEntries bare [] ≡ []) × (walk (modelOf bare) ≡ zero)
   pub one-state : (countAnswer bare ≡ given 1) × (states (modelOf bare) ≡ [] ∷ [])
@@ -78,8 +80,14 @@ pub record BenchTable : Type 0 where
   -- 10000002 30000001 30000001: 14 at word 2 (first word is 0)
   pub fault : (held : List ℕ) → length held ≡ 128 → (readFigures singles faulty held ≡ record { number = 14; count = 0; place = At 2 }) × (readEntries singles faulty held ≡ held)
 
--- Added, no line of document 01: beside the line with `a**`, `a*` is a known name. It is built, the strand's glue 1 and the scaffold's 2.
+-- Added, no line of document 01: beside the line with `a**`, `a*` is a known name. It is built in both builds, the strand's glue 1 and the scaffold's 2. A strand that
+-- uses `a**` itself is 21 in an ordinary build, and `a` in the archive's.
 pub record Added : Type 0 where
   pub one-star :
-      fromParams (oneStrand 2) lent
+      (build : Build)
+      → fromParams build (oneStrand 2) lent
       ≡ record { number = 0; strandGlues = 0 ∷ 0 ∷ 0 ∷ 1 ∷ 0 ∷ 0 ∷ 0 ∷ 0 ∷ 0 ∷ 0 ∷ 0 ∷ 0 ∷ []; scaffoldGlues = 2 ∷ []; dg = emptyTable; ds = emptyTable }
+  pub retired : fromParams Ordinary starredStrand lent ≡ record { number = 21; strandGlues = lent .strandGlues; scaffoldGlues = lent .scaffoldGlues; dg = lent .dg; ds = lent .ds }
+  pub reduced :
+      fromParams Archive starredStrand lent
+      ≡ record { number = 0; strandGlues = 0 ∷ 0 ∷ 0 ∷ 1 ∷ 0 ∷ 0 ∷ 0 ∷ 0 ∷ 0 ∷ 0 ∷ 0 ∷ 0 ∷ []; scaffoldGlues = 1 ∷ []; dg = emptyTable; ds = emptyTable }

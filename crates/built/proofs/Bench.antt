@@ -10,19 +10,20 @@ use Rattle.sdc_common.specs.Lent.{partOf, glueOf, gluesOf, unfitGlue, unfitName
 use Rattle.sdc_common.specs.Numbers.{learn, basesOf}
 use Rattle.sdc_common.specs.Spelled.{knownNames, isUnknown}
 use Rattle.sdc1d_params.specs.Entries.{unfitEntries}
+use Rattle.sdc1d_params.specs.declared.Build.{Build}
 use Rattle.sdc1d_params.specs.Params.{wrongSize, fromParams}
 use Rattle.built.specs.Bench.{oneStrand, odd, HandedOn}
 
-refused : fromParams (oneStrand 3) odd .number ≡ 6
+refused : (build : Build) → fromParams build (oneStrand 3) odd .number ≡ 6
 unfolding fromParams wrongSize unfitNames unfitGlue unfitEntries any tabulate gluesOf glueOf partOf isUnknown knownNames basesOf foldl learn baseOf baseLength sameName
-refused = refl
+refused build = refl
 
-kept : fromParams (oneStrand 3) odd .dg ≡ odd .dg
+kept : (build : Build) → fromParams build (oneStrand 3) odd .dg ≡ odd .dg
 unfolding fromParams wrongSize unfitNames unfitGlue unfitEntries any tabulate gluesOf glueOf partOf isUnknown knownNames basesOf foldl learn baseOf baseLength sameName
-kept = refl
+kept build = refl
 
-not-answered : fromParams (oneStrand 3) odd .number ≡ 0 → ⊥
-not-answered e = let z : _≡_ {A = ℕ} 6 0 = sym refused ∙ e in omega arith
+not-answered : (build : Build) → fromParams build (oneStrand 3) odd .number ≡ 0 → ⊥
+not-answered build e = let z : _≡_ {A = ℕ} 6 0 = sym (refused build) ∙ e in omega arith
 
 pub handed-on : HandedOn
-handed-on = record { made = λ marks potentials ambient. refl; kept = kept; unclaimed = record { dg = λ e. absurd (not-answered e); ds = λ e. absurd (not-answered e) } }
+handed-on = record { made = λ marks potentials ambient. refl; kept = kept; unclaimed = λ build. record { dg = λ e. absurd (not-answered build e); ds = λ e. absurd (not-answered build e) } }

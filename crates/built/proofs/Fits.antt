@@ -20,6 +20,7 @@ use Rattle.sdc1d_params.specs.Params.{Params, Outcome, writesOf, strandGluesOf,
 use Rattle.design.specs.Design as Design
 use Rattle.design.specs.Design.{Design}
 use Rattle.design.specs.Checks.{highGlue, beyond, wrongMarks, wrongSizes, sizesOut, cellsOut, badCell, nullGlued, nullCells, nullBinds, numberChecks}
+use Rattle.sdc1d_params.specs.declared.Build.{Build}
 use Rattle.built.specs.Fits.{Fits, designOf, WrittenFits, Symmetric, WrittenSymmetric}
 use Rattle.built.proofs.Passed.{Passed, answered-as, few-users, strands-many, scaffold-short, writes-small}
 use Rattle.built.proofs.Written.{strand-glues-many, scaffold-many, strand-glues-low, scaffold-low, dg-mirrored, ds-mirrored, NullZero, dg-null, ds-null, dg-ranged, ds-ranged}
@@ -97,15 +98,15 @@ module _ (p : Params) (lent : Outcome) (passed : Passed p lent) where
       (cells-in (builtFrom p .dg) (builtFrom p .ds) (dg-ranged (writesOf p) (passed .ranged)) (ds-ranged (writesOf p) (passed .ranged)))
       (null-in (builtFrom p .strandGlues) (builtFrom p .dg) (builtFrom p .ds) null-glued (dg-null (writesOf p) small) (ds-null (writesOf p) small))
 
-pub written-fits : (p : Params) (lent : Outcome) → WrittenFits p lent
-written-fits p lent e marks potentials ambient marked many =
-    let a = answered-as p lent e in
+pub written-fits : (build : Build) (p : Params) (lent : Outcome) → WrittenFits build p lent
+written-fits build p lent e marks potentials ambient marked many =
+    let a = answered-as p lent build e in
     let same : wrongMarks (builtFrom p .scaffoldGlues) marks ≡ false = subst (λ (o : Outcome). wrongMarks (o .scaffoldGlues) marks ≡ false) (a .1) marked in
     subst (λ (o : Outcome). Fits (designOf o marks potentials ambient)) (sym (a .1)) (outcome-fits p lent (a .0) marks potentials ambient same many)
 
-pub written-symmetric : (p : Params) (lent : Outcome) → WrittenSymmetric p lent
-written-symmetric p lent =
+pub written-symmetric : (build : Build) (p : Params) (lent : Outcome) → WrittenSymmetric build p lent
+written-symmetric build p lent =
     record {
-      dg = λ e. let a = answered-as p lent e in subst (λ (o : Outcome). Symmetric (o .dg)) (sym (a .1)) (dg-mirrored (writesOf p) (writes-small p (a .0 .few)) .same);
-      ds = λ e. let a = answered-as p lent e in subst (λ (o : Outcome). Symmetric (o .ds)) (sym (a .1)) (ds-mirrored (writesOf p) (writes-small p (a .0 .few)) .same);
+      dg = λ e. let a = answered-as p lent build e in subst (λ (o : Outcome). Symmetric (o .dg)) (sym (a .1)) (dg-mirrored (writesOf p) (writes-small p (a .0 .few)) .same);
+      ds = λ e. let a = answered-as p lent build e in subst (λ (o : Outcome). Symmetric (o .ds)) (sym (a .1)) (ds-mirrored (writesOf p) (writes-small p (a .0 .few)) .same);
     }

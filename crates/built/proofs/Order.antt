@@ -1,6 +1,6 @@
 -- The answer of `from_params` is the same in whatever order the energy entries stand. Assumes nothing.
-use mathlib.Core.Path.{_≡_, refl, ap, ap₂, _∙_}
-use mathlib.Core.Bool.{Bool, true, false, _||_}
+use mathlib.Core.Path.{_≡_, refl, ap, ap₂, sym, _∙_}
+use mathlib.Core.Bool.{Bool, true, false, _&&_, _||_}
 use mathlib.Core.List.{List, [], _∷_, map, List·Permᴰ, List·Permᴰ·swap, Permᴰ·append-left}
 use Prim.Native.Nat.{ℕ, _*_}
 use lib.Dec.{ltb}
@@ -8,17 +8,20 @@ use lib.ListN.{length}
 use Rattle.lists.specs.Find.{any}
 use Rattle.lists.proofs.Tests.{clash, neither}
 use Rattle.lists.proofs.Permuted.{length-permuted, any-permuted, map-permuted}
-use Rattle.reply.specs.First.{firstOf, _if_, answer}
-use Rattle.reply.specs.declared.Refusal.the-variants.{WrongSize, NotABase, TooShort, UnknownName, TooManyGlues, DuplicatePair, OutOfRange}
+use Rattle.reply.specs.First.{firstOf, _if_, _orElse_, answer}
+use Rattle.reply.specs.declared.Refusal.the-variants.{WrongSize, NotABase, TooShort, UnknownName, TooManyGlues, DuplicatePair, OutOfRange, TwoStars}
 use Rattle.reply.specs.declared.Reply.{Reply}
 use Rattle.reply.specs.declared.Reply.the-variants.{Admitted, Refused}
-use Rattle.sdc_common.specs.Lent.{gluesOf, unfitNames}
+use Rattle.reply.proofs.First.{joined}
+use Rattle.sdc_common.specs.Lent.{gluesOf, unfitNames, isRetiredGlue}
 use Rattle.sdc_common.specs.Spelled.{isUnknown}
 use Rattle.sdc_common.specs.Calls.{tooManyStrands, tooManyBases}
 use Rattle.sdc1d_params.specs.Entries.{energyOf, unfitEntry, unfitEntries, hasBadBase, isShort}
 use Rattle.sdc1d_params.specs.Tables.{Write, cellsOf, duplicated, outOfRange, emptyTable, dgTable, dsTable}
-use Rattle.sdc1d_params.specs.Params.{Params, Outcome, bases, strandNames, writeOfEntry, writesOf, unfitCopied, unfitScaffold, unfitLent, wrongSize, paramChecks, strandGluesOf, builtFrom, leftAsLent, fromParams}
+use Rattle.sdc1d_params.specs.Params.{Params, Outcome, bases, strandNames, writeOfEntry, writesOf, unfitCopied, unfitScaffold, unfitLent, wrongSize, paramChecks, isOrdinary, isRetiredEntry, anyRetired, buildChecks, strandGluesOf, builtFrom, leftAsLent, fromParams}
+use Rattle.sdc1d_params.specs.declared.Build.{Build}
 use Rattle.sdc1d_params.specs.declared.Entry.{Entry}
+use Rattle.sdc1d_params.proofs.Passed.{reply-size, build-refused, build-passes}
 use Rattle.built.specs.Order.{withEntries, refusedWith, OrderFree}
 use Rattle.built.proofs.Exchanged.{duplicated-permuted, table-permuted}
 use Rattle.built.proofs.Passed.{Passed, checks-pass, sizes, writes-small}
@@ -100,11 +103,21 @@ module _ (p : Params) (lent : Outcome) {entries others : List Entry} (permuted :
     unfolding withEntries strandGluesOf
     outcome-same = rw (dg-same, ds-same)
 
-  same : fromParams one lent ≡ fromParams two lent
+  stars-same : (build : Build) → (isOrdinary build && anyRetired one) ≡ (isOrdinary build && anyRetired two)
+  unfolding withEntries anyRetired
+  stars-same build = ap (λ (t : Bool). isOrdinary build && (any isRetiredGlue (strandNames p) || t)) (any-permuted (isRetiredEntry (p .text)) permuted)
+
+  build-same : (build : Build) → firstOf (buildChecks build one lent) ≡ firstOf (buildChecks build two lent)
+  build-same build =
+      sym (joined (paramChecks one lent) (TwoStars if (isOrdinary build && anyRetired one) ∷ []))
+      ∙ ap₂ (λ (r : Reply) (t : Bool). r orElse firstOf (TwoStars if t ∷ [])) reply-same (stars-same build)
+      ∙ joined (paramChecks two lent) (TwoStars if (isOrdinary build && anyRetired two) ∷ [])
+
+  same : (build : Build) → fromParams build one lent ≡ fromParams build two lent
   unfolding fromParams
-  same =
-      same-answer (firstOf (paramChecks one lent)) (leftAsLent lent) (builtFrom one) (builtFrom two) (λ e. outcome-same (checks-pass one lent e))
-      ∙ ap (λ (r : Reply). answer r (leftAsLent lent) (builtFrom two)) reply-same
+  same build =
+      same-answer (firstOf (buildChecks build one lent)) (leftAsLent lent) (builtFrom one) (builtFrom two) (λ e. outcome-same (checks-pass one lent (build-passes build one lent e)))
+      ∙ ap (λ (r : Reply). answer r (leftAsLent lent) (builtFrom two)) (build-same build)
 
 -- ---- any parameter set
 
@@ -118,20 +131,20 @@ whole p lent e =
     let entries = neither (p .entries .ragged || ltb 1024 (length (p .entries .each))) (any (unfitEntry (p .text)) (p .entries .each)) (sizes p lent e .3) in
     neither (p .entries .ragged) (ltb 1024 (length (p .entries .each))) (entries .0) .0
 
-uneven : (p : Params) (lent : Outcome) → p .entries .ragged ≡ true → fromParams p lent ≡ refusedWith WrongSize lent
+uneven : (build : Build) (p : Params) (lent : Outcome) → p .entries .ragged ≡ true → fromParams build p lent ≡ refusedWith WrongSize lent
 unfolding fromParams
-uneven p lent e =
+uneven build p lent e =
     go (wrongSize p lent) refl
   where
-    go : (t : Bool) → wrongSize p lent ≡ t → answer (firstOf (paramChecks p lent)) (leftAsLent lent) (builtFrom p) ≡ refusedWith WrongSize lent
-    go true w = rw w
+    go : (t : Bool) → wrongSize p lent ≡ t → answer (firstOf (buildChecks build p lent)) (leftAsLent lent) (builtFrom p) ≡ refusedWith WrongSize lent
+    go true w = ap (λ (r : Reply). answer r (leftAsLent lent) (builtFrom p)) (sym (build-refused build p lent WrongSize (reply-size p lent w)))
     go false w = absurd (clash (whole p lent w) e)
 
 pub order-free : OrderFree
 order-free =
     record {
-      neighbours = λ p lent before after x y. same p lent (Permᴰ·append-left before (List·Permᴰ·swap refl refl));
-      any-order = λ p lent entries others permuted. same p lent permuted;
+      neighbours = λ build p lent before after x y. same p lent (Permᴰ·append-left before (List·Permᴰ·swap refl refl)) build;
+      any-order = λ build p lent entries others permuted. same p lent permuted build;
       every = every;
       uneven = uneven;
     }

@@ -21,8 +21,10 @@ use Rattle.sdc_common.specs.Calls.{tooManyStrands}
 use Rattle.sdc_common.proofs.Fit.{as-many}
 use Rattle.sdc1d_params.specs.Entries.{unfitEntries}
 use Rattle.sdc1d_params.specs.Tables.{Write, writeOf, cellsOf, duplicated, outOfRange}
-use Rattle.sdc1d_params.specs.Params.{Params, Outcome, bases, firstName, writeOfEntry, writesOf, unfitCopied, unfitScaffold, unfitLent, wrongSize, paramChecks, builtFrom, leftAsLent, fromParams}
+use Rattle.sdc1d_params.specs.Params.{Params, Outcome, bases, firstName, writeOfEntry, writesOf, unfitCopied, unfitScaffold, unfitLent, wrongSize, paramChecks, buildChecks, builtFrom, leftAsLent, fromParams}
+use Rattle.sdc1d_params.specs.declared.Build.{Build}
 use Rattle.sdc1d_params.specs.declared.Entry.{Entry}
+use Rattle.sdc1d_params.proofs.Passed.{build-passes}
 use Rattle.built.proofs.Numbers.{Small, cell-small}
 
 numbered : (lent : Outcome) (n : ℕ) → leftAsLent lent n .number ≡ n
@@ -62,11 +64,11 @@ module _ (p : Params) (lent : Outcome) where
       let none = all-pass (paramChecks p lent) e in
       record { size = none .0; known = none .1 .1 .1 .0; few = ltb-false _ _ (none .1 .1 .1 .1 .0); once = none .1 .1 .1 .1 .1 .0; ranged = none .1 .1 .1 .1 .1 .1 .0 }
 
-  pub answered-as : fromParams p lent .number ≡ answered → Passed p lent × (fromParams p lent ≡ builtFrom p)
+  pub answered-as : (build : Build) → fromParams build p lent .number ≡ answered → Passed p lent × (fromParams build p lent ≡ builtFrom p)
   unfolding fromParams
-  answered-as e =
-      let a = is-admitted (λ (o : Outcome). o .number) (leftAsLent lent) (numbered lent) (builtFrom p) (firstOf (paramChecks p lent)) (fromParams p lent) e refl in
-      (checks-pass (a .0), a .1)
+  answered-as build e =
+      let a = is-admitted (λ (o : Outcome). o .number) (leftAsLent lent) (numbered lent) (builtFrom p) (firstOf (buildChecks build p lent)) (fromParams build p lent) e refl in
+      (checks-pass (build-passes build p lent (a .0)), a .1)
 
 -- ---- the sizes, one by one
 

@@ -10,12 +10,14 @@ use Rattle.lists.specs.Build.{tabulate}
 use Rattle.lists.specs.Find.{any, firstIndex}
 use Rattle.lists.specs.Fold.{foldl}
 use Rattle.sdc_common.specs.Names.{baseLength, baseOf, starsOf, sameName}
-use Rattle.sdc_common.specs.Lent.{namesOf, partOf, glueOf, gluesOf, unfitGlue, unfitNames}
+use Rattle.sdc_common.specs.Lent.{namesOf, partOf, glueOf, gluesOf, unfitGlue, unfitNames, isRetiredGlue}
 use Rattle.sdc_common.specs.Numbers.{learn, basesOf, baseNumber, glueNumber, numbersAmong}
 use Rattle.sdc_common.specs.Spelled.{knownNames, isUnknown, spelledNumber}
 use Rattle.sdc1d_params.specs.Entries.{entriesOf, unfitEntries}
 use Rattle.sdc1d_params.specs.Tables.{duplicated, emptyTable, dgTable, dsTable}
-use Rattle.sdc1d_params.specs.Params.{Params, Outcome, writesOf, wrongSize, strandGluesOf, fromParams}
+use Rattle.sdc1d_params.specs.Params.{Params, Outcome, writesOf, wrongSize, anyRetired, strandGluesOf, fromParams}
+use Rattle.sdc1d_params.specs.declared.Build.{Build}
+use Rattle.sdc1d_params.specs.declared.Build.the-variants.{Ordinary, Archive}
 use Rattle.sdc1d_params.specs.declared.Copied.the-variants.{Nothing}
 use Rattle.units.specs.declared.Ambient.{Ambient}
 use Rattle.design.specs.Design.{design}
@@ -41,18 +43,48 @@ oneStrand bytes =
 abbrev pub lent : Outcome
 lent = record { number = 0; strandGlues = replicate 12 9; scaffoldGlues = 9 ∷ []; dg = replicate 4096 (nearest (minus 15 1)); ds = replicate 4096 (nearest (plus 25 2)) }
 
--- scaffold name `a**`, strands use `a`: 6, and all that was lent is as it was
+-- scaffold name `a**`, strands use `a`: 6 in both builds, and all that was lent is as it was
 pub line-a-two-stars :
-    fromParams (oneStrand 3) lent ≡ record { number = 6; strandGlues = lent .strandGlues; scaffoldGlues = lent .scaffoldGlues; dg = lent .dg; ds = lent .ds }
+    (build : Build) → fromParams build (oneStrand 3) lent ≡ record { number = 6; strandGlues = lent .strandGlues; scaffoldGlues = lent .scaffoldGlues; dg = lent .dg; ds = lent .ds }
 unfolding fromParams wrongSize unfitNames unfitGlue unfitEntries any tabulate gluesOf glueOf partOf isUnknown knownNames basesOf foldl learn baseOf baseLength sameName
-line-a-two-stars = refl
+line-a-two-stars build = refl
 
--- Added: the same with `a*` is answered. Its glue is 2, that of the strand 1, and every cell is 0.0.
+-- Added: the same with `a*` is answered, in both builds. Its glue is 2, that of the strand 1, and every cell is 0.0.
 pub line-a-one-star :
-    fromParams (oneStrand 2) lent
+    (build : Build)
+    → fromParams build (oneStrand 2) lent
     ≡ record { number = 0; strandGlues = 0 ∷ 0 ∷ 0 ∷ 1 ∷ 0 ∷ 0 ∷ 0 ∷ 0 ∷ 0 ∷ 0 ∷ 0 ∷ 0 ∷ []; scaffoldGlues = 2 ∷ []; dg = emptyTable; ds = emptyTable }
+unfolding fromParams wrongSize unfitNames unfitGlue unfitEntries any tabulate gluesOf glueOf partOf isUnknown knownNames basesOf foldl learn baseOf baseLength sameName writesOf duplicated strandGluesOf numbersAmong glueNumber baseNumber starsOf spelledNumber firstIndex dgTable dsTable anyRetired isRetiredGlue
+line-a-one-star Ordinary = refl
+line-a-one-star Archive = refl
+
+-- Document 02: a strand that uses `a**` is refused by an ordinary build, and all that was lent is as it was; the archive's reduces it to `a`.
+abbrev pub starredStrand : Params
+starredStrand =
+    record {
+      text = 97 ∷ 42 ∷ 42 ∷ [];
+      users = 1;
+      strands = namesOf (1 ∷ 0 ∷ 3 ∷ 0 ∷ 0 ∷ 0 ∷ 0 ∷ 0 ∷ 0 ∷ []);
+      scaffold = namesOf (1 ∷ 0 ∷ 1 ∷ []);
+      entries = entriesOf [] [];
+      penaltyDg = zero;
+      penaltyDs = zero;
+      quencher = Nothing;
+      reporter = Nothing;
+    }
+
+-- the ordinary build: 21
+pub line-strand-two-stars :
+    fromParams Ordinary starredStrand lent ≡ record { number = 21; strandGlues = lent .strandGlues; scaffoldGlues = lent .scaffoldGlues; dg = lent .dg; ds = lent .ds }
+unfolding fromParams wrongSize unfitNames unfitGlue unfitEntries any tabulate gluesOf glueOf partOf isUnknown knownNames basesOf foldl learn baseOf baseLength sameName writesOf duplicated starsOf anyRetired isRetiredGlue
+line-strand-two-stars = refl
+
+-- the archive's: both glues are 1
+pub line-strand-two-stars-archive :
+    fromParams Archive starredStrand lent
+    ≡ record { number = 0; strandGlues = 0 ∷ 0 ∷ 0 ∷ 1 ∷ 0 ∷ 0 ∷ 0 ∷ 0 ∷ 0 ∷ 0 ∷ 0 ∷ 0 ∷ []; scaffoldGlues = 1 ∷ []; dg = emptyTable; ds = emptyTable }
 unfolding fromParams wrongSize unfitNames unfitGlue unfitEntries any tabulate gluesOf glueOf partOf isUnknown knownNames basesOf foldl learn baseOf baseLength sameName writesOf duplicated strandGluesOf numbersAmong glueNumber baseNumber starsOf spelledNumber firstIndex dgTable dsTable
-line-a-one-star = refl
+line-strand-two-stars-archive = refl
 
 -- the same lent, but with a table of dG that is not symmetric: another double at [1][2]
 abbrev pub odd : Outcome
@@ -63,5 +95,5 @@ pub record HandedOn : Type 0 where
   -- each of the four slices has its place in the design, dG and dS their own
   pub made : (marks : List ℕ) (potentials : List Float) (ambient : Ambient) → designOf lent marks potentials ambient ≡ design (9 ∷ []) marks (replicate 12 9) (lent .dg) (lent .ds) potentials ambient
   -- a refused build leaves what was lent, symmetric or not, and `WrittenSymmetric` claims nothing of it
-  pub kept : fromParams (oneStrand 3) odd .dg ≡ odd .dg
-  pub unclaimed : WrittenSymmetric (oneStrand 3) odd
+  pub kept : (build : Build) → fromParams build (oneStrand 3) odd .dg ≡ odd .dg
+  pub unclaimed : (build : Build) → WrittenSymmetric build (oneStrand 3) odd

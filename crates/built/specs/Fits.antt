@@ -13,6 +13,7 @@ use Rattle.units.specs.Ambient.{ambientFigures, ambientAt}
 use Rattle.units.specs.declared.Ambient.{Ambient}
 use Rattle.units.specs.declared.AmbientAnswer.the-variants.{Given}
 use Rattle.sdc1d_params.specs.Params.{Params, Outcome, fromParams}
+use Rattle.sdc1d_params.specs.declared.Build.{Build}
 use Rattle.design.specs.Design.{Design, design, cell}
 use Rattle.design.specs.Checks.{wrongMarks, sizesOut, cellsOut, ambientOut, potentialsOut, nullBinds, numberChecks, designChecks, Admitted}
 
@@ -37,13 +38,13 @@ pub record Fits (d : Design) : Type 0 where
 
 -- Where `from_params` answers, what it wrote fits, in any ambient, with any marks, one for each position, and any potentials, one for each
 -- strand: strand 0, the user strands, quencher and reporter.
-abbrev pub WrittenFits : Params → Outcome → Type 0
-WrittenFits p lent =
-    fromParams p lent .number ≡ answered
+abbrev pub WrittenFits : Build → Params → Outcome → Type 0
+WrittenFits build p lent =
+    fromParams build p lent .number ≡ answered
     → (marks : List ℕ) (potentials : List Float) (ambient : Ambient)
-    → wrongMarks (fromParams p lent .scaffoldGlues) marks ≡ false
+    → wrongMarks (fromParams build p lent .scaffoldGlues) marks ≡ false
     → length potentials ≡ p .users + 3
-    → Fits (designOf (fromParams p lent) marks potentials ambient)
+    → Fits (designOf (fromParams build p lent) marks potentials ambient)
 
 -- Every ambient that `ambient_at` gives, at any double of kelvin, is one that a design takes: RT from 1/8 to 8, excesses within ±1,024.
 abbrev pub AmbientFits : Type 0
@@ -54,6 +55,6 @@ abbrev pub Symmetric : List Float → Type 0
 Symmetric table = (i j : ℕ) → i < 64 → j < 64 → cell table i j ≡ cell table j i
 
 -- Where `from_params` answers, both tables are symmetric.
-pub record WrittenSymmetric (p : Params) (lent : Outcome) : Type 0 where
-  pub dg : fromParams p lent .number ≡ answered → Symmetric (fromParams p lent .dg)
-  pub ds : fromParams p lent .number ≡ answered → Symmetric (fromParams p lent .ds)
+pub record WrittenSymmetric (build : Build) (p : Params) (lent : Outcome) : Type 0 where
+  pub dg : fromParams build p lent .number ≡ answered → Symmetric (fromParams build p lent .dg)
+  pub ds : fromParams build p lent .number ≡ answered → Symmetric (fromParams build p lent .ds)

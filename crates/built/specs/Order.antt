@@ -6,6 +6,7 @@ use Rattle.reply.specs.Number.{numberOf}
 use Rattle.reply.specs.declared.Refusal.{Refusal}
 use Rattle.reply.specs.declared.Refusal.the-variants.{WrongSize}
 use Rattle.sdc1d_params.specs.Params.{Params, Outcome, leftAsLent, fromParams}
+use Rattle.sdc1d_params.specs.declared.Build.{Build}
 use Rattle.sdc1d_params.specs.declared.Entry.{Entry}
 
 -- the parameter set with these entries, in this order, and all else as it was
@@ -31,14 +32,14 @@ refusedWith refusal lent = leftAsLent lent (numberOf refusal)
 pub record OrderFree : Type 0 where
   -- Two neighbouring entries may change places: the number and all four lent slices stay the same.
   pub neighbours :
-      (p : Params) (lent : Outcome) (before after : List Entry) (x y : Entry)
-      → fromParams (withEntries p (before ++ x ∷ y ∷ after)) lent ≡ fromParams (withEntries p (before ++ y ∷ x ∷ after)) lent
+      (build : Build) (p : Params) (lent : Outcome) (before after : List Entry) (x y : Entry)
+      → fromParams build (withEntries p (before ++ x ∷ y ∷ after)) lent ≡ fromParams build (withEntries p (before ++ y ∷ x ∷ after)) lent
   -- So they stay the same in whatever order the entries stand; `List·Permᴰ` is mathlib's relation of two lists that hold the same in another order.
   pub any-order :
-      (p : Params) (lent : Outcome) (entries others : List Entry)
+      (build : Build) (p : Params) (lent : Outcome) (entries others : List Entry)
       → List·Permᴰ entries others
-      → fromParams (withEntries p entries) lent ≡ fromParams (withEntries p others) lent
+      → fromParams build (withEntries p entries) lent ≡ fromParams build (withEntries p others) lent
   -- This speaks of every parameter set: it is the one with its own entries.
   pub every : (p : Params) → withEntries p (p .entries .each) ≡ p
   -- Rows that are not whole, or have not two doubles each, are refused for their size, whatever they hold.
-  pub uneven : (p : Params) (lent : Outcome) → p .entries .ragged ≡ true → fromParams p lent ≡ refusedWith WrongSize lent
+  pub uneven : (build : Build) (p : Params) (lent : Outcome) → p .entries .ragged ≡ true → fromParams build p lent ≡ refusedWith WrongSize lent

@@ -15,6 +15,7 @@ use Rattle.sdc1d_params.specs.Entries.{cellOf, energyOf, unfitEntry, unfitEntri
 use Rattle.sdc1d_params.specs.Tables.{writeOf, duplicated, setBoth, emptyTable, dgTable}
 use Rattle.sdc1d_params.specs.Params.{writesOf, wrongSize, fromParams}
 use Rattle.design.specs.Design.{cell}
+use Rattle.sdc1d_params.specs.declared.Build.{Build}
 use Rattle.sdc1d_params.specs.declared.Entry.{Entry}
 use Rattle.built.specs.Order.{withEntries}
 use Rattle.built.specs.Bench.{oneStrand, lent}
@@ -42,11 +43,11 @@ unfolding withEntries writesOf writeOf tabulate gluesOf glueOf partOf basesOf fo
 name-last = refl
 
 -- each order is refused
-pub name-pair-refused : fromParams (withEntries (oneStrand 2) (forName ∷ forPair ∷ [])) lent .number ≡ 8
+pub name-pair-refused : (build : Build) → fromParams build (withEntries (oneStrand 2) (forName ∷ forPair ∷ [])) lent .number ≡ 8
 unfolding withEntries fromParams wrongSize unfitNames unfitGlue any tabulate gluesOf glueOf partOf isUnknown knownNames basesOf foldl learn firstIndex baseOf baseLength starsOf sameName baseNumber writesOf writeOf cellOf energyOf unfitEntry unfitEntries samePair duplicated
-name-pair-refused = refl
+name-pair-refused build = refl
 
 -- and so is the other order
-pub pair-name-refused : fromParams (withEntries (oneStrand 2) (forPair ∷ forName ∷ [])) lent .number ≡ 8
+pub pair-name-refused : (build : Build) → fromParams build (withEntries (oneStrand 2) (forPair ∷ forName ∷ [])) lent .number ≡ 8
 unfolding withEntries fromParams wrongSize unfitNames unfitGlue any tabulate gluesOf glueOf partOf isUnknown knownNames basesOf foldl learn firstIndex baseOf baseLength starsOf sameName baseNumber writesOf writeOf cellOf energyOf unfitEntry unfitEntries samePair duplicated
-pair-name-refused = refl
+pair-name-refused build = refl

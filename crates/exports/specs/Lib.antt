@@ -7,3 +7,4 @@ pub mod Stored
 pub mod Tables
 pub mod Sums
 pub mod Told
+pub mod Builds

@@ -7,6 +7,8 @@ pub mod Lengths
 pub mod Named
 pub mod Laid
 pub mod Found
+pub mod Stars
 pub mod Passed
 pub mod Written
 pub mod Replies
+pub mod Builds

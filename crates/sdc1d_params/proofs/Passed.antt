@@ -1,7 +1,7 @@
 -- The reply at each check, and what the checks leave to the writing. Assumes nothing.
 use mathlib.Core.Path.{_≡_, refl, ap, ap₂, sym, _∙_}
-use mathlib.Core.Bool.{true, false}
-use mathlib.Core.List.{List, map}
+use mathlib.Core.Bool.{true, false, _&&_}
+use mathlib.Core.List.{List, [], _∷_, map}
 use Prim.Native.Nat.{ℕ, _<_, _≤_}
 use native.Mathlib.Omega.{arith}
 use lib.Dec.{ltb}
@@ -12,12 +12,13 @@ use Rattle.lists.specs.Find.{any}
 use Rattle.lists.specs.Build.{tabulate}
 use Rattle.lists.proofs.Build.{length-tabulate, getD-tabulate}
 use Rattle.lists.proofs.Counted.{map-tabulate, tabulate-same}
-use Rattle.reply.specs.First.{firstOf}
+use Rattle.reply.specs.First.{Check, _if_, firstOf}
 use Rattle.reply.specs.declared.Refusal.{Refusal}
-use Rattle.reply.specs.declared.Refusal.the-variants.{WrongSize, NotABase, TooShort, UnknownName, TooManyGlues, DuplicatePair, OutOfRange}
+use Rattle.reply.specs.declared.Refusal.the-variants.{WrongSize, NotABase, TooShort, UnknownName, TooManyGlues, DuplicatePair, OutOfRange, TwoStars}
 use Rattle.reply.specs.declared.Place.{Place}
 use Rattle.reply.specs.declared.Place.the-variants.{Nowhere}
 use Rattle.reply.specs.declared.Reply.the-variants.{Admitted, Refused}
+use Rattle.reply.proofs.First.{both-pass, reply-append}
 use Rattle.sdc_common.specs.Names.{Name}
 use Rattle.sdc_common.specs.Lent.{namesOf, glueOf, gluesOf}
 use Rattle.sdc_common.specs.Numbers.{numbersAmong}
@@ -26,8 +27,9 @@ use Rattle.sdc_common.specs.Calls.{tooManyBases}
 use Rattle.sdc1d_params.specs.Entries.{Cell, cell, energyOf, entryAt, entryRows, hasBadBase, isShort}
 use Rattle.sdc1d_params.specs.Tables.{Write, writeOf, cellsOf, duplicated, outOfRange}
 use Rattle.sdc1d_params.specs.inner.Cells.{cellAmong, rowOf, columnOf, cellAt, writeAt, InTables}
-use Rattle.sdc1d_params.specs.Params.{Params, Outcome, paramsOf, energiesOf, strandNames, bases, firstName, cellOfEntry, writeOfEntry, writesOf, wrongSize, paramChecks}
+use Rattle.sdc1d_params.specs.Params.{Params, Outcome, paramsOf, energiesOf, strandNames, bases, firstName, cellOfEntry, writeOfEntry, writesOf, wrongSize, paramChecks, isOrdinary, anyRetired, buildChecks}
 use Rattle.sdc1d_params.specs.inner.Checked.{Checked}
+use Rattle.sdc1d_params.specs.declared.Build.{Build}
 use Rattle.sdc1d_params.specs.declared.Copies.{Copies}
 use Rattle.sdc1d_params.specs.declared.Penalty.{Penalty}
 use Rattle.sdc1d_params.proofs.Found.{number-small, numbers-length, numbers-spelled, cell-inside}
@@ -67,6 +69,24 @@ module _ (p : Params) (lent : Outcome) where
 
               pub reply-none : any outOfRange (writesOf p) ≡ false → Admitted ≡ firstOf (paramChecks p lent)
               reply-none e = rw (size, base, short, known, few, once, e)
+
+-- ---- either build
+
+module _ (build : Build) (p : Params) (lent : Outcome) where
+  abbrev stars : List Check
+  stars = TwoStars if (isOrdinary build && anyRetired p) ∷ []
+
+  pub build-refused : (why : Refusal) {place : Place} → Refused why place ≡ firstOf (paramChecks p lent) → Refused why place ≡ firstOf (buildChecks build p lent)
+  build-refused why e = sym (reply-append (paramChecks p lent) stars (sym e))
+
+  pub build-stars : Admitted ≡ firstOf (paramChecks p lent) → (isOrdinary build && anyRetired p) ≡ true → Refused TwoStars Nowhere ≡ firstOf (buildChecks build p lent)
+  build-stars e h = sym (reply-append (paramChecks p lent) stars (sym e) ∙ rw h)
+
+  pub build-none : Admitted ≡ firstOf (paramChecks p lent) → (isOrdinary build && anyRetired p) ≡ false → Admitted ≡ firstOf (buildChecks build p lent)
+  build-none e h = sym (reply-append (paramChecks p lent) stars (sym e) ∙ rw h)
+
+  pub build-passes : firstOf (buildChecks build p lent) ≡ Admitted → firstOf (paramChecks p lent) ≡ Admitted
+  build-passes e = both-pass (paramChecks p lent) stars e .0
 
 -- ---- what is written
 

@@ -30,10 +30,11 @@ use Rattle.sdc_common.proofs.Fit.{as-many}
 use Rattle.sdc1d_params.specs.Entries.{entryAt, entryRows, unfitEntry, unfitEntries, hasBadBase, isShort}
 use Rattle.sdc1d_params.specs.Tables.{Write, cellsOf, duplicated, outOfRange, writeDg, writeDs, emptyTable, dgTable, dsTable}
 use Rattle.sdc1d_params.specs.inner.Cells.{writeAt}
-use Rattle.sdc1d_params.specs.Params.{Params, Outcome, outcomeOf, energiesOf, strandNames, bases, writesOf, unfitCopied, unfitLent, unfitScaffold, wrongSize, paramChecks, withCopies, strandGluesOf, fromParams}
+use Rattle.sdc1d_params.specs.Params.{Params, Outcome, outcomeOf, energiesOf, strandNames, bases, writesOf, unfitCopied, unfitLent, unfitScaffold, wrongSize, paramChecks, buildChecks, withCopies, strandGluesOf, fromParams}
 use Rattle.sdc1d_params.specs.inner.Checked.{Checked}
+use Rattle.sdc1d_params.specs.declared.Build.{Build}
 use Rattle.sdc1d_params.proofs.Lengths.{Sized, sized}
-use Rattle.sdc1d_params.proofs.Passed.{never, reply-size, written}
+use Rattle.sdc1d_params.proofs.Passed.{never, reply-size, build-refused, build-passes, written}
 
 conditions-step :
     (a b c d e f g : Bool)
@@ -48,13 +49,13 @@ conditions-step false false false false false f g h = (refl, refl)
 
 module _ (p : Params) (lent : Outcome) where
   -- a refusal leaves what was lent
-  pub kept : (why : Refusal) {place : Place} → firstOf (paramChecks p lent) ≡ Refused why place → outcomeOf (numberOf why) (lent .strandGlues) (lent .scaffoldGlues) (lent .dg) (lent .ds) ≡ fromParams p lent
+  pub kept : (build : Build) (why : Refusal) {place : Place} → firstOf (buildChecks build p lent) ≡ Refused why place → outcomeOf (numberOf why) (lent .strandGlues) (lent .scaffoldGlues) (lent .dg) (lent .ds) ≡ fromParams build p lent
   unfolding fromParams
-  kept why e = ap (λ (r : Reply). answer r (λ n. outcomeOf n (lent .strandGlues) (lent .scaffoldGlues) (lent .dg) (lent .ds)) (outcomeOf answered (strandGluesOf p) (map (spelledNumber (bases p)) (gluesOf (p .text) (p .scaffold))) (dgTable (writesOf p)) (dsTable (writesOf p)))) (sym e)
+  kept build why e = ap (λ (r : Reply). answer r (λ n. outcomeOf n (lent .strandGlues) (lent .scaffoldGlues) (lent .dg) (lent .ds)) (outcomeOf answered (strandGluesOf p) (map (spelledNumber (bases p)) (gluesOf (p .text) (p .scaffold))) (dgTable (writesOf p)) (dsTable (writesOf p)))) (sym e)
 
-  given : firstOf (paramChecks p lent) ≡ Admitted → outcomeOf answered (strandGluesOf p) (map (spelledNumber (bases p)) (gluesOf (p .text) (p .scaffold))) (dgTable (writesOf p)) (dsTable (writesOf p)) ≡ fromParams p lent
+  given : (build : Build) → firstOf (buildChecks build p lent) ≡ Admitted → outcomeOf answered (strandGluesOf p) (map (spelledNumber (bases p)) (gluesOf (p .text) (p .scaffold))) (dgTable (writesOf p)) (dsTable (writesOf p)) ≡ fromParams build p lent
   unfolding fromParams
-  given e = ap (λ (r : Reply). answer r (λ n. outcomeOf n (lent .strandGlues) (lent .scaffoldGlues) (lent .dg) (lent .ds)) (outcomeOf answered (strandGluesOf p) (map (spelledNumber (bases p)) (gluesOf (p .text) (p .scaffold))) (dgTable (writesOf p)) (dsTable (writesOf p)))) (sym e)
+  given build e = ap (λ (r : Reply). answer r (λ n. outcomeOf n (lent .strandGlues) (lent .scaffoldGlues) (lent .dg) (lent .ds)) (outcomeOf answered (strandGluesOf p) (map (spelledNumber (bases p)) (gluesOf (p .text) (p .scaffold))) (dgTable (writesOf p)) (dsTable (writesOf p)))) (sym e)
 
   -- ---- what an admitted set keeps to
 
@@ -102,20 +103,20 @@ module _ (p : Params) (lent : Outcome) where
     strands-written glues e = e
 
     pub all-written :
-        (strands scaffold : List ℕ) (dg0 ds0 dg ds : List Float)
-        → firstOf (paramChecks p lent) ≡ Admitted
+        (build : Build) (strands scaffold : List ℕ) (dg0 ds0 dg ds : List Float)
+        → firstOf (buildChecks build p lent) ≡ Admitted
         → strands ≡ withCopies (numbersAmong (strandNames p) (strandNames p)) (p .quencher) (p .reporter)
         → scaffold ≡ numbers
         → dg0 ≡ replicate (length (lent .dg)) doubles.zero
         → ds0 ≡ replicate (length (lent .ds)) doubles.zero
         → dg ≡ foldl writeDg dg0 (tabulate (entryRows entries) (writeAt (p .text) entries energies (p .penaltyDg) (p .penaltyDs) rows columns))
         → ds ≡ foldl writeDs ds0 (tabulate (entryRows entries) (writeAt (p .text) entries energies (p .penaltyDg) (p .penaltyDs) rows columns))
-        → outcomeOf answered strands scaffold dg ds ≡ fromParams p lent
-    all-written strands scaffold dg0 ds0 dg ds e a b c d f g =
-        let l = fits-lengths (fits-sizes e) in
+        → outcomeOf answered strands scaffold dg ds ≡ fromParams build p lent
+    all-written build strands scaffold dg0 ds0 dg ds e a b c d f g =
+        let l = fits-lengths (fits-sizes (build-passes build p lent e)) in
         ap₂ (λ (x y : List ℕ). outcomeOf answered x y dg ds) (strands-written strands a) (b ∙ w .spelled)
         ∙ ap₂ (λ (x y : List Float). outcomeOf answered (strandGluesOf p) (map (spelledNumber (bases p)) (gluesOf (p .text) (p .scaffold))) x y) (dg-written dg0 dg (l .1) c f) (ds-written ds0 ds (l .2) d g)
-        ∙ given e
+        ∙ given build e
 
 pub cleared-length : {n : ℕ} (table : List Float) → n ≡ 4096 → table ≡ replicate n doubles.zero → length table ≡ 4096
 cleared-length {n} table l e = ap length e ∙ length-replicate n doubles.zero ∙ l
@@ -148,11 +149,11 @@ module _ (p : Params) (lent : Outcome) where
       let over : unfitScaffold p lent ≡ true = rw (lt-ltb 128 (length (lent .scaffoldGlues)) h) in
       positions-hold (unfitStrands (p .users) (p .text) (p .strands)) (unfitScaffold p lent) (unfitEntries (p .text) (p .entries)) (unfitCopied (p .users) (p .quencher)) (unfitCopied (p .users) (p .reporter)) (unfitLent p lent) over
 
-  pub entries-refused : 1024 < length (p .entries .each) → outcomeOf (numberOf WrongSize) (lent .strandGlues) (lent .scaffoldGlues) (lent .dg) (lent .ds) ≡ fromParams p lent
-  entries-refused h = kept p lent WrongSize (sym (reply-size p lent (many-entries h)))
+  pub entries-refused : (build : Build) → 1024 < length (p .entries .each) → outcomeOf (numberOf WrongSize) (lent .strandGlues) (lent .scaffoldGlues) (lent .dg) (lent .ds) ≡ fromParams build p lent
+  entries-refused build h = kept p lent build WrongSize (sym (build-refused build p lent WrongSize (reply-size p lent (many-entries h))))
 
-  pub positions-refused : 128 < length (lent .scaffoldGlues) → outcomeOf (numberOf WrongSize) (lent .strandGlues) (lent .scaffoldGlues) (lent .dg) (lent .ds) ≡ fromParams p lent
-  positions-refused h = kept p lent WrongSize (sym (reply-size p lent (many-positions h)))
+  pub positions-refused : (build : Build) → 128 < length (lent .scaffoldGlues) → outcomeOf (numberOf WrongSize) (lent .strandGlues) (lent .scaffoldGlues) (lent .dg) (lent .ds) ≡ fromParams build p lent
+  positions-refused build h = kept p lent build WrongSize (sym (build-refused build p lent WrongSize (reply-size p lent (many-positions h))))
 
 -- ---- the parts of local arrays that are lent
 

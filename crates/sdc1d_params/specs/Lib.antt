@@ -1,4 +1,5 @@
 pub mod Entries
 pub mod Tables
 pub mod Params
+pub mod Builds
 pub mod inner

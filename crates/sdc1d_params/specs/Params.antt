@@ -1,5 +1,5 @@
 -- `from_params`: what it refuses, and the glues and tables that it gives.
-use mathlib.Core.Bool.{Bool, false, not, _||_}
+use mathlib.Core.Bool.{Bool, true, false, not, _&&_, _||_}
 use mathlib.Core.List.{List, [], _∷_, _++_, map}
 use Prim.Native.Nat.{ℕ, _+_, _-_, _*_}
 use lib.Dec.{eqb, ltb}
@@ -8,14 +8,16 @@ use lib.ListN.{length, getD}
 use Rattle.lists.specs.Find.{any}
 use Rattle.reply.specs.Number.{answered}
 use Rattle.reply.specs.First.{Check, _if_, firstOf, answer}
-use Rattle.reply.specs.declared.Refusal.the-variants.{WrongSize, NotABase, TooShort, UnknownName, TooManyGlues, DuplicatePair, OutOfRange}
-use Rattle.sdc_common.specs.Names.{Name}
-use Rattle.sdc_common.specs.Lent.{Names, namesOf, Glue, partOf, glueOf, gluesOf, unfitNames}
+use Rattle.reply.specs.declared.Refusal.the-variants.{WrongSize, NotABase, TooShort, UnknownName, TooManyGlues, DuplicatePair, OutOfRange, TwoStars}
+use Rattle.sdc_common.specs.Names.{Name, isRetired}
+use Rattle.sdc_common.specs.Lent.{Names, namesOf, Glue, partOf, glueOf, gluesOf, unfitNames, isRetiredGlue}
 use Rattle.sdc_common.specs.Numbers.{basesOf, numbersAmong}
 use Rattle.sdc_common.specs.Spelled.{isUnknown, spelledNumber}
 use Rattle.sdc_common.specs.Calls.{tooManyStrands, tooManyBases}
 use Rattle.sdc1d_params.specs.Entries.{Cell, cellOf, energyOf, Entries, entriesOf, unfitEntries, hasBadBase, isShort}
 use Rattle.sdc1d_params.specs.Tables.{Write, writeOf, cellsOf, duplicated, outOfRange, dgTable, dsTable}
+use Rattle.sdc1d_params.specs.declared.Build.{Build}
+use Rattle.sdc1d_params.specs.declared.Build.the-variants.{Ordinary, Archive}
 use Rattle.sdc1d_params.specs.declared.Copied.{Copied}
 use Rattle.sdc1d_params.specs.declared.Copies.{Copies}
 use Rattle.sdc1d_params.specs.declared.Copied.the-variants.{Nothing, Strand}
@@ -140,6 +142,25 @@ paramChecks p lent =
     ∷ OutOfRange if any outOfRange (writesOf p)
     ∷ []
 
+-- ---- names that retire
+
+-- a name of an entry ends in two or more stars: the first, or the second where it is there, whether or not the names are known
+abbrev pub isRetiredEntry : List ℕ → Entry → Bool
+isRetiredEntry text e = isRetired (partOf text (e .«first_start») (e .«first_size»)) || isRetiredGlue (glueOf text (e .second))
+
+-- a strand's or an entry's name does. Scaffold names follow the old rule.
+unfoldable pub anyRetired : Params → Bool
+anyRetired p = any isRetiredGlue (strandNames p) || any (isRetiredEntry (p .text)) (p .entries .each)
+
+-- the archive's build takes old designs with such names
+abbrev pub isOrdinary : Build → Bool
+isOrdinary Ordinary = true
+isOrdinary Archive = false
+
+-- what is refused of a build of either kind: an ordinary one also names that retire
+abbrev pub buildChecks : Build → Params → Outcome → List Check
+buildChecks build p lent = paramChecks p lent ++ (TwoStars if (isOrdinary build && anyRetired p) ∷ [])
+
 -- ---- what is written
 
 -- a glue of user strand k: side 0 is west, 1 bottom, 2 east
@@ -180,5 +201,5 @@ abbrev pub leftAsLent : Outcome → ℕ → Outcome
 leftAsLent lent number = record { number = number; strandGlues = lent .strandGlues; scaffoldGlues = lent .scaffoldGlues; dg = lent .dg; ds = lent .ds }
 
 -- the call: the first check that fails refuses
-unfoldable pub fromParams : Params → Outcome → Outcome
-fromParams p lent = answer (firstOf (paramChecks p lent)) (leftAsLent lent) (builtFrom p)
+unfoldable pub fromParams : Build → Params → Outcome → Outcome
+fromParams build p lent = answer (firstOf (buildChecks build p lent)) (leftAsLent lent) (builtFrom p)

@@ -1,8 +1,9 @@
 // Glue tables from names and energies, as `from_params` of sdc1d.rs builds them.
-mod build;
+mod building;
 mod cells;
 mod checks;
 mod entries;
+mod retired;
 mod scaffold;
 mod sizes;
 mod strands;
@@ -11,7 +12,7 @@ mod tables;
 ghost use mathlib.Core.Path.{_≡_};
 ghost use Rattle.reply.specs.Number.{replyNumber};
 ghost use Rattle.sdc1d_params.specs.Params.{paramsOf, lentOf, outcomeOf, fromParams};
-use build::build;
+use building::build_all;
 use entries::MOST_ENTRIES;
 use entries::ROW;
 use reply::Place;
@@ -23,6 +24,12 @@ use units::KcalPerMolKelvin;
 
 // The most positions of a scaffold.
 const MOST_POSITIONS: usize = 128;
+
+// Which names are taken: an ordinary build refuses strand and entry names that end in two or more stars, the archive's takes old designs.
+pub enum Build {
+    Ordinary,
+    Archive,
+}
 
 // The junction penalty, which is added to both numbers of every entry.
 pub struct Penalty {
@@ -58,6 +65,7 @@ pub struct Entry {
 // its start and its length. An entry is a row of eight, start and length of its first name, mark, start and length of its second, its form,
 // and start and length of its sequence, and a row of two doubles, dG and dS.
 pub fn from_params(
+    build: Build,
     text: &[u8],
     users: usize,
     strands: &[usize],
@@ -71,7 +79,7 @@ pub fn from_params(
     dg: &mut [f64],
     ds: &mut [f64],
 ) -> Reply
-    ensures { λ r. ⌜ outcomeOf (replyNumber r) (now («strand_glues» .exit)) (now («scaffold_glues» .exit)) (now (dg .exit)) (now (ds .exit)) ≡ fromParams (paramsOf (now (text .entry)) users (now (strands .entry)) (now (scaffold .entry)) (now (entries .entry)) (now (energies .entry)) penalty copies) (lentOf (now («strand_glues» .entry)) (now («scaffold_glues» .entry)) (now (dg .entry)) (now (ds .entry))) ⌝ }
+    ensures { λ r. ⌜ outcomeOf (replyNumber r) (now («strand_glues» .exit)) (now («scaffold_glues» .exit)) (now (dg .exit)) (now (ds .exit)) ≡ fromParams build (paramsOf (now (text .entry)) users (now (strands .entry)) (now (scaffold .entry)) (now (entries .entry)) (now (energies .entry)) penalty copies) (lentOf (now («strand_glues» .entry)) (now («scaffold_glues» .entry)) (now (dg .entry)) (now (ds .entry))) ⌝ }
 {
     let count = entries.len() / ROW;
     if MOST_ENTRIES < count {
@@ -84,7 +92,8 @@ pub fn from_params(
     let mut numbers = [0usize; 128];
     let mut rows = [0usize; 1024];
     let mut columns = [0usize; 1024];
-    build(
+    build_all(
+        build,
         text,
         users,
         strands,

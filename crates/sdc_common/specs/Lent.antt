@@ -1,5 +1,5 @@
 -- Names as they are lent: parts of one text, each a row of three numbers.
-use mathlib.Core.Bool.{Bool, cond, not, _&&_, _||_}
+use mathlib.Core.Bool.{Bool, false, cond, not, _&&_, _||_}
 use mathlib.Core.List.{List, map}
 use mathlib.Core.Option.{Option, none, some}
 use Prim.Native.Nat.{ℕ, _+_, _*_, _/_, _%_}
@@ -7,7 +7,7 @@ use lib.Dec.{eqb, ltb}
 use lib.ListN.{length, getD, take, drop}
 use Rattle.lists.specs.Find.{any}
 use Rattle.lists.specs.Build.{tabulate}
-use Rattle.sdc_common.specs.Names.{Name}
+use Rattle.sdc_common.specs.Names.{Name, isRetired}
 use Rattle.sdc_common.specs.declared.names.LentName.{LentName}
 
 -- ---- one name
@@ -43,6 +43,11 @@ glueOf text name = cond (isAbsent (name .mark)) none (some (partOf text (name .s
 -- a mark that is neither value, or a present name that is too long or leaves the text. An absent name's start and length are not looked at.
 unfoldable pub unfitGlue : List ℕ → LentName → Bool
 unfitGlue text name = not (isAbsent (name .mark)) && (not (isPresent (name .mark)) || unfitName text (name .start) (name .size))
+
+-- a glue whose name retires
+unfoldable pub isRetiredGlue : Glue → Bool
+isRetiredGlue none = false
+isRetiredGlue (some name) = isRetired name
 
 -- ---- lists of names
 

@@ -2,7 +2,7 @@
 use mathlib.Core.Bool.{Bool, true, false, cond, _&&_}
 use mathlib.Core.List.{List, [], _∷_}
 use Prim.Native.Nat.{ℕ, suc, _-_, _%_}
-use lib.Dec.{eqb}
+use lib.Dec.{eqb, leb}
 use lib.ListN.{length, take}
 
 -- a name, as its bytes
@@ -25,6 +25,10 @@ baseOf name = take (baseLength name) name
 -- the trailing stars
 unfoldable pub starsOf : Name → ℕ
 starsOf name = length name - baseLength name
+
+-- document 02: "a strand or entry name that ends in two or more stars" retires
+abbrev pub isRetired : Name → Bool
+isRetired name = leb 2 (starsOf name)
 
 -- "an even number means the base, an odd number the base with one `*`"
 unfoldable pub isFrom : Name → Bool

@@ -1,5 +1,6 @@
 // Names of glues, as sdc_common.rs reads them, and their numbers.
 pub mod names;
+pub mod retired;
 pub mod table;
 
 ghost use mathlib.Core.Path.{_≡_};

@@ -6,6 +6,7 @@ use reply::Place;
 use reply::Refusal;
 use reply::Reply;
 use sdc_common::strand_glues;
+use sdc1d_params::Build;
 use sdc1d_params::Copies;
 use sdc1d_params::Penalty;
 use sdc1d_params::from_params;
@@ -32,9 +33,11 @@ pub(crate) const MOST_POSITIONS: usize = 128;
 // The most energy entries.
 pub(crate) const MOST_ENTRIES: usize = 1024;
 
-// The first so many strands, positions and entries of the rows, as `from_params` builds them into the lent slices. Names and entries are
+// The first so many strands, positions and entries of the rows, as `from_params` builds them into the lent slices, in an ordinary build or
+// the archive's. Names and entries are
 // gathered in two steps, each with slices of its own.
 pub(crate) fn build(
+    which: Build,
     text: &[u8],
     kinds: &[u8],
     words: &[usize],
@@ -47,14 +50,24 @@ pub(crate) fn build(
     dg: &mut [f64],
     ds: &mut [f64],
 ) -> Reply {
-    if MOST_USERS < users || MOST_POSITIONS < positions || MOST_ENTRIES < entries {
+    if MOST_USERS < users {
         return Reply::Refused(Refusal::WrongSize, Place::Nowhere);
     }
+    let strand_numbers = 9 * users;
+    if MOST_POSITIONS < positions {
+        return Reply::Refused(Refusal::WrongSize, Place::Nowhere);
+    }
+    let scaffold_numbers = 3 * positions;
     let mut room = [0usize; 61];
     rows_of(kinds, STRAND, reads::places(&mut room, users));
     let rows = first_places(&room, users);
     let mut strands = [0usize; 549];
-    parts::strands(kinds, words, rows, reads::places(&mut strands, 9 * users));
+    parts::strands(
+        kinds,
+        words,
+        rows,
+        reads::places(&mut strands, strand_numbers),
+    );
     let mut sites = [0usize; 128];
     rows_of(kinds, POSITION, reads::places(&mut sites, positions));
     let mut scaffold = [0usize; 384];
@@ -62,19 +75,20 @@ pub(crate) fn build(
         kinds,
         words,
         first_places(&sites, positions),
-        reads::places(&mut scaffold, 3 * positions),
+        reads::places(&mut scaffold, scaffold_numbers),
     );
     let quencher = copied(text, kinds, words, rows, QUENCHER);
     let reporter = copied(text, kinds, words, rows, REPORTER);
     with_entries(
+        which,
         text,
         kinds,
         words,
         numbers,
         entries,
         users,
-        first_places(&strands, 9 * users),
-        first_places(&scaffold, 3 * positions),
+        first_places(&strands, strand_numbers),
+        first_places(&scaffold, scaffold_numbers),
         Copies { quencher, reporter },
         strand_glues,
         scaffold_glues,
@@ -85,6 +99,7 @@ pub(crate) fn build(
 
 // The second step: the entries, and the call.
 fn with_entries(
+    which: Build,
     text: &[u8],
     kinds: &[u8],
     words: &[usize],
@@ -111,6 +126,7 @@ fn with_entries(
     parts::energies(numbers, rows, reads::numbers(&mut energies, 2 * entries));
     let penalty = junction_penalty(kinds, numbers);
     from_params(
+        which,
         text,
         users,
         strands,
@@ -129,7 +145,7 @@ fn with_entries(
     )
 }
 
-// The reply alone.
+// The reply alone, in the archive's build: of the refusals whose place is looked for so, none is that of a name with two stars.
 pub(crate) fn reply_to(
     text: &[u8],
     kinds: &[u8],
@@ -148,6 +164,7 @@ pub(crate) fn reply_to(
     let mut dg = [0.0; 4096];
     let mut ds = [0.0; 4096];
     build(
+        Build::Archive,
         text,
         kinds,
         words,

@@ -1,6 +1,6 @@
 // Reads design files and prints, of each, the configuration in which its strands settle, or why there is none.
 //
-// The first argument is --people or --json, the rest are names of files. A program has no exit status: whether all files were answered goes
+// The first argument is --people or --json, the second --ordinary or --archive, the rest are names of files. A program has no exit status: whether all files were answered goes
 // to descriptor 3, as 0 or 1, where the script `settle` reads it.
 mod build;
 mod file;
@@ -19,6 +19,7 @@ use answers::reasons::Why;
 use answers::unreadable;
 use file::FileRead;
 use reads::first_bytes;
+use sdc1d_params::Build;
 
 // Where the script waits for the status.
 const STATUS: i32 = 3;
@@ -42,28 +43,28 @@ fn failed(style: Style, path: &[u8], why: Why) -> bool {
 }
 
 // A file by its name. Answers whether its configuration was settled.
-fn settle_file(style: Style, path: &[u8], text: &mut [u8]) -> bool {
+fn settle_file(style: Style, which: Build, path: &[u8], text: &mut [u8]) -> bool {
     match file::read(path, text) {
         FileRead::Failed(why) => failed(style, path, why),
-        FileRead::Bytes(size) => settle::settle(style, path, first_bytes(text, size)),
+        FileRead::Bytes(size) => settle::settle(style, which, path, first_bytes(text, size)),
     }
 }
 
 // The file that an argument names.
-fn settle_argument(style: Style, i: usize, text: &mut [u8]) -> bool {
+fn settle_argument(style: Style, which: Build, i: usize, text: &mut [u8]) -> bool {
     let mut path = io::buffer();
     let size = os::arg(i, &mut path);
     if os::errno() != 0 {
         return failed(style, first_bytes(&path, size), Why::NoSuchFile);
     }
-    settle_file(style, first_bytes(&path, size), text)
+    settle_file(style, which, first_bytes(&path, size), text)
 }
 
 // All files in turn. Answers whether each was settled.
-fn settle_all(style: Style, text: &mut [u8]) -> bool {
+fn settle_all(style: Style, which: Build, text: &mut [u8]) -> bool {
     let mut all = true;
-    for i in 2..os::arg_count() {
-        if !settle_argument(style, i, text) {
+    for i in 3..os::arg_count() {
+        if !settle_argument(style, which, i, text) {
             all = false;
         }
     }
@@ -80,10 +81,20 @@ fn style() -> Style {
     Style::People
 }
 
+// The second argument, which the script gives too.
+fn which() -> Build {
+    let mut word = io::buffer();
+    let size = os::arg(2, &mut word);
+    if check::same(first_bytes(&word, size), b"--archive") {
+        return Build::Archive;
+    }
+    Build::Ordinary
+}
+
 // Settles the files, and writes 0 to the script if each was settled, 1 if not.
 fn main() {
     let mut text = room();
-    if settle_all(style(), &mut text) {
+    if settle_all(style(), which(), &mut text) {
         io::write_all(STATUS, b"0");
     } else {
         io::write_all(STATUS, b"1");

@@ -135,14 +135,21 @@ fn member_row(kinds: &[u8], group: u8, member: usize) -> usize {
 // The words of a row that are names of glues, from one up to before another.
 struct Slots(usize, usize);
 
-// Which words of a row of this kind are names of glues.
-fn glue_slots(kind: u8) -> Slots {
+// Which words of a strand's or an entry's row are names of glues.
+fn own_slots(kind: u8) -> Slots {
     match kind {
         STRAND => Slots(1, 4),
-        POSITION | BLOCKED => Slots(0, 1),
         ENERGY_GIVEN | ENERGY_SEQUENCE => Slots(0, 1),
         PAIR_GIVEN | PAIR_SEQUENCE => Slots(0, 2),
         _ => Slots(0, 0),
+    }
+}
+
+// Which words of any row are.
+fn glue_slots(kind: u8) -> Slots {
+    match kind {
+        POSITION | BLOCKED => Slots(0, 1),
+        _ => own_slots(kind),
     }
 }
 
@@ -214,6 +221,39 @@ fn in_size(
         let here = size_of_row(text, kinds, lines, words, strand_rows, row);
         if 0 < here.spot.line {
             return here;
+        }
+    }
+    nowhere(Why::Refused)
+}
+
+// ---- stars
+
+// Whether a name ends in two or more stars.
+fn is_retired(text: &[u8], name: Word) -> bool {
+    match self_and_inverse(text, name.start, name.size) {
+        NameAnswer::Given(_, base, _) => base < name.size && 1 < name.size - base,
+        NameAnswer::Refused(_) => false,
+    }
+}
+
+// The first name of a strand or an entry that does, or a word of no bytes. Names of the scaffold follow the old rule.
+fn retired_name(text: &[u8], kinds: &[u8], words: &[usize], row: usize) -> Word {
+    let slots = own_slots(byte_at(kinds, row));
+    for j in slots.0..slots.1 {
+        let name = word_of(words, row, j);
+        if is_retired(text, name) {
+            return name;
+        }
+    }
+    Word { start: 0, size: 0 }
+}
+
+// The first row that has such a name.
+fn in_stars(text: &[u8], kinds: &[u8], lines: &[usize], words: &[usize]) -> Found {
+    for row in 0..kinds.len() {
+        let name = retired_name(text, kinds, words, row);
+        if 0 < name.size {
+            return at_row(lines, row, name, Why::TwoStars);
         }
     }
     nowhere(Why::Refused)
@@ -319,6 +359,7 @@ pub(crate) fn of_build(
             let count = entries_for(n, text, kinds, words, numbers, users, positions, entries);
             last_of(kinds, lines, words, ENERGY_GIVEN, count, Why::EnergyRange)
         }
+        Refusal::TwoStars => in_stars(text, kinds, lines, words),
         _ => nowhere(Why::Refused),
     }
 }

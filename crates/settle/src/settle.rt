@@ -21,6 +21,7 @@ use mfe::mfe_configuration;
 use reply::Refusal;
 use reply::Reply;
 use sdc1d::number_of_states;
+use sdc1d_params::Build;
 use sheet::faults::SheetAnswer;
 use sheet::once;
 use sheet::parts;
@@ -76,7 +77,7 @@ fn complain(style: Style, path: &[u8], text: &[u8], found: Found) -> bool {
 }
 
 // The text of a file. Answers whether its configuration was settled and printed.
-pub(crate) fn settle(style: Style, path: &[u8], text: &[u8]) -> bool {
+pub(crate) fn settle(style: Style, which: Build, path: &[u8], text: &[u8]) -> bool {
     let mut kinds = [0u8; 2048];
     let mut lines = [0usize; 2048];
     let mut words = [0usize; 16384];
@@ -94,6 +95,7 @@ pub(crate) fn settle(style: Style, path: &[u8], text: &[u8]) -> bool {
             }
             settle_rows(
                 style,
+                which,
                 path,
                 text,
                 first_bytes(&kinds, n),
@@ -129,6 +131,7 @@ pub(crate) fn settle(style: Style, path: &[u8], text: &[u8]) -> bool {
 // A file whose every line can be read.
 fn settle_rows(
     style: Style,
+    which: Build,
     path: &[u8],
     text: &[u8],
     kinds: &[u8],
@@ -139,6 +142,7 @@ fn settle_rows(
     match sheet::faults::check(text, kinds, lines, words) {
         SheetAnswer::Whole(users, positions, entries) => settle_sheet(
             style,
+            which,
             path,
             text,
             kinds,
@@ -179,6 +183,7 @@ fn settle_rows(
 // Builds the design.
 fn settle_sheet(
     style: Style,
+    which: Build,
     path: &[u8],
     text: &[u8],
     kinds: &[u8],
@@ -207,6 +212,7 @@ fn settle_sheet(
     let mut dg = [0.0; 4096];
     let mut ds = [0.0; 4096];
     match build(
+        which,
         text,
         kinds,
         words,

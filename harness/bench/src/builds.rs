@@ -154,6 +154,7 @@ impl Slices {
 
 fn lent_to_port(lent: &Lent) -> mj::Params<'_> {
     mj::Params {
+        build: lent.build,
         text: &lent.text,
         users: lent.users,
         strands: &lent.strands,

@@ -3,6 +3,7 @@
 mod c {
     extern "C" {
         pub fn mj_params(
+            build: u32,
             text: *const u8,
             text_count: usize,
             users: usize,
@@ -33,6 +34,8 @@ mod c {
 /// A parameter set as the call takes it: slices of any length and content.
 #[derive(Debug, Clone, Copy)]
 pub struct Params<'a> {
+    /// 0 for an ordinary build, 1 for the archive's.
+    pub build: u32,
     /// Names and sequences are parts of it.
     pub text: &'a [u8],
     pub users: usize,
@@ -67,6 +70,7 @@ pub fn params(set: Params, into: Built) -> u32 {
     // the call alone, all else is only read, and none is kept.
     unsafe {
         c::mj_params(
+            set.build,
             set.text.as_ptr(),
             set.text.len(),
             set.users,

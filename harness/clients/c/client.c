@@ -515,13 +515,13 @@ static void sums(void)
 
 /* Position 0 has the scaffold name at `site`; the entry for b is the sequence AC, and the quencher
  * copies strand 1. */
-static uint32_t built(size_t site, size_t length, uint8_t *glues, uint8_t *scaffold, double *dg,
+static uint32_t built(uint32_t build, size_t site, size_t length, uint8_t *glues, uint8_t *scaffold, double *dg,
                       double *ds)
 {
     static const size_t entry[] = { 1, 1, 0, SIZE_MAX, SIZE_MAX, 1, 6, 2 };
     static const double unlooked[] = { NAN, NAN };
     const size_t name[] = { 1, site, length };
-    return mj_params((const uint8_t *)text, 8, 1, strand, 9, name, 3, entry, 8, unlooked, 2, 0.5, 0.0,
+    return mj_params(build, (const uint8_t *)text, 8, 1, strand, 9, name, 3, entry, 8, unlooked, 2, 0.5, 0.0,
                      1, 0, glues, 12, scaffold, 1, dg, 4096, ds, 4096);
 }
 
@@ -531,9 +531,11 @@ static void params(void)
     static double dg[4096], ds[4096];
     uint8_t glues[12], scaffold[1];
     memset(glues, 9, sizeof glues);
-    reply("c** is not known", built(3, 3, glues, scaffold, dg, ds), 6);
+    reply("c** is not known", built(1, 3, 3, glues, scaffold, dg, ds), 6);
+    reply("c** retires", built(0, 1, 1, glues, scaffold, dg, ds), 21);
+    reply("no build", built(2, 1, 1, glues, scaffold, dg, ds), 1);
     count("glues kept", glues[0] == 9 && glues[11] == 9);
-    reply("b is", built(1, 1, glues, scaffold, dg, ds), 0);
+    reply("b is", built(1, 1, 1, glues, scaffold, dg, ds), 0);
     count("strand glues", memcmp(glues, expected, sizeof glues) == 0);
     count("scaffold glue", scaffold[0] == 3);
     figure("its cell", dg[3 * 64 + 4], (-1.44 + 1.96) + 0.5);

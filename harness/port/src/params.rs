@@ -1,26 +1,28 @@
-//! The line `params TEXT USERS STRANDS SCAFFOLD ENTRIES ENERGIES PENALTIES COPIED LENT`: a parameter
-//! set as slices of any length and content, and how long the slices are that are lent to be written. `ok sg=… sc=… dg=… ds=…` gives them as the oracle's `p.build` does.
+//! The line `params BUILD TEXT USERS STRANDS SCAFFOLD ENTRIES ENERGIES PENALTIES COPIED LENT`: a
+//! parameter set as slices of any length and content, and how long the slices are that are lent to be
+//! written. `ok sg=… sc=… dg=… ds=…` gives them as the oracle's `p.build` does.
 
 use crate::slices::{list, Filled};
 use mujplesten as mj;
 use protocol::{bits, bytes, double, expect_words, joined, whole, Complaint, Reply, Words};
 
 pub fn answer(words: Words) -> Result<Reply, Complaint> {
-    expect_words(words, &[9])?;
-    let text = bytes(words[1])?.ok_or("absent is not allowed here")?;
-    let penalties: Vec<f64> = list(words[7], double)?;
-    let copied: Vec<usize> = list(words[8], whole)?;
-    let lent: Vec<usize> = list(words[9], whole)?;
+    expect_words(words, &[10])?;
+    let text = bytes(words[2])?.ok_or("absent is not allowed here")?;
+    let penalties: Vec<f64> = list(words[8], double)?;
+    let copied: Vec<usize> = list(words[9], whole)?;
+    let lent: Vec<usize> = list(words[10], whole)?;
     let ([penalty_dg, penalty_ds], [quencher, reporter]) = (&penalties[..], &copied[..]) else {
         return Err("two penalties and two strands are wanted".to_string());
     };
     let set = mj::Params {
+        build: whole(words[1])?,
         text: &text,
-        users: whole(words[2])?,
-        strands: &list(words[3], whole)?,
-        scaffold: &list(words[4], whole)?,
-        entries: &list(words[5], whole)?,
-        energies: &list(words[6], double)?,
+        users: whole(words[3])?,
+        strands: &list(words[4], whole)?,
+        scaffold: &list(words[5], whole)?,
+        entries: &list(words[6], whole)?,
+        energies: &list(words[7], double)?,
         penalty_dg: *penalty_dg,
         penalty_ds: *penalty_ds,
         quencher: *quencher,

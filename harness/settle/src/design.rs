@@ -55,6 +55,17 @@ pub fn pair(names: &[Name]) -> [(Name, bool); 2] {
 }
 
 impl Design {
+    /// A strand's or an entry's name that ends in two or more stars.
+    pub fn first_retired(&self) -> Option<&[u8]> {
+        let of_strands = self
+            .strands
+            .iter()
+            .flat_map(|strand| strand.sides.iter().flatten());
+        let of_entries = self.entries.iter().flat_map(|entry| &entry.names);
+        let mut names = of_strands.chain(of_entries).map(Vec::as_slice);
+        names.find(|name| name.ends_with(b"**"))
+    }
+
     /// Some 4 to 40 positions and strands; one in twenty of up to 128 and 61.
     pub fn random(random: &mut Random) -> Self {
         let large = random.once_in(20);

@@ -1,6 +1,6 @@
 //! `files SETTLE FOLDER [ORACLE] [--seed S] [--designs N] [--damaged N]`
 //!
-//! Writes design files to a folder and runs `./settle --json` on them. Without an oracle the designs are left out. The exit
+//! Writes design files to a folder and runs `./settle --json` on them, with `--archive`, and on the designs without it too. Without an oracle the designs are left out. The exit
 //! status is 0 only if nothing differs.
 
 mod damage;
@@ -75,6 +75,7 @@ fn arguments() -> Result<Arguments, String> {
         settle: Settle {
             command: absolute(command)?,
             folder: absolute(&fresh_folder(folder)?)?,
+            archive: true,
         },
         oracle: oracle.first().cloned(),
         seed,
@@ -215,9 +216,30 @@ fn settled_as_the_oracle(
         for (answer, (design, text, lowest)) in arguments.settle.ask(&texts)?.iter().zip(&files) {
             tally.count(answer, unlike(answer, design, lowest), text);
         }
+        let ordinary = Settle {
+            archive: false,
+            ..arguments.settle.clone()
+        };
+        for (answer, (design, text, lowest)) in ordinary.ask(&texts)?.iter().zip(&files) {
+            let complaint = match design.first_retired() {
+                Some(name) => not_retired(answer, name),
+                None => unlike(answer, design, lowest),
+            };
+            tally.count(answer, complaint, text);
+        }
         left -= files.len();
     }
     Ok(())
+}
+
+/// What an answer has other than 21 at a name that ends in two or more stars.
+fn not_retired(answer: &Answer, name: &[u8]) -> Option<String> {
+    let shown = answer
+        .word
+        .as_deref()
+        .is_some_and(|word| word.ends_with(b"**"));
+    let told = answer.reply == Some(21) && answer.line.is_some() && shown;
+    (!told).then(|| format!("{} retires", String::from_utf8_lossy(name)))
 }
 
 /// The oracle's answer.

@@ -28,9 +28,12 @@ pub struct Settled {
     pub deck: Vec<u32>,
 }
 
+#[derive(Clone)]
 pub struct Settle {
     pub command: PathBuf,
     pub folder: PathBuf,
+    /// Whether glues may end in two or more stars.
+    pub archive: bool,
 }
 
 impl Settle {
@@ -46,6 +49,7 @@ impl Settle {
     pub fn ask_of(&self, names: &[String]) -> Result<Vec<Answer>, String> {
         let output = Command::new(&self.command)
             .arg("--json")
+            .args(self.archive.then_some("--archive"))
             .arg("--")
             .args(names)
             .current_dir(&self.folder)

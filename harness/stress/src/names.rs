@@ -102,6 +102,7 @@ fn params(random: &mut Random, set: &Lent, tally: &mut Tally) {
         [&set.strands, &set.scaffold, &set.entries].map(|rows| part(random, rows));
     let energies = part(random, &set.energies);
     let lent = mj::Params {
+        build: random.pick(&[0, 1, 1, 2, u32::MAX]),
         text: &text,
         users: near_mostly(random, set.users),
         strands: &strands,

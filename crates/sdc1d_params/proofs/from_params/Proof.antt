@@ -17,17 +17,17 @@ returns c =
     let p : Params = paramsOf (now (a .text)) (a .users) (now (a .strands)) (now (a .scaffold)) (now (a .entries)) (now (a .energies)) (a .penalty) (a .copies) in
     let lent : Outcome = lentOf (now (a .strand-glues)) (now (a .scaffold-glues)) (now (a .dg)) (now (a .ds)) in
     let over : 1024 < length (p .entries .each) = rw (length-tabulate (entryRows (now (a .entries))) (entryAt (now (a .entries)) (now (a .energies)))) (c .if1 .taken) in
-    entries-refused p lent over
+    entries-refused p lent (a .build) over
 
 returns-2 : tie.Need-returns-2
 returns-2 c =
     let a = c .before .before .before .before .before .before .before .before .before .before .before .args in
     let p : Params = paramsOf (now (a .text)) (a .users) (now (a .strands)) (now (a .scaffold)) (now (a .entries)) (now (a .energies)) (a .penalty) (a .copies) in
     let lent : Outcome = lentOf (now (a .strand-glues)) (now (a .scaffold-glues)) (now (a .dg)) (now (a .ds)) in
-    positions-refused p lent (c .if2 .taken)
+    positions-refused p lent (a .build) (c .if2 .taken)
 
-build-requires : tie.Need-build-requires
-build-requires c κs =
+build-all-requires : tie.Need-build-all-requires
+build-all-requires c κs =
     let a = c .before .before .before .before .before .before .before .before .before .before .before .before .before .before .before .before .before .before .args in
     let entries = entryRows (now (a .entries)) in
     let positions = length (now (a .scaffold-glues)) in
@@ -48,7 +48,7 @@ from-params-spec =
     (λ c. search needs)
     (λ c. search needs)
     (λ c. search needs)
-    build-requires
+    build-all-requires
     (λ c. search needs)
     (λ c. search needs)
     (λ c. search needs)

@@ -7,10 +7,10 @@ use Rattle.settle.proofs.settle_all.Statement.{statement}
 use Rattle.settle.proofs.settle_all.Tie as tie
 
 abbrev Inv-loop : tie.InvT-loop
-Inv-loop style text₀ all₀ i₀ i-end text all i = length text ≡ length text₀
+Inv-loop style which text₀ all₀ i₀ i-end text all i = length text ≡ length text₀
 
 abbrev μ-loop : tie.MeasureT-loop
-μ-loop style text₀ all₀ i₀ i-end text all i = i-end - i
+μ-loop style which text₀ all₀ i₀ i-end text all i = i-end - i
 
 arg-count-requires : tie.Need-arg-count-requires Inv-loop μ-loop
 arg-count-requires c κs = search needs

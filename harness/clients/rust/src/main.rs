@@ -350,10 +350,12 @@ fn names(checks: &mut Checks) {
 
 /// The entry for b is the sequence AC; the quencher copies strand 1. The scaffold name is c**, then b.
 fn params(checks: &mut Checks) {
-    for (start, length, number) in [(3, 3, 6), (1, 1, 0)] {
+    for (build, start, length, number) in [(1, 3, 3, 6), (0, 1, 1, 21), (2, 1, 1, 1), (1, 1, 1, 0)]
+    {
         let (mut strand_glues, mut scaffold_glues) = ([9; 12], [9; 1]);
         let (mut dg, mut ds) = (vec![-7.0; 4096], vec![-7.0; 4096]);
         let set = mj::Params {
+            build,
             text: TEXT,
             users: 1,
             strands: STRAND,

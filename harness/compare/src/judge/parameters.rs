@@ -1,4 +1,4 @@
-//! Document 01, "Names and glue tables", read once more: refusals and answers of a name's base, of
+//! Document 01, "Names and glue tables", and document 02, A.13, read once more: refusals and answers of a name's base, of
 //! the numbers of all strand glues and of `from_params`, from the documents alone.
 
 use super::sequences::{self, energies};
@@ -12,9 +12,14 @@ const MOST_BASES: usize = 31;
 const GLUES: usize = 64;
 pub const CELLS: usize = GLUES * GLUES;
 
+/// The numbers of the two builds of document 02, A.13.
+pub const ORDINARY: u32 = 0;
+pub const ARCHIVE: u32 = 1;
+
 /// What `from_params` is lent: slices of any length and content.
 #[derive(Debug, Clone, Default)]
 pub struct Lent {
+    pub build: u32,
     pub text: Vec<u8>,
     pub users: usize,
     /// West, bottom, east of each user strand. A name is a row of three numbers: a mark, 1 if it is
@@ -167,7 +172,17 @@ impl Lent {
             (7, bases.len() > MOST_BASES),
             (8, (0..pairs.len()).any(twice)),
             (9, sums_out_of_range),
+            (21, self.build == ORDINARY && self.has_retired_names()),
         ])
+    }
+
+    /// "A strand or entry name that ends in two or more stars", known or not.
+    fn has_retired_names(&self) -> bool {
+        let of_entries = self.entries().flat_map(|entry| [entry.first, entry.second]);
+        names(&self.strands)
+            .chain(of_entries)
+            .filter_map(|name| name.spelled(&self.text))
+            .any(|name| name.ends_with(b"**"))
     }
 
     /// The first name of an entry is always there.
@@ -200,7 +215,8 @@ impl Lent {
             return true;
         }
         let copied = [self.quencher, self.reporter];
-        self.entries.len() != 8 * entries
+        ![ORDINARY, ARCHIVE].contains(&self.build)
+            || self.entries.len() != 8 * entries
             || self.energies.len() != 2 * entries
             || self.written != [3 * (self.users + 3), positions, CELLS, CELLS]
             || copied.iter().any(|strand| *strand > self.users)

@@ -13,6 +13,8 @@ pub struct Shape {
     pub bases: usize,
     pub positions: usize,
     pub entries: usize,
+    /// Behind the names of strands and entries: with more than one, mostly, a name retires.
+    pub most_stars: usize,
 }
 
 impl Shape {
@@ -22,6 +24,7 @@ impl Shape {
             bases: random.within(1..=6),
             positions: random.within(0..=4),
             entries: random.within(0..=5),
+            most_stars: random.pick(&[1, 5]),
         }
     }
 
@@ -31,6 +34,7 @@ impl Shape {
             bases: random.within(4..=36),
             positions: random.within(4..=40),
             entries: random.within(4..=60),
+            most_stars: random.pick(&[1, 5]),
         }
     }
 
@@ -40,6 +44,7 @@ impl Shape {
             bases: random.pick(&[20, 31, 31, 32, 183]),
             positions: random.within(120..=128),
             entries: random.pick(&[200, 400, 1023, 1024]),
+            most_stars: random.pick(&[1, 5]),
         }
     }
 }
@@ -54,7 +59,7 @@ pub fn parameters(random: &mut Random, shape: &Shape, utf8: bool) -> Parameters 
     for _ in 0..shape.users {
         let side = |random: &mut Random| match random.once_in(6) {
             true => None,
-            false => Some(with_stars(random, &bases, 5)),
+            false => Some(with_stars(random, &bases, shape.most_stars)),
         };
         set.strands.push([side(random), side(random), side(random)]);
     }
@@ -70,7 +75,7 @@ pub fn parameters(random: &mut Random, shape: &Shape, utf8: bool) -> Parameters 
             });
     }
     for _ in 0..shape.entries {
-        let key = key(random, &bases);
+        let key = key(random, &bases, shape.most_stars);
         if !set.names_again(&key) {
             set.entries.push((key, energy(random)));
         }
@@ -116,10 +121,10 @@ fn with_stars(random: &mut Random, bases: &[Name], most: usize) -> Name {
     name
 }
 
-fn key(random: &mut Random, bases: &[Name]) -> Key {
+fn key(random: &mut Random, bases: &[Name], most_stars: usize) -> Key {
     let name = |random: &mut Random| match random.once_in(8) {
         true => b"unused".to_vec(),
-        false => with_stars(random, bases, 5),
+        false => with_stars(random, bases, most_stars),
     };
     match random.once_in(2) {
         true => Key::One(name(random)),

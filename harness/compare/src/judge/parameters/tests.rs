@@ -23,7 +23,18 @@ fn set(glues: [&str; 3], entries: &[Key]) -> Parameters {
 }
 
 fn lent(set: &Parameters) -> Lent {
-    set.laid_out(&mut Random::new(1))
+    Lent {
+        build: ARCHIVE,
+        ..set.laid_out(&mut Random::new(1))
+    }
+}
+
+fn number(set: &Parameters, build: u32) -> u32 {
+    let lent = Lent {
+        build,
+        ..set.laid_out(&mut Random::new(1))
+    };
+    lent.verdict().number()
 }
 
 #[test]
@@ -136,4 +147,45 @@ fn glues_and_cells_are_written() {
     );
     let set_cells = built.dg.iter().filter(|x| x.to_bits() != 0).count();
     assert_eq!(set_cells, 5);
+}
+
+#[test]
+fn names_with_two_stars_retire() {
+    for (name, retires) in [
+        ("a", false),
+        ("a*", false),
+        ("a**", true),
+        ("a*****", true),
+        ("*", false),
+        ("**", true),
+        ("**a", false),
+        ("a**b", false),
+    ] {
+        let expected = if retires { 21 } else { 0 };
+        let strand = set(["a", "b", name], &[]);
+        let first = set(["a", "b", "c"], &[Key::One(name.into())]);
+        let second = set(["a", "b", "c"], &[pair("unknown", name)]);
+        for set in [strand, first, second] {
+            assert_eq!(number(&set, ORDINARY), expected, "{name}");
+            assert_eq!(number(&set, ARCHIVE), 0, "{name}");
+            assert_eq!(number(&set, 2), 1);
+        }
+    }
+}
+
+#[test]
+fn a_lower_number_comes_before_21() {
+    let mut scaffold = set(["a**", "b", "c"], &[]);
+    scaffold.scaffold = vec![named("a**")];
+    let twice = set(
+        ["a", "b", "c"],
+        &[Key::One("a".into()), pair("a***", "a**")],
+    );
+    let mut sum = set(["a", "b", "c"], &[Key::One("a**".into())]);
+    sum.penalty.0 = 2000.0;
+    for (set, expected) in [(scaffold, 6), (twice, 8), (sum, 9)] {
+        for build in [ORDINARY, ARCHIVE] {
+            assert_eq!(number(&set, build), expected);
+        }
+    }
 }

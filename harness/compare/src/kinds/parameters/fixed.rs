@@ -1,7 +1,7 @@
 //! Sets that are just in or just out, one change at a time.
 
 use super::damage::{numbers, resized, starts, width, NUMBERS};
-use super::{ask_both, ask_port};
+use super::{ask_alone, ask_both, ask_port};
 use crate::kinds::Ask;
 use crate::parameters::{parameters, Energy, Key, Name, Parameters, Shape};
 use crate::random::Random;
@@ -49,6 +49,7 @@ pub fn every_count(random: &mut Random, ask: &mut Ask) {
             bases: 12,
             positions: 3,
             entries: 8,
+            most_stars: 1 + 4 * (users % 2),
         };
         let set = parameters(random, &shape, true);
         ask_both(random, &set, ask);
@@ -83,6 +84,65 @@ pub fn every_count(random: &mut Random, ask: &mut Ask) {
             let mut set = base();
             set.entries[entry].1 = Energy::Sequence(vec![b'G'; length]);
             ask_both(random, &set, ask);
+        }
+    }
+}
+
+/// Stars behind names of every place, and lower faults beside them.
+pub fn every_star(random: &mut Random, ask: &mut Ask) {
+    for base in ["", "a", "**a", "a**b", "unused"] {
+        for stars in 0..=5 {
+            let name = format!("{base}{}", "*".repeat(stars));
+            for place in 0..6 {
+                let mut set = plain();
+                starred(&mut set, place, &name);
+                ask_both(random, &set, ask);
+                set.scaffold.push(named("a**"));
+                ask_both(random, &set, ask);
+                set.scaffold.pop();
+                set.entries.push(set.entries[0].clone());
+                ask_both(random, &set, ask);
+                set.entries.pop();
+                set.penalty.0 = f64::INFINITY;
+                ask_both(random, &set, ask);
+            }
+        }
+    }
+    let mut set = with_bases(32);
+    set.strands[7][1] = named("g7**");
+    ask_both(random, &set, ask);
+}
+
+/// A set with no star but one.
+fn plain() -> Parameters {
+    Parameters {
+        strands: vec![[named("a"), named("b*"), named("c")]],
+        scaffold: vec![named("b")],
+        entries: vec![
+            (Key::One("b".into()), Energy::Given(-1.0, 0.25)),
+            (Key::Pair("a".into(), "c".into()), Energy::Given(-2.0, 0.5)),
+        ],
+        ..Parameters::default()
+    }
+}
+
+/// A name at one of six places: the sides of a strand, the names of entries.
+fn starred(set: &mut Parameters, place: usize, name: &str) {
+    match place {
+        0..=2 => set.strands[0][place] = named(name),
+        3 => set.entries[0].0 = Key::One(name.into()),
+        4 => set.entries[1].0 = Key::Pair(name.into(), "c".into()),
+        _ => set.entries[1].0 = Key::Pair("a".into(), name.into()),
+    }
+}
+
+/// A number names a build or none, whatever the set is.
+pub fn every_build(random: &mut Random, ask: &mut Ask) {
+    for set in [plain(), base()] {
+        let mut lent = set.laid_out(random);
+        for build in [0, 1, 2, 3, 21, 255, 256, 1 << 31, u32::MAX] {
+            lent.build = build;
+            ask_alone(&lent, ask);
         }
     }
 }

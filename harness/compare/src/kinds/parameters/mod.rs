@@ -6,7 +6,7 @@ mod damage;
 mod fixed;
 
 use super::{Ask, Kind};
-use crate::judge::parameters::{Built, Lent};
+use crate::judge::parameters::{Built, Lent, ARCHIVE, ORDINARY};
 use crate::judge::Verdict;
 use crate::parameters::{damage, parameters, Parameters, Shape};
 use crate::question::{Expected, Question};
@@ -29,12 +29,14 @@ impl Kind for ParameterSets {
     }
 
     fn replies(&self) -> &'static [u32] {
-        &[0, 1, 2, 3, 6, 7, 8, 9]
+        &[0, 1, 2, 3, 6, 7, 8, 9, 21]
     }
 
     fn fixed(&self, ask: &mut Ask) {
         let random = &mut Random::new(9);
         fixed::every_count(random, ask);
+        fixed::every_star(random, ask);
+        fixed::every_build(random, ask);
         fixed::bench_lines(random, ask);
         fixed::every_length(random, ask);
         fixed::every_number(random, ask);
@@ -73,11 +75,26 @@ impl Kind for ParameterSets {
     }
 }
 
-/// A set as it is, to both where the Rust can take it; where it is admitted, the judge's tables too.
+/// A set as it is, in both builds.
 fn ask_both(random: &mut Random, set: &Parameters, ask: &mut Ask) {
     let lent = set.laid_out(random);
+    for build in [ORDINARY, ARCHIVE] {
+        ask_in(random, build, set, &lent, ask);
+    }
+}
+
+/// To both where the Rust can take it; where it is admitted, the judge's tables too. The Rust builds
+/// names that retire, so that they go to the port alone in an ordinary build.
+fn ask_in(random: &mut Random, build: u32, set: &Parameters, lent: &Lent, ask: &mut Ask) {
+    let lent = Lent {
+        build,
+        ..lent.clone()
+    };
     let verdict = lent.verdict();
-    let taken_by_the_rust = set.is_utf8() && set.is_valid_to_the_rust() && !set.has_a_key_twice();
+    let taken_by_the_rust = set.is_utf8()
+        && set.is_valid_to_the_rust()
+        && !set.has_a_key_twice()
+        && verdict.number() != 21;
     if taken_by_the_rust {
         let lines = set.oracle_lines(random);
         let times = if random.once_in(ORDERS_SEEN_IN) { 3 } else { 1 };
@@ -89,20 +106,29 @@ fn ask_both(random: &mut Random, set: &Parameters, ask: &mut Ask) {
         });
     }
     if verdict == Verdict::Admitted || !taken_by_the_rust {
-        ask_port(&lent, ask);
+        ask_alone(&lent, ask);
     }
 }
 
+/// Slices, in both builds.
 fn ask_port(lent: &Lent, ask: &mut Ask) {
+    for build in [ORDINARY, ARCHIVE] {
+        let lent = lent.clone();
+        ask_alone(&Lent { build, ..lent }, ask);
+    }
+}
+
+fn ask_alone(lent: &Lent, ask: &mut Ask) {
     let figures = || figures(&lent.built());
     ask(Question::of_port(line(lent), lent.verdict(), figures));
 }
 
-/// `params TEXT USERS STRANDS SCAFFOLD ENTRIES ENERGIES PENALTIES COPIED LENT`
+/// `params BUILD TEXT USERS STRANDS SCAFFOLD ENTRIES ENERGIES PENALTIES COPIED LENT`
 fn line(lent: &Lent) -> String {
     let numbers = |list: &[usize]| joined(list, ",");
     let doubles = |list: &[f64]| joined(list.iter().map(|x| bits(*x)), ",");
     let words = [
+        lent.build.to_string(),
         sequence_word(&lent.text),
         lent.users.to_string(),
         numbers(&lent.strands),
