@@ -1,2 +1,3 @@
 pub mod Begun
 pub mod Cells
+pub mod Counted
