@@ -48,6 +48,7 @@
  *   14 deck     a stored configuration that breaks the word rules
  *   16 ambient  RT or an excess temperature of a design not finite or outside its range
  *   17 potential  the potential of a strand that is a friend somewhere not finite or outside its range
+ *   23 none     no state at or under a ceiling
  *
  * If several apply, the lowest is given. Four of them say where the fault lies:
  *
@@ -233,6 +234,12 @@ uint32_t mj_chain_energy(MJ_DESIGN, const uint8_t *configuration, size_t n, uint
  * lent entry for each position, 0 for an empty place, and that energy in kcal/mol; on a refusal all
  * entries are kept. Replies 1, 9, 10, 16, 17. */
 uint32_t mj_search(MJ_DESIGN, uint8_t *configuration, size_t lent, uint64_t *place, double *energy);
+
+/* The first state in listing order whose state energy is at most the ceiling, into one lent entry for
+ * each position, 0 for an empty place, and its state energy in kcal/mol; on a refusal all entries are
+ * kept. A ceiling that is not finite is 9, without a place. Replies 1, 9, 10, 12, 16, 17, 23. */
+uint32_t mj_first_state_under(MJ_DESIGN, double ceiling, uint8_t *entries, size_t lent,
+                              uint64_t *place, double *energy);
 
 #undef MJ_DESIGN
 

@@ -10,6 +10,7 @@ mod place;
 pub mod search;
 pub mod short;
 pub mod stored;
+pub mod under;
 
 ghost use mathlib.Core.Path.{_≡_};
 ghost use lib.Ieee as Ieee;

@@ -84,6 +84,13 @@ functions_of_a_design! {
         energy: *mut f64
     );
     mj_search(configuration: *mut u8, lent: usize, place: *mut u64, energy: *mut f64);
+    mj_first_state_under(
+        ceiling: f64,
+        entries: *mut u8,
+        lent: usize,
+        place: *mut u64,
+        energy: *mut f64
+    );
 }
 
 // SAFETY, for every call in this file: pointers and lengths are those of live slices and numbers;
@@ -147,4 +154,15 @@ pub fn chain_energy(
 pub fn search(design: Design, configuration: &mut [u8], place: &mut u64, energy: &mut f64) -> u32 {
     let (start, lent) = (configuration.as_mut_ptr(), configuration.len());
     unsafe { mj_search(design, start, lent, place, energy) }
+}
+
+pub fn first_state_under(
+    design: Design,
+    ceiling: f64,
+    entries: &mut [u8],
+    place: &mut u64,
+    energy: &mut f64,
+) -> u32 {
+    let (start, lent) = (entries.as_mut_ptr(), entries.len());
+    unsafe { mj_first_state_under(design, ceiling, start, lent, place, energy) }
 }

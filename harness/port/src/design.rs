@@ -147,7 +147,7 @@ impl Lent {
 
     fn question(&self, words: Words) -> Result<Reply, Complaint> {
         let counts: &[usize] = match words[0] {
-            "sbond" | "cbond" | "raw.friends" | "raw.state" => &[2],
+            "sbond" | "cbond" | "raw.friends" | "raw.state" | "under" => &[2],
             "gsys" | "chain" | "raw.chain" | "raw.mfe" | "state" => &[1],
             _ => &[0],
         };
@@ -171,6 +171,7 @@ impl Lent {
             "mfe" => Ok(self.search(positions)),
             "raw.mfe" => Ok(self.search(whole(words[1])?)),
             "mfe.level" => Ok(self.level()),
+            "under" => Ok(self.under(whole(words[1])?, double(words[2])?)),
             other => Err(format!("no such line {other}")),
         }
     }
@@ -247,6 +248,18 @@ impl Lent {
     /// Energy and configuration, as the oracle gives them.
     fn search(&self, lent: usize) -> Reply {
         self.searched(lent).0
+    }
+
+    /// Energy and state, which the Rust lacks.
+    fn under(&self, lent: usize, ceiling: f64) -> Reply {
+        let mut entries = Filled::bytes(lent);
+        let (mut place, mut energy) = (WHOLE, DOUBLE);
+        let slice = &mut entries.slice;
+        let number =
+            mj::first_state_under(self.design(), ceiling, slice, &mut place, &mut energy);
+        let bits = energy.to_bits();
+        let told = format!("{bits:016x} {}", joined(&*slice, ","));
+        counted(number, place, told, bits == 0 && entries.is_kept())
     }
 
     /// The search's energy with 0.0 for either zero, since the walk's is compared as a double.

@@ -2,6 +2,7 @@
 
 pub mod ambient;
 pub mod blocked;
+pub mod ceiling;
 pub mod deck;
 pub mod design;
 pub mod loops;
@@ -83,6 +84,7 @@ pub fn all() -> Vec<Box<dyn Kind>> {
         Box::new(design::Designs::default()),
         Box::new(ties::Ties::default()),
         Box::new(blocked::Blocked::default()),
+        Box::new(ceiling::Ceilings),
         Box::new(raw::RawDesigns),
     ]
 }
