@@ -172,16 +172,7 @@ pub fn first_state_under(
 {
     let wrong_size = entries.len() != scaffold.len();
     let out = !is_finite(ceiling.0);
-    match ranged_reply(
-        wrong_size,
-        out,
-        scaffold,
-        marks,
-        glues,
-        dg,
-        ds,
-        potentials,
-    ) {
+    match ranged_reply(wrong_size, out, scaffold, marks, glues, dg, ds, potentials) {
         Reply::Refused(refusal, place) => EnergyAnswer::Refused(refusal, place),
         Reply::Admitted => {
             let mut rows = [0u8; OPTIONS];

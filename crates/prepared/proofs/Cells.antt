@@ -39,8 +39,7 @@ empties-more bond strands x {before} {t} {v} here area is kept held =
     let stored : Kept bond strands t (set t (x * strands + 0) v) = stored-kept bond strands t x 0 null inside is in
     let same : Holds bond strands (set t (x * strands + 0) v) x 0 = getD-set-same t (x * strands + 0) v nan inside ∙ is in
     let at : x * strands + 0 ≡ x * strands = omega arith in
-    let both : Kept bond strands before (set t (x * strands + 0) v) × ((y : ℕ) → y < x + 1 → Holds bond strands (set t (x * strands + 0) v) y 0) =
-    (
+    let both : Kept bond strands before (set t (x * strands + 0) v) × ((y : ℕ) → y < x + 1 → Holds bond strands (set t (x * strands + 0) v) y 0) = (
       kept-then bond strands kept stored,
       below-more (λ (y : ℕ). Holds bond strands (set t (x * strands + 0) v) y 0) x (λ y l. stored .still y 0 null (held y l)) same,
     ) in

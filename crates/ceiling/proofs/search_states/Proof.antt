@@ -1,28 +1,16 @@
-use Rattle.ceiling.proofs.Whole.{found-under}
-use Rattle.design.specs.Design.{Design, design, modelOf}
-use lib.Ieee.{ofBits}
-use lib.ListN.{length, length-replicate}
+-- The filling of bonds and the search over them meet their contract. Assumes nothing.
+use mathlib.Core.Logic.{inl}
+use mathlib.Core.Path.{_≡_, refl}
 use native.Mathlib.Omega.{arith}
 use native.Mathlib.Nat.{mul-le-mul}
-use mathlib.Core.Logic.{inl}
-use mathlib.Core.Path.{_≡_, refl, _∙_}
+use lib.Ieee.{ofBits}
+use lib.ListN.{length}
 use borrow.Author.Needs.{needs}
+use Rattle.design.specs.Design.{Design, design, modelOf}
+use Rattle.ceiling.proofs.Whole.{found-under}
 use Rattle.ceiling.proofs.search_states.Statement.{statement}
 use Rattle.ceiling.proofs.search_states.Tie as tie
-use Rattle.ceiling.proofs.search_states.Reads as reads
-use Rattle.ceiling.proofs.search_states.Lts as lts
-use Rattle.ceiling.proofs.under.under_from.Reads as under-from-reads
-use Rattle.prepared.proofs.bonds.fill_bonds.Reads as fill-bonds-reads
 
--- src/lib.rt:79:9
-slice-aggregate-fill-bonds : tie.Need-slice-aggregate-fill-bonds
-slice-aggregate-fill-bonds c = search needs
-
--- src/lib.rt:80:9
-slice-aggregate-fill-bonds-2 : tie.Need-slice-aggregate-fill-bonds-2
-slice-aggregate-fill-bonds-2 c = search needs
-
--- src/lib.rt:70:5
 fill-bonds-requires : tie.Need-fill-bonds-requires
 fill-bonds-requires c κs =
     let few = c .before .before .before .before .before .before .before .before .before .before .pre .0 .few in
@@ -30,15 +18,6 @@ fill-bonds-requires c κs =
     let area = mul-le-mul (c .before .before .before .before .before .before .before .before .before .before .pre .0 .short) few in
     (c .before .before .before .before .before .before .before .before .before .before .pre .0, (c .before .before .before .before .before .before .before .before .before .before .pre .1 .0, (omega arith, omega arith)))
 
--- src/lib.rt:93:9
-slice-aggregate-under-from : tie.Need-slice-aggregate-under-from
-slice-aggregate-under-from c = search needs
-
--- src/lib.rt:94:9
-slice-aggregate-under-from-2 : tie.Need-slice-aggregate-under-from-2
-slice-aggregate-under-from-2 c = search needs
-
--- src/lib.rt:90:5
 under-from-requires : tie.Need-under-from-requires
 under-from-requires c κs =
     let few = c .before .before .before .before .before .before .before .before .before .before .before .before .before .before .before .before .pre .0 .few in
@@ -48,11 +27,6 @@ under-from-requires c κs =
     let scaffold-cells : length (c .before .before .before .before .before .fill-bonds .last .1 .1 .1 .1 .1 .1 .1 .1 .1 .0) ≡ 8192 = c .before .before .before .before .before .fill-bonds .kept .1 .1 .1 .1 .1 .1 .1 .1 .1 .0 in
     (c .before .before .before .before .before .before .before .before .before .before .before .before .before .before .before .before .pre .0, (omega arith, (omega arith, (c .before .before .before .before .before .before .before .before .before .before .before .before .before .before .before .before .pre .1 .1, (omega arith, c .before .before .before .before .before .before .before .before .before .before .before .before .before .before .before .before .pre .1 .0)))))
 
--- src/lib.rt:51:1
-same-length : tie.Need-same-length
-same-length c = search needs
-
--- src/lib.rt:51:1
 returns : tie.Need-returns
 unfolding modelOf ofBits
 returns c =
@@ -65,11 +39,11 @@ pub search-states-spec : {M : Type 1} → statement M
 search-states-spec =
     tie.close
     (tie.spec
-    slice-aggregate-fill-bonds
-    slice-aggregate-fill-bonds-2
+    (λ c. search needs)
+    (λ c. search needs)
     fill-bonds-requires
-    slice-aggregate-under-from
-    slice-aggregate-under-from-2
+    (λ c. search needs)
+    (λ c. search needs)
     under-from-requires
-    same-length
+    (λ c. search needs)
     returns)

@@ -1,19 +1,15 @@
+-- `count_options` meets its contract. Assumes nothing.
+use mathlib.Core.Path.{refl, ap, _∙_}
+use Prim.Native.Nat.{ℕ, min}
+use native.Mathlib.Omega.{arith}
+use borrow.Author.Needs.{needs}
 use Rattle.design.proofs.Cells.{null-nowhere}
 use Rattle.design.proofs.Sizes.{sized}
 use Rattle.design.specs.Design.{Design, lent, modelOf}
 use Rattle.ensemble.proofs.Options.{product-is}
-use native.Mathlib.Omega.{arith}
-use Prim.Native.Nat.{ℕ, min}
-use mathlib.Core.Path.{_≡_, refl, ap, _∙_}
-use borrow.Author.Needs.{needs}
 use Rattle.prepared.proofs.options.count_options.Statement.{statement}
 use Rattle.prepared.proofs.options.count_options.Tie as tie
-use Rattle.prepared.proofs.options.count_options.Reads as reads
-use Rattle.prepared.proofs.options.count_options.Lts as lts
-use Rattle.design.proofs.options.fill_options.Reads as fill-options-reads
-use Rattle.ensemble.proofs.states.state_count.Reads as state-count-reads
 
--- src/options.rt:38:9
 cast-fill-options : tie.Need-cast-fill-options
 cast-fill-options c =
     let a = c .before .before .before .before .before .before .before .before .args in
@@ -21,7 +17,6 @@ cast-fill-options c =
     let few = sized d (c .before .before .before .before .before .before .before .before .pre .0 .sizes) .few in
     omega arith
 
--- src/options.rt:32:5
 fill-options-requires : tie.Need-fill-options-requires
 fill-options-requires c κs =
     let a = c .before .before .before .before .before .before .before .before .before .before .args in
@@ -29,19 +24,6 @@ fill-options-requires c κs =
     let z = sized d (c .before .before .before .before .before .before .before .before .before .before .pre .0 .sizes) in
     (z .null, (z .few, (z .short, (c .before .before .before .before .before .before .before .before .before .before .pre .1 .0, (c .before .before .before .before .before .before .before .before .before .before .pre .1 .1, null-nowhere d (c .before .before .before .before .before .before .before .before .before .before .pre .0))))))
 
--- src/options.rt:42:5
-state-count-requires : tie.Need-state-count-requires
-state-count-requires c κs = search needs
-
--- src/options.rt:14:1
-same-length : tie.Need-same-length
-same-length c = search needs
-
--- src/options.rt:14:1
-same-length-2 : tie.Need-same-length-2
-same-length-2 c = search needs
-
--- src/options.rt:14:1
 returns : tie.Need-returns
 unfolding modelOf
 returns c =
@@ -56,7 +38,7 @@ count-options-spec =
     (tie.spec
     cast-fill-options
     fill-options-requires
-    state-count-requires
-    same-length
-    same-length-2
+    (λ c κs. search needs)
+    (λ c. search needs)
+    (λ c. search needs)
     returns)
