@@ -60,6 +60,7 @@
  *   18 bare     a sum over the states of a scaffold of no positions
  *   19 weight   a weight outside its form that some state uses
  *   21 stars    a strand or entry name that ends in two or more stars, in an ordinary build
+ *   23 none     no state at or under a ceiling
  *
  * If several apply, the lowest is given. Four of them say where the fault lies:
  *
@@ -316,6 +317,12 @@ uint32_t mj_constrained_sum(MJ_DESIGN, const uint32_t *place_digits, size_t plac
                             const uint8_t *numbers, size_t number_count, const size_t *starts,
                             size_t start_count, const size_t *lengths, size_t length_count,
                             uint64_t *place, uint32_t *digits, int32_t *power);
+
+/* The first state in listing order whose state energy is at most the ceiling, into one lent entry for
+ * each position, 0 for an empty place, and its state energy in kcal/mol; on a refusal all entries are
+ * kept. A ceiling that is not finite is 9, without a place. Replies 1, 9, 10, 12, 16, 17, 23. */
+uint32_t mj_first_state_under(MJ_DESIGN, double ceiling, uint8_t *entries, size_t lent,
+                              uint64_t *place, double *energy);
 
 #undef MJ_DESIGN
 

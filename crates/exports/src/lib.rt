@@ -13,6 +13,7 @@ pub mod short;
 pub mod stored;
 pub mod tables;
 pub mod sums;
+pub mod under;
 
 ghost use mathlib.Core.Path.{_≡_};
 ghost use lib.Ieee as Ieee;

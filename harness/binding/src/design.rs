@@ -88,6 +88,13 @@ functions_of_a_design! {
     mj_search(configuration: *mut u8, lent: usize, place: *mut u64, energy: *mut f64);
     mj_ring_energy(configuration: *const u8, n: usize, place: *mut u64, energy: *mut f64);
     mj_ring_search(configuration: *mut u8, lent: usize, place: *mut u64, energy: *mut f64);
+    mj_first_state_under(
+        ceiling: f64,
+        entries: *mut u8,
+        lent: usize,
+        place: *mut u64,
+        energy: *mut f64
+    );
 }
 
 // SAFETY, for every call in this file: pointers and lengths are those of live slices and numbers;
@@ -166,4 +173,13 @@ pub fn ring_search(
 ) -> u32 {
     let (start, lent) = (configuration.as_mut_ptr(), configuration.len());
     unsafe { mj_ring_search(design, start, lent, place, energy) }
+pub fn first_state_under(
+    design: Design,
+    ceiling: f64,
+    entries: &mut [u8],
+    place: &mut u64,
+    energy: &mut f64,
+) -> u32 {
+    let (start, lent) = (entries.as_mut_ptr(), entries.len());
+    unsafe { mj_first_state_under(design, ceiling, start, lent, place, energy) }
 }

@@ -21,6 +21,7 @@ pub use deck::{deck_move, deck_read, deck_write};
 pub use design::{
     chain_energy, friends, ring_energy, ring_search, scaffold_bond, search, state, state_energy,
     states, strand_bond, Design,
+    chain_energy, first_state_under, friends, scaffold_bond, search, state, state_energy, states, strand_bond, Design,
 };
 pub use names::{name, strand_glues};
 pub use params::{params, Built, Params};

@@ -328,6 +328,23 @@ static void searches(void)
     figure("its energy", energy, -1.5);
 }
 
+/* The worked ceilings of the two positions. */
+static void ceilings(void)
+{
+    uint8_t state[2] = {9, 9};
+    uint64_t place = unread;
+    double energy = unwritten;
+    reply("none under", mj_first_state_under(DESIGN, -1.6, state, 2, &place, &energy), 23);
+    count("its place", place == MJ_NOWHERE);
+    figure("no energy", energy, 0.0);
+    count("entries kept", state[0] == 9 && state[1] == 9);
+    reply("no ceiling", mj_first_state_under(DESIGN, (double)INFINITY, state, 2, &place, &energy), 9);
+    count("without a place", place == MJ_NOWHERE);
+    reply("a ceiling", mj_first_state_under(DESIGN, -1.5, state, 2, &place, &energy), 0);
+    count("the first under it", state[0] == 1 && state[1] == 2);
+    figure("its energy", energy, -1.5);
+}
+
 static void designs(void)
 {
     uint64_t place = unread, n = unread;
@@ -336,6 +353,7 @@ static void designs(void)
     bonds_and_friends();
     states_and_energies();
     searches();
+    ceilings();
     potentials[2] = NAN;
     reply("a potential", mj_states(DESIGN, &place, &n), 17);
     count("its strand", place == 2);

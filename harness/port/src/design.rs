@@ -157,6 +157,8 @@ impl Lent {
         let counts: &[usize] = match words[0] {
             "sbond" | "cbond" | "raw.friends" | "raw.state" => &[2],
             "gsys" | "chain" | "raw.chain" | "raw.mfe" | "state" | "ring" | "ring.mfe" => &[1],
+            "sbond" | "cbond" | "raw.friends" | "raw.state" | "under" => &[2],
+            "gsys" | "chain" | "raw.chain" | "raw.mfe" | "state" => &[1],
             _ => &[0],
         };
         expect_words(words, counts)?;
@@ -182,6 +184,8 @@ impl Lent {
             "ring" => Ok(self.ring_energy(&configuration(words[1])?)),
             "ring.mfe" => Ok(self.ring_searched(whole(words[1])?).0),
             "ring.level" => Ok(level(self.ring_searched(positions))),
+            "mfe.level" => Ok(self.level()),
+            "under" => Ok(self.under(whole(words[1])?, double(words[2])?)),
             other => Err(format!("no such line {other}")),
         }
     }
@@ -272,6 +276,26 @@ impl Lent {
     /// Energy and configuration, as the oracle gives them.
     fn search(&self, lent: usize) -> Reply {
         self.searched(lent).0
+    }
+
+    /// Energy and state, which the Rust lacks.
+    fn under(&self, lent: usize, ceiling: f64) -> Reply {
+        let mut entries = Filled::bytes(lent);
+        let (mut place, mut energy) = (WHOLE, DOUBLE);
+        let slice = &mut entries.slice;
+        let number =
+            mj::first_state_under(self.design(), ceiling, slice, &mut place, &mut energy);
+        let bits = energy.to_bits();
+        let told = format!("{bits:016x} {}", joined(&*slice, ","));
+        counted(number, place, told, bits == 0 && entries.is_kept())
+    }
+
+    /// The search's energy with 0.0 for either zero, since the walk's is compared as a double.
+    fn level(&self) -> Reply {
+        match self.searched(self.scaffold.len()) {
+            (Reply::Ok(_), energy) => reply(0, &[energy + 0.0]),
+            (other, _) => other,
+        }
     }
 
     /// One figure of every state, in the order of ranks.

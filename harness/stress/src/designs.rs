@@ -182,6 +182,7 @@ impl Asked<'_> {
             5 | 6 => self.energies(random, tally),
             7 => self.ring(random, tally),
             7 => sums::call(self, random, tally),
+            7 => self.first_under(random, tally),
             _ => {
                 let mut entries = Guarded::new(near(random, self.positions), 0xa5);
                 let mut energy = Figure::double();
@@ -195,6 +196,22 @@ impl Asked<'_> {
     fn strand(&self, random: &mut Random) -> u8 {
         let any = random.below(self.strands + 1) as u8;
         random.pick(&[0, 1, self.strands as u8, any, 255])
+    }
+
+    fn first_under(&self, random: &mut Random, tally: &mut Tally) {
+        let any = f64::from_bits(random.bits());
+        let any = if any.is_finite() { any } else { 0.0 };
+        let ceiling = random.pick(&[-1.0, 0.0, 1e300, any]);
+        let mut entries = Guarded::new(near(random, self.positions), 0xa5);
+        let (mut place, mut energy) = (Figure::whole(), Figure::double());
+        let (lent, at) = (entries.lent(), place.lent());
+        let number = mj::first_state_under(self.design, ceiling, lent, at, energy.lent());
+        let written = entries.is_fit(number) && energy.is_fit(number);
+        tally.call(
+            "first_state_under",
+            number,
+            self.is_placed(&place, number) && written,
+        );
     }
 
     fn friends(&self, random: &mut Random, position: usize, tally: &mut Tally) {

@@ -4,6 +4,7 @@
 //! port and judge agree, two readings of the document agree. Of decks, names, parameters and designs
 //! it has the answers too, for what the Rust lacks or cannot be asked.
 
+pub mod ceiling;
 pub mod deck;
 pub mod design;
 pub mod exact;

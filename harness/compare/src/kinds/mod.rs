@@ -2,6 +2,7 @@
 
 pub mod ambient;
 pub mod blocked;
+pub mod ceiling;
 pub mod deck;
 pub mod design;
 pub mod loops;
@@ -88,6 +89,7 @@ pub fn all() -> Vec<Box<dyn Kind>> {
         Box::new(blocked::Blocked::default()),
         Box::new(tables::BondTables::default()),
         Box::new(ring::Rings::default()),
+        Box::new(ceiling::Ceilings),
         Box::new(raw::RawDesigns),
         Box::new(sums::Sums::default()),
     ]

@@ -55,7 +55,7 @@ pub fn of_a_design(random: &mut Random, lent: &mut Lent) {
     }
 }
 
-pub fn of_arguments(random: &mut Random, lent: &Lent, arguments: &mut Arguments) {
+pub(super) fn of_arguments(random: &mut Random, lent: &Lent, arguments: &mut Arguments) {
     let number = random.below(8);
     match random.below(6) {
         0 => arguments.pair = (number, random.below(8)),

@@ -2,7 +2,7 @@
 //! well-formed design cannot reach, and for ambients that no temperature gives. The port alone is
 //! asked; the judge has refusals and figures.
 
-mod damage;
+pub(super) mod damage;
 mod faults;
 mod fixed;
 

@@ -1,0 +1,3 @@
+pub mod Passing
+pub mod Whole
+pub mod Replies

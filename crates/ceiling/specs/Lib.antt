@@ -1,0 +1,3 @@
+pub mod Ceiling
+pub mod Answers
+pub mod inner

@@ -1,0 +1,6 @@
+pub mod Numbers
+pub mod Figures
+pub mod Stretches
+pub mod Lengths
+pub mod States
+pub mod Sheets

@@ -1,0 +1,4 @@
+pub mod Word
+pub mod Job
+pub mod Sheet
+pub mod inner

@@ -1,0 +1,3 @@
+pub mod Begun
+pub mod Cells
+pub mod Counted
