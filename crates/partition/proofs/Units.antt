@@ -40,7 +40,7 @@ each-cons : (P : List ℕ → Type 0) (x : ℕ) (tails : List (List ℕ)) → Ea
 each-cons P x [] p = tt
 each-cons P x (s ∷ tails) p = (p .0, each-cons P x tails (p .1))
 
-each-each : (P : List ℕ → Type 0) (heads : List ℕ) (tails : List (List ℕ)) → ((x : ℕ) → List·Memᴰ x heads → Each (λ s. P (x ∷ s)) tails) → Each P (eachBefore heads tails)
+pub each-each : (P : List ℕ → Type 0) (heads : List ℕ) (tails : List (List ℕ)) → ((x : ℕ) → List·Memᴰ x heads → Each (λ s. P (x ∷ s)) tails) → Each P (eachBefore heads tails)
 unfolding eachBefore
 each-each P [] tails h = tt
 each-each P (x ∷ heads) tails h =

@@ -1,0 +1,10 @@
+pub mod Bounds
+pub mod Series
+pub mod Sums
+pub mod Unique
+pub mod Inverse
+pub mod Near
+pub mod Steps
+pub mod Cut
+pub mod Finish
+pub mod Laws

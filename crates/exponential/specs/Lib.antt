@@ -1,0 +1,4 @@
+pub mod Exponential
+pub mod Near
+pub mod Answer
+pub mod Parts
