@@ -20,12 +20,8 @@
  *   - Doubles are rounded to nearest, and subnormals are kept: the mode in which a program starts.
  *     Not so after fesetround, in code that sets flush-to-zero or denormals-are-zero, or in a program
  *     that is linked with -ffast-math.
- *   - A call has 256 KiB of stack left on its thread: the search takes about 140, that over tables less
- *     than 64, mj_params 32, every other less than 16.
- *   - A call has 256 KiB of stack left on its thread: a search takes about 140, mj_params 32, every
- *     other less than 16.
- *   - A call has 256 KiB of stack left on its thread: the search takes about 140, the sums
- *     less than 64, mj_params 32, every other less than 16.
+ *   - A call has 256 KiB of stack left on its thread: a search takes about 140, that over tables and
+ *     the sums over states less than 64, mj_params 32, every other less than 16.
  *
  * Sequences. Letters are a, c, g, t in either case; no NUL ends a sequence. Of two sequences the
  * second is read by index beside the first, not backwards: "aac" pairs with "ttg" without a mismatch.
@@ -56,9 +52,9 @@
  *   14 deck     a stored configuration that breaks the word rules
  *   16 ambient  RT or an excess temperature of a design not finite or outside its range
  *   17 potential  the potential of a strand that is a friend somewhere not finite or outside its range
- *   20 ring     a scaffold of fewer than 3 positions that is to be a ring
  *   18 bare     a sum over the states of a scaffold of no positions
  *   19 weight   a weight outside its form that some state uses
+ *   20 ring     a scaffold of fewer than 3 positions that is to be a ring
  *   21 stars    a strand or entry name that ends in two or more stars, in an ordinary build
  *   23 none     no state at or under a ceiling
  *

@@ -11,8 +11,8 @@ pub mod rings;
 pub mod search;
 pub mod short;
 pub mod stored;
-pub mod tables;
 pub mod sums;
+pub mod tables;
 pub mod under;
 
 ghost use mathlib.Core.Path.{_≡_};

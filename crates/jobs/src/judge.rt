@@ -30,11 +30,7 @@ pub(crate) struct Judged {
 fn first(number: u32, next: u32) -> u32
     ensures { λ r. ⌜ r ≡ firstNumber number next ⌝ }
 {
-    if number == 0 {
-        next
-    } else {
-        number
-    }
+    if number == 0 { next } else { number }
 }
 
 // The number of a job.

@@ -8,8 +8,8 @@ mod measure;
 mod rings;
 mod searches;
 mod sequences;
-mod tables;
 mod sums;
+mod tables;
 
 use measure::{measure, Measured, Row};
 
@@ -40,12 +40,13 @@ fn main() {
         let (ratio, medians) = (least.ratio(), median.ratio());
         println!("{label:44} {rust:9.1} {port:9.1} {ratio:7.2} {medians:7.2}");
     }
-    let remarks = [builds::remarks(), searches::remarks(), rings::remarks()];
+    let remarks = [
+        builds::remarks(),
+        searches::remarks(),
+        rings::remarks(),
+        sums::remarks(),
+    ];
     for remark in remarks.into_iter().flatten() {
         println!("{remark}");
-    for remarks in [builds::remarks(), searches::remarks(), sums::remarks()] {
-        for remark in remarks {
-            println!("{remark}");
-        }
     }
 }

@@ -173,6 +173,8 @@ pub fn ring_search(
 ) -> u32 {
     let (start, lent) = (configuration.as_mut_ptr(), configuration.len());
     unsafe { mj_ring_search(design, start, lent, place, energy) }
+}
+
 pub fn first_state_under(
     design: Design,
     ceiling: f64,

@@ -13,15 +13,14 @@ mod names;
 mod params;
 mod sequences;
 mod short;
-mod tables;
 mod sums;
+mod tables;
 mod temperature;
 
 pub use deck::{deck_move, deck_read, deck_write};
 pub use design::{
-    chain_energy, friends, ring_energy, ring_search, scaffold_bond, search, state, state_energy,
-    states, strand_bond, Design,
-    chain_energy, first_state_under, friends, scaffold_bond, search, state, state_energy, states, strand_bond, Design,
+    chain_energy, first_state_under, friends, ring_energy, ring_search, scaffold_bond, search,
+    state, state_energy, states, strand_bond, Design,
 };
 pub use names::{name, strand_glues};
 pub use params::{params, Built, Params};
@@ -30,8 +29,8 @@ pub use sequences::{
     published_reply, sequence, sequence_dg, sequence_ds, sequence_reply, sequence_strength,
 };
 pub use short::short_sequence;
-pub use tables::{bond_tables, search_over, state_energy_over, state_over, states_over, Bonds};
 pub use sums::{constrained_sum, free_sum, Lists, Weights};
+pub use tables::{bond_tables, search_over, state_energy_over, state_over, states_over, Bonds};
 pub use temperature::ambient;
 
 /// The place that is written where there is none.

@@ -155,10 +155,8 @@ impl Lent {
 
     fn question(&self, words: Words) -> Result<Reply, Complaint> {
         let counts: &[usize] = match words[0] {
-            "sbond" | "cbond" | "raw.friends" | "raw.state" => &[2],
-            "gsys" | "chain" | "raw.chain" | "raw.mfe" | "state" | "ring" | "ring.mfe" => &[1],
             "sbond" | "cbond" | "raw.friends" | "raw.state" | "under" => &[2],
-            "gsys" | "chain" | "raw.chain" | "raw.mfe" | "state" => &[1],
+            "gsys" | "chain" | "raw.chain" | "raw.mfe" | "state" | "ring" | "ring.mfe" => &[1],
             _ => &[0],
         };
         expect_words(words, counts)?;
@@ -283,8 +281,7 @@ impl Lent {
         let mut entries = Filled::bytes(lent);
         let (mut place, mut energy) = (WHOLE, DOUBLE);
         let slice = &mut entries.slice;
-        let number =
-            mj::first_state_under(self.design(), ceiling, slice, &mut place, &mut energy);
+        let number = mj::first_state_under(self.design(), ceiling, slice, &mut place, &mut energy);
         let bits = energy.to_bits();
         let told = format!("{bits:016x} {}", joined(&*slice, ","));
         counted(number, place, told, bits == 0 && entries.is_kept())

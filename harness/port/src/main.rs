@@ -8,8 +8,8 @@ mod params;
 mod sequences;
 mod short;
 mod slices;
-mod tables;
 mod sums;
+mod tables;
 mod temperature;
 
 use design::Lent;

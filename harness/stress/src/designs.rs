@@ -151,7 +151,7 @@ impl Asked<'_> {
         let (x, y) = (self.strand(random), self.strand(random));
         let position = near(random, self.positions.saturating_sub(1));
         let mut place = Figure::whole();
-        match random.below(9) {
+        match random.below(11) {
             0 => {
                 let mut bond = Figure::double();
                 let number = mj::strand_bond(design, x, y, place.lent(), bond.lent());
@@ -181,8 +181,8 @@ impl Asked<'_> {
             }
             5 | 6 => self.energies(random, tally),
             7 => self.ring(random, tally),
-            7 => sums::call(self, random, tally),
-            7 => self.first_under(random, tally),
+            8 => sums::call(self, random, tally),
+            9 => self.first_under(random, tally),
             _ => {
                 let mut entries = Guarded::new(near(random, self.positions), 0xa5);
                 let mut energy = Figure::double();

@@ -155,11 +155,10 @@ returns c =
     let d : Design = design (a .scaffold .now) marks (a .glues .now) (a .dg .now) (a .ds .now) (a .potentials .now) (a .ambient) in
     let settled = c .before .before .before .before .before .before .before .before .before .before .before .before .before .before .before .before .before .before .before .before .settle .ensures marks admitted options in
     let held = p .1 .1 .1 .1 .0 ∙ ap (λ (n : ℕ). min n 1048577) (product-is options) in
-    let size : length (Search.search (modelOf d) .configuration) ≡ positions d = ap length (sym (settled .1 .shown)) ∙ number in
-    (
-    c .before .before .before .before .before .before .before .before .before .before .before .before .fill-energies .ensures (modelOf d) options (settled .0) refl ∙ ap (λ (x : Float). map (energyOfWord (modelOf d) x) (a .jobs .now)) (settled .1 .least) ∙ energies-admitted d admitted (a .jobs .now),
-    c .before .before .before .before .before .before .before .before .fill-counts .ensures ∙ counts-admitted d admitted (a .jobs .now) held,
-    c .before .before .fill-stretches .ensures ∙ ap (λ (s : List ℕ). stretchesIn s (a .jobs .now) (a .stretches .now)) (again ∙ settled .1 .shown) ∙ stretches-same d (Search.search (modelOf d) .configuration) size (stretch-admitted d admitted) (a .jobs .now) (a .stretches .now) (p .1 .1 .1 .1 .1 .1 .1 .1),
+    let size : length (Search.search (modelOf d) .configuration) ≡ positions d = ap length (sym (settled .1 .shown)) ∙ number in (
+      c .before .before .before .before .before .before .before .before .before .before .before .before .fill-energies .ensures (modelOf d) options (settled .0) refl ∙ ap (λ (x : Float). map (energyOfWord (modelOf d) x) (a .jobs .now)) (settled .1 .least) ∙ energies-admitted d admitted (a .jobs .now),
+      c .before .before .before .before .before .before .before .before .fill-counts .ensures ∙ counts-admitted d admitted (a .jobs .now) held,
+      c .before .before .fill-stretches .ensures ∙ ap (λ (s : List ℕ). stretchesIn s (a .jobs .now) (a .stretches .now)) (again ∙ settled .1 .shown) ∙ stretches-same d (Search.search (modelOf d) .configuration) size (stretch-admitted d admitted) (a .jobs .now) (a .stretches .now) (p .1 .1 .1 .1 .1 .1 .1 .1),
     )
 
 pub answer-jobs-spec : {M : Type 1} → statement M

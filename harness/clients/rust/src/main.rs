@@ -2,9 +2,9 @@
 
 mod designs;
 mod places;
-mod tables;
 mod rings;
 mod sums;
+mod tables;
 
 use mujplesten as mj;
 use std::process::ExitCode;

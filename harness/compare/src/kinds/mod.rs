@@ -15,8 +15,8 @@ pub mod ring;
 pub mod sequence;
 pub mod short;
 pub mod strength;
-pub mod tables;
 pub mod sums;
+pub mod tables;
 pub mod ties;
 
 use crate::question::Question;

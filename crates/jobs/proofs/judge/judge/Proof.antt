@@ -92,9 +92,10 @@ returns-2 c =
     let d : Design = lent (a .scaffold) (a .marks) (a .glues) (a .dg) (a .ds) (a .potentials) (a .ambient) in
     let told = sym (c .before .before .before .before .before .before .before .before .before .before .before .before .before .before .before .before .before .before .before .pre .0) ∙ c .before .before .before .before .before .before .before .before .before .enum-told .given .1 in
     let short = sized d (tabled false d told .tables .sizes) .short in
-    let kept : length (c .before .before .before .before .before .before .count-options .last .1 .1 .1 .1 .1 .1 .1 .1 .0) ≡ positions d = c .before .before .before .before .before .before .count-options .kept .1 .1 .1 .1 .1 .1 .1 .1 .0 ∙ (omega (arith, length-take (positions d - 0) (a .options .now))) in
-    (record { tables = sym (ap replyNumber told); states = λ _. c .before .before .before .before .before .before .count-options .ensures .0; numbers = λ _. c .number2 .ensures ∙ ap replyNumber (c .before .numbers-reply .ensures) },
-    λ _. (front-options (c .before .before .before .before .before .before .count-options .last .1 .1 .1 .1 .1 .1 .1 .1 .0) _ (positions d) kept (c .before .before .before .before .before .before .count-options .ensures .1 .0), front-searchable (c .before .before .before .before .before .before .count-options .last .1 .1 .1 .1 .1 .1 .1 .1 .0) _ (positions d) kept (c .before .before .before .before .before .before .count-options .ensures .1 .1)))
+    let kept : length (c .before .before .before .before .before .before .count-options .last .1 .1 .1 .1 .1 .1 .1 .1 .0) ≡ positions d = c .before .before .before .before .before .before .count-options .kept .1 .1 .1 .1 .1 .1 .1 .1 .0 ∙ (omega (arith, length-take (positions d - 0) (a .options .now))) in (
+      record { tables = sym (ap replyNumber told); states = λ _. c .before .before .before .before .before .before .count-options .ensures .0; numbers = λ _. c .number2 .ensures ∙ ap replyNumber (c .before .numbers-reply .ensures) },
+      λ _. (front-options (c .before .before .before .before .before .before .count-options .last .1 .1 .1 .1 .1 .1 .1 .1 .0) _ (positions d) kept (c .before .before .before .before .before .before .count-options .ensures .1 .0), front-searchable (c .before .before .before .before .before .before .count-options .last .1 .1 .1 .1 .1 .1 .1 .1 .0) _ (positions d) kept (c .before .before .before .before .before .before .count-options .ensures .1 .1)),
+    )
 
 pub judge-spec : {M : Type 1} → statement M
 judge-spec =
