@@ -98,7 +98,7 @@ module _ (w : Weights) where
 
 -- ---- at most 64 options
 
-few : (friends : List (List ℕ)) → ((i : ℕ) → length (getD friends i []) ≤ 63) → Few (map optionsOf friends)
+pub few : (friends : List (List ℕ)) → ((i : ℕ) → length (getD friends i []) ≤ 63) → Few (map optionsOf friends)
 few [] h = tt
 few (here ∷ later) h = (rw (length-append here (0 ∷ [])) (let l = h 0 in omega arith), few later (λ i. h (suc i)))
 

@@ -3,3 +3,5 @@ pub mod Quotients
 pub mod Division
 pub mod Exponents
 pub mod Energies
+pub mod Arguments
+pub mod Modest
