@@ -5,3 +5,4 @@ pub mod Exponents
 pub mod Energies
 pub mod Arguments
 pub mod Modest
+pub mod Filling

@@ -1,3 +1,4 @@
 pub mod Numbers
 pub mod Weighed
 pub mod Quotient
+pub mod Filled
