@@ -4,6 +4,7 @@ use mathlib.Core.Bool.{Bool, true, false, not, cond}
 use Prim.Native.Nat.{ℕ, zero, suc, _+_, _-_, _*_, _/_, _^_, _≤_, _<_}
 use native.Mathlib.Nat.{le-trans, le-of-eq, le-refl, le-of-mul-le-mul-right, mul-one, one-mul, div-mul-le-self, lt-div-mul-add, le-div-iff-mul-le, div-le-of-le-mul, add-suc, add-zero, pow-suc, zero-mul}
 use native.Mathlib.Omega.{arith}
+use lib.Signed.{mag}
 use lib.IntN.{ℤ, pos, negsuc, _-ℤ_, subℕ}
 use lib.Dec.{T, ltb, ltb→lt, nltb→le, lit≤, lit<}
 use lib.Pow.{pow-pos, pow-add}
@@ -80,6 +81,7 @@ module _ (x : Float) (y d k : ℕ) (p : T (finite x)) (c : Cut x y) (w : Weighed
         inForm = record { least = w .least; most = w .most };
         near = rw h (weight-plus (num x) (den x) y d k (den-pos x) (c .under) (c .above) w (up (subℕ k 30)) (down (subℕ k 30)) (plus-power k (w .power)));
         one = zero-one;
+        low = sub-cases k (w .power) (λ z. mag z ≤ 2 ^ 18) (λ h. omega (arith, w .power)) (λ h. omega (arith, w .power));
       })
     where
       zero-one : num x ≡ 0 → weight d (subℕ k 30) ≡ unit
@@ -114,6 +116,7 @@ module _ (x : Float) (y d k : ℕ) (p : T (finite x)) (c : Cut x y) (w : Weighed
     inForm = record { least = quotient-least; most = omega (arith, quotient-most) };
     near = rw h near-below;
     one = λ z. absurd (none-below x p h z);
+    low = omega (arith, w .power);
   })
 
   pub finish-whole : lt x zeroFloat ≡ true → 2 ^ 61 / d ≡ 2 ^ 31 → ExpOf x (weight (2 ^ 30) (toZ w32 (ofZ w32 (negsuc 29 -ℤ toZ w32 k))))
@@ -121,6 +124,7 @@ module _ (x : Float) (y d k : ℕ) (p : T (finite x)) (c : Cut x y) (w : Weighed
     inForm = record { least = le-refl (2 ^ 30); most = lit< tt };
     near = rw h (near-same true (num x) (den x) (2 ^ 61 / d * 1) (2 ^ suc (30 + k)) (2 ^ 30 * 1) (2 ^ suc (29 + k)) (pow-pos (suc (30 + k))) same near-below);
     one = λ z. absurd (none-below x p h z);
+    low = omega (arith, w .power);
   })
     where
       same : 2 ^ 61 / d * 1 * 2 ^ suc (29 + k) ≡ 2 ^ 30 * 1 * 2 ^ suc (30 + k)

@@ -1,8 +1,9 @@
 -- What it is for a weight to lie near the exponential of a double; and which doubles are taken.
 use mathlib.Core.Bool.{Bool, true, false}
 use mathlib.Core.Path.{_≡_}
-use Prim.Native.Nat.{ℕ, _*_, _<_}
+use Prim.Native.Nat.{ℕ, _*_, _^_, _<_, _≤_}
 use lib.IntN.{pos}
+use lib.Signed.{mag}
 use lib.Ieee.{Float, fin, binary64, round, lt}
 use lib.Ieee.Positive.{num, den}
 use Rattle.fractions.specs.Frac.{Frac, times, LeFrac}
@@ -26,6 +27,8 @@ pub record ExpOf (x : Float) (w : Weight) : Type 0 where
   pub inForm : InForm w
   pub near : ExpNear (lt x zeroFloat) (num x) (den x) (worth w)
   pub one : num x ≡ 0 → w ≡ unit
+  -- the exponent is a small number, as those of weights have to be
+  pub low : mag (w .power) ≤ 2 ^ 18
 
 -- "doubles up to 80,000 in size, either sign"
 unfoldable pub leastArgument : Float

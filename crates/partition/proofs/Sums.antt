@@ -39,7 +39,7 @@ none-member {A} {x} p (y ∷ ys) e m = go (List·Memᴰ·cases-cons m) (neither 
     go (inr k) b rest = rest k
 
 -- an option that is not 0 is a friend
-occupied : {x : ℕ} (friends : List ℕ) → (x ≡ 0 → ⊥) → List·Memᴰ x (optionsOf friends) → List·Memᴰ x friends
+pub occupied : {x : ℕ} (friends : List ℕ) → (x ≡ 0 → ⊥) → List·Memᴰ x (optionsOf friends) → List·Memᴰ x friends
 occupied {x} friends some m = go (List·Memᴰ·append-cases friends m)
   where
     go : List·Memᴰ x friends ⊎ List·Memᴰ x (0 ∷ []) → List·Memᴰ x friends

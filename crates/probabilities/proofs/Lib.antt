@@ -6,3 +6,4 @@ pub mod Energies
 pub mod Arguments
 pub mod Modest
 pub mod Filling
+pub mod Used
