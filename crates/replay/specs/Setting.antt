@@ -1,4 +1,4 @@
--- What a line that sets one number of a design does, its kind's own word left out.
+-- What a line that sets one number of a design or a parameter set does, its kind's own word left out.
 use mathlib.Core.List.{List}
 use mathlib.Core.Path.{_≡_}
 use Prim.Native.Nat.{ℕ}
@@ -7,8 +7,8 @@ use lib.ListN.{set}
 use Rattle.replay.specs.Text.{hexText, Decimal}
 use Rattle.replay.specs.Kinds.{word, later}
 
--- INDEX BYTE
-pub record ByteSet (words : List ℕ) (before after : List ℕ) : Type 0 where
+-- INDEX BYTE, INDEX NUMBER
+pub record NumberSet (words : List ℕ) (before after : List ℕ) : Type 0 where
   pub index : ℕ
   pub value : ℕ
   pub first : Decimal (word words) index

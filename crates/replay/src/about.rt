@@ -9,10 +9,12 @@ use crate::parts::up_to;
 use crate::places::read_places;
 use crate::setting::set_byte;
 use crate::setting::set_double;
+use crate::sets;
+use crate::sets::Set;
 use doubles::double;
 ghost use Prim.Native.Nat.{_≤_};
 
-// Its numbers from the start of each array, and how many of them are its own.
+// Its numbers from the start of each array, and how many of them are its own; beside it the parameter set.
 pub(crate) struct Design {
     scaffold: [u8; 128],
     glues: [u8; 192],
@@ -24,6 +26,7 @@ pub(crate) struct Design {
     rt: f64,
     strand_excess: f64,
     scaffold_excess: f64,
+    set: Set,
 }
 
 // A design after a line that sets something, and whether it did.
@@ -33,7 +36,7 @@ pub(crate) struct Step {
 }
 
 // A count up to a limit; 0 for a word that is none, and every call refuses a design without strands.
-fn size(word: &[u8], most: usize) -> usize
+pub(crate) fn size(word: &[u8], most: usize) -> usize
     ensures { λ r. ⌜ r ≤ most ⌝ }
 {
     let Number::Is(n) = decimal(word) else {
@@ -47,7 +50,7 @@ fn size(word: &[u8], most: usize) -> usize
 }
 
 // A double; a word that is none gives a NaN, which every call refuses.
-fn double_of(word: &[u8]) -> f64 {
+pub(crate) fn double_of(word: &[u8]) -> f64 {
     match hex(word) {
         Number::Is(bits) => double(bits),
         Number::Malformed => 0.0 / 0.0,
@@ -70,10 +73,11 @@ pub(crate) fn begun(words: &[u8]) -> Design {
         rt: double_of(up_to(third, b' ')),
         strand_excess: double_of(up_to(fourth, b' ')),
         scaffold_excess: double_of(past(fourth, b' ')),
+        set: sets::begun(b""),
     }
 }
 
-// `INDEX DOUBLE` of a table or of the potentials.
+// `INDEX DOUBLE` of a table or of the potentials, or what sets a number of the parameter set.
 fn set_doubles(mut design: Design, word: &[u8], words: &[u8]) -> Step {
     if check::same(word, b"potential") {
         let mut potentials = design.potentials;
@@ -93,10 +97,10 @@ fn set_doubles(mut design: Design, word: &[u8], words: &[u8]) -> Step {
         design.ds = ds;
         return Step { design, done };
     }
-    Step {
-        design,
-        done: false,
-    }
+    let given = sets::set(design.set, word, words);
+    let done = given.done;
+    design.set = given.set;
+    Step { design, done }
 }
 
 // A line that sets a number of the design, or begins a new one.
@@ -366,6 +370,9 @@ fn of_own(
 
 // Whether a line about the design says what is answered.
 pub(crate) fn agrees(kind: Kind, words: &[u8], design: Design) -> bool {
+    if kind.is_of_a_build() {
+        return sets::agrees(kind, words, design.set);
+    }
     let scaffold = design.scaffold;
     let glues = design.glues;
     let dg = design.dg;

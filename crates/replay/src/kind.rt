@@ -19,13 +19,16 @@ pub(crate) enum Kind {
     ChainEnergy,
     Search,
     Settled,
+    Sides,
+    Sites,
+    Cell,
     Unknown,
 }
 
 impl Kind {
     // The place of the kind's count.
     pub(crate) fn index(self) -> usize
-        ensures { λ r. ⌜ r < 17 ⌝ }
+        ensures { λ r. ⌜ r < 20 ⌝ }
     {
         match self {
             Kind::Sequence => 0,
@@ -44,7 +47,18 @@ impl Kind {
             Kind::ChainEnergy => 13,
             Kind::Search => 14,
             Kind::Settled => 15,
-            Kind::Unknown => 16,
+            Kind::Sides => 16,
+            Kind::Sites => 17,
+            Kind::Cell => 18,
+            Kind::Unknown => 19,
+        }
+    }
+
+    // Whether the line is about what is built of a parameter set.
+    pub(crate) fn is_of_a_build(self) -> bool {
+        match self {
+            Kind::Sides | Kind::Sites | Kind::Cell => true,
+            _ => false,
         }
     }
 }
@@ -73,6 +87,20 @@ fn of_sequences(word: &[u8]) -> Kind {
         return Kind::Name;
     }
     Kind::Unknown
+}
+
+// The kind of a line about what is built of a parameter set, or about sequences.
+fn of_builds(word: &[u8]) -> Kind {
+    if check::same(word, b"sides") {
+        return Kind::Sides;
+    }
+    if check::same(word, b"sites") {
+        return Kind::Sites;
+    }
+    if check::same(word, b"cell") {
+        return Kind::Cell;
+    }
+    of_sequences(word)
 }
 
 // The kind of a line; first those about the design that lines have set.
@@ -104,5 +132,5 @@ pub(crate) fn kind_of(word: &[u8]) -> Kind {
     if check::same(word, b"settled") {
         return Kind::Settled;
     }
-    of_sequences(word)
+    of_builds(word)
 }

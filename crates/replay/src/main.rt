@@ -2,6 +2,7 @@
 // question is asked of the port again, and a line that does not say what the port answers, bit for bit, is a difference; so is a
 // line that is not written as the head says. Then it replays data/false, whose every answer was falsified, and has to report each.
 mod about;
+mod built;
 mod designs;
 mod kind;
 mod kinds;
@@ -9,6 +10,7 @@ mod numbers;
 mod parts;
 mod places;
 mod says;
+mod sets;
 mod setting;
 
 use about::Design;
@@ -18,8 +20,8 @@ use libc::STDOUT_FILENO;
 
 // How many lines of each kind were compared, and how many of them differ.
 struct Tally {
-    compared: [u64; 17],
-    differ: [u64; 17],
+    compared: [u64; 20],
+    differ: [u64; 20],
 }
 
 // How far the list was replayed: what was counted, the design that lines have set, the number of the next line and the place where it starts.
@@ -53,6 +55,9 @@ fn print_name(kind: Kind) {
         Kind::ChainEnergy => print(b"chain"),
         Kind::Search => print(b"mfe"),
         Kind::Settled => print(b"settled"),
+        Kind::Sides => print(b"sides"),
+        Kind::Sites => print(b"sites"),
+        Kind::Cell => print(b"cell"),
         Kind::Unknown => print(b"of no kind"),
     }
 }
@@ -214,8 +219,8 @@ fn replay_next(fd: i32, progress: Progress) -> Progress {
 fn replay(fd: i32) -> Tally {
     let mut progress = Progress {
         tally: Tally {
-            compared: [0; 17],
-            differ: [0; 17],
+            compared: [0; 20],
+            differ: [0; 20],
         },
         design: about::begun(b""),
         number: 1,
@@ -264,6 +269,9 @@ fn summarize(tally: Tally) {
     print_kind(tally, Kind::ChainEnergy);
     print_kind(tally, Kind::Search);
     print_kind(tally, Kind::Settled);
+    print_kind(tally, Kind::Sides);
+    print_kind(tally, Kind::Sites);
+    print_kind(tally, Kind::Cell);
     print_kind(tally, Kind::Unknown);
 }
 

@@ -1,7 +1,7 @@
-// The lines that set a design, one number at a time.
+// The lines that set a design or a parameter set, one number at a time.
 ghost use mathlib.Core.Path.{_≡_};
 ghost use mathlib.Core.Bool.{true};
-ghost use Rattle.replay.specs.Setting.{ByteSet, DoubleSet};
+ghost use Rattle.replay.specs.Setting.{NumberSet, DoubleSet};
 use crate::numbers::Number;
 use crate::numbers::decimal;
 use crate::numbers::hex;
@@ -11,7 +11,7 @@ use doubles::double;
 
 // `INDEX BYTE`: whether the line sets an entry.
 pub(crate) fn set_byte(words: &[u8], slice: &mut [u8]) -> bool
-    ensures { λ r. ⌜ (r ≡ true → ByteSet (now (words .entry)) (now (slice .entry)) (now (slice .exit))) ⌝ }
+    ensures { λ r. ⌜ (r ≡ true → NumberSet (now (words .entry)) (now (slice .entry)) (now (slice .exit))) ⌝ }
 {
     let Number::Is(index) = decimal(up_to(words, b' ')) else {
         return false;
@@ -24,6 +24,24 @@ pub(crate) fn set_byte(words: &[u8], slice: &mut [u8]) -> bool
         return false;
     }
     slice[at] = value as u8;
+    true
+}
+
+// `INDEX NUMBER`.
+pub(crate) fn set_number(words: &[u8], slice: &mut [usize]) -> bool
+    ensures { λ r. ⌜ (r ≡ true → NumberSet (now (words .entry)) (now (slice .entry)) (now (slice .exit))) ⌝ }
+{
+    let Number::Is(index) = decimal(up_to(words, b' ')) else {
+        return false;
+    };
+    let Number::Is(value) = decimal(past(words, b' ')) else {
+        return false;
+    };
+    let at = index as usize;
+    if slice.len() <= at {
+        return false;
+    }
+    slice[at] = value as usize;
     true
 }
 

@@ -1,6 +1,7 @@
 //! The fixed list of answers that the Rattle program `replay` reads where no Rust is at hand.
 //! `HEADER` has the layout, and says whose the answers are.
 
+mod builds;
 mod designs;
 mod limits;
 mod lines;
@@ -30,6 +31,11 @@ pub const HEADER: &str = "\
 #   gsys PLACES                      ok ENERGY
 #   chain PLACES                     ok SUM ENERGY
 #   mfe, settled                     ok ENERGY, ok PLACES: what the search answers
+# A parameter set of from_params is set likewise:
+#   set USERS POSITIONS ENTRIES BYTES QUENCHER REPORTER PENALTY_DG PENALTY_DS   begins one whose other numbers are all 0
+#   byte I BYTE, side I N, site I N, entry I N, energy I X   set entry I of the text, of the rows of strands, scaffold and entries, of the energies
+#   sides BUILD, sites BUILD         ok PLACES: the glues of strands and scaffold; build 0 is an ordinary one, 1 the archive's
+#   cell BUILD I                     ok DG DS: cell I of both tables
 # or, in place of ok and its figures, refused NUMBER, without its place. Doubles are 16 hex digits, other numbers decimal.
 # A sequence or a name stands as it is, an empty one as -. PLACES are a byte for each place, 48 and the number of its strand, so
 # that 0 is an empty place; with no places they are -. Below 256 K the Rust's strand excess can be another number than
@@ -199,7 +205,7 @@ pub fn false_list(oracle: &mut Program) -> Result<String, String> {
     let mut met = BTreeSet::new();
     let mut setters = String::new();
     for line in answered(oracle)? {
-        if line.kind() == "design" {
+        if ["design", "set"].contains(&line.kind()) {
             setters.clear();
         }
         if !line.is_question() {
@@ -230,6 +236,7 @@ fn answered(oracle: &mut Program) -> Result<Vec<Answered>, String> {
         list.push(Answered { question, answer });
     }
     list.append(&mut designs::designs(oracle)?);
+    list.append(&mut builds::builds(oracle)?);
     list.append(&mut limits::limits());
     Ok(list)
 }
