@@ -7,10 +7,10 @@ use crate::numbers::hex;
 use crate::parts::past;
 use crate::parts::up_to;
 use crate::places::read_places;
-use crate::setting::set_byte;
-use crate::setting::set_double;
 use crate::sets;
 use crate::sets::Set;
+use crate::setting::set_byte;
+use crate::setting::set_double;
 use doubles::double;
 ghost use Prim.Native.Nat.{_≤_};
 
@@ -97,7 +97,7 @@ fn set_doubles(mut design: Design, word: &[u8], words: &[u8]) -> Step {
         design.ds = ds;
         return Step { design, done };
     }
-    let given = sets::set(design.set, word, words);
+    let given = sets::put(design.set, word, words);
     let done = given.done;
     design.set = given.set;
     Step { design, done }

@@ -84,7 +84,7 @@ fn set_rows(mut set: Set, word: &[u8], words: &[u8]) -> Given {
 }
 
 // A line that sets a number of the set, or begins a new one.
-pub(crate) fn set(mut set: Set, word: &[u8], words: &[u8]) -> Given {
+pub(crate) fn put(mut set: Set, word: &[u8], words: &[u8]) -> Given {
     if check::same(word, b"set") {
         return Given {
             set: begun(words),

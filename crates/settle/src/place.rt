@@ -135,14 +135,21 @@ fn member_row(kinds: &[u8], group: u8, member: usize) -> usize {
 // The words of a row that are names of glues, from one up to before another.
 struct Slots(usize, usize);
 
-// Which words of a row of this kind are names of glues.
-fn glue_slots(kind: u8) -> Slots {
+// Which words of a strand's or an entry's row are names of glues.
+fn own_slots(kind: u8) -> Slots {
     match kind {
         STRAND => Slots(1, 4),
-        POSITION | BLOCKED => Slots(0, 1),
         ENERGY_GIVEN | ENERGY_SEQUENCE => Slots(0, 1),
         PAIR_GIVEN | PAIR_SEQUENCE => Slots(0, 2),
         _ => Slots(0, 0),
+    }
+}
+
+// Which words of any row are.
+fn glue_slots(kind: u8) -> Slots {
+    match kind {
+        POSITION | BLOCKED => Slots(0, 1),
+        _ => own_slots(kind),
     }
 }
 
@@ -231,11 +238,7 @@ fn is_retired(text: &[u8], name: Word) -> bool {
 
 // The first name of a strand or an entry that does, or a word of no bytes. Names of the scaffold follow the old rule.
 fn retired_name(text: &[u8], kinds: &[u8], words: &[usize], row: usize) -> Word {
-    let kind = byte_at(kinds, row);
-    if kind == POSITION || kind == BLOCKED {
-        return Word { start: 0, size: 0 };
-    }
-    let slots = glue_slots(kind);
+    let slots = own_slots(byte_at(kinds, row));
     for j in slots.0..slots.1 {
         let name = word_of(words, row, j);
         if is_retired(text, name) {

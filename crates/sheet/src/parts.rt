@@ -197,7 +197,13 @@ fn fill_sizes(kinds: &[u8], words: &[usize], rows: &[usize], sizes: &mut [usize]
 }
 
 // The names that are shown, of positions or of strands: the first word of each row.
-pub fn shown(kinds: &[u8], words: &[usize], rows: &[usize], starts: &mut [usize], sizes: &mut [usize])
+pub fn shown(
+    kinds: &[u8],
+    words: &[usize],
+    rows: &[usize],
+    starts: &mut [usize],
+    sizes: &mut [usize],
+)
     ensures { λ _. ⌜ now (starts .exit) ≡ tabulate (length (now (starts .entry))) (startAt (now (kinds .entry)) (now (words .entry)) (now (rows .entry)) First) ⌝ }
     ensures { λ _. ⌜ now (sizes .exit) ≡ tabulate (length (now (sizes .entry))) (sizeAt (now (kinds .entry)) (now (words .entry)) (now (rows .entry)) First) ⌝ }
 {

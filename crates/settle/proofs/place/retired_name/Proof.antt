@@ -13,8 +13,8 @@ abbrev μ-loop : tie.MeasureT-loop
 byte-at-requires : tie.Need-byte-at-requires Inv-loop μ-loop
 byte-at-requires c κs = search needs
 
-glue-slots-requires : tie.Need-glue-slots-requires Inv-loop μ-loop
-glue-slots-requires c κs = search needs
+own-slots-requires : tie.Need-own-slots-requires Inv-loop μ-loop
+own-slots-requires c κs = search needs
 
 loop-holds : tie.Need-loop-holds Inv-loop μ-loop
 loop-holds c = search needs
@@ -47,7 +47,7 @@ retired-name-spec =
     Inv-loop
     μ-loop
     byte-at-requires
-    glue-slots-requires
+    own-slots-requires
     loop-holds
     word-of-requires
     is-retired-requires
