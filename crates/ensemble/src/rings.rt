@@ -154,6 +154,18 @@ fn ring_from(
     last.energy
 }
 
+// Writes a configuration over another.
+fn write_over(shown: &[u8], configuration: &mut [u8])
+    requires { ⌜ length (now configuration) ≡ length (now shown) ⌝ }
+    ensures { λ _. ⌜ now (configuration .exit) ≡ now (shown .entry) ⌝ }
+{
+    let mut position = 0;
+    while position < shown.len() {
+        configuration[position] = shown[position];
+        position += 1;
+    }
+}
+
 // Writes the lowest ring, one occupant for each position, and gives its energy. Each option of position 0 is tried in order, and the first smallest kept.
 pub fn lowest_ring(
     rows: &[u8],
@@ -171,6 +183,7 @@ pub fn lowest_ring(
     requires { ⌜ 0 < length (now counts) ⌝ }
     ensures { λ r. ⌜ ((m : Model) → OptionRows m (now (rows .entry)) (now (counts .entry)) → BondCells m (length (now (potentials .entry))) (now («strand_bonds» .entry)) (now («scaffold_bonds» .entry)) (now (potentials .entry)) → ClosingCells m (length (now (potentials .entry))) (now («strand_bonds» .entry)) → rt .0 ≡ m .rt → FoundRing m (now (configuration .exit)) (r .0)) ⌝ }
 {
+    let positions = counts.len();
     let mut least = ring_from(
         rows,
         counts,
@@ -181,7 +194,7 @@ pub fn lowest_ring(
         rt,
         configuration,
     );
-    let mut kept = 0;
+    let mut tried = [0u8; 128];
     let mut option = 1;
     while option < wide(counts[0]) {
         let energy = ring_from(
@@ -192,23 +205,13 @@ pub fn lowest_ring(
             potentials,
             option,
             rt,
-            configuration,
+            &mut tried[0..positions],
         );
         if energy < least {
             least = energy;
-            kept = option;
+            write_over(&tried[0..positions], configuration);
         }
         option += 1;
     }
-    // The configuration of the one kept, once more.
-    KcalPerMol(ring_from(
-        rows,
-        counts,
-        strand_bonds,
-        scaffold_bonds,
-        potentials,
-        kept,
-        rt,
-        configuration,
-    ))
+    KcalPerMol(least)
 }

@@ -59,12 +59,17 @@ module _ (d : Design) (s : List ℕ) where
       let l : length s ≡ positions d = w .2 .places ∙ as-many d in
       rw (energy-reply (w .0) (w .1) l (friends-right d .states s l .1 (w .2))) refl
 
+  -- a configuration that is taken is a state
+  pub state-of : firstOf (ringEnergyChecks d s) ≡ Reply.Admitted → State (modelOf d) s
+  state-of e =
+      let own = none-holds (ownEnergyChecks d s) (passed (not (eqb (length s) (positions d))) d (ownEnergyChecks d s) (ownRingChecks d) e .own) in
+      friends-right d .states s (ring-passed d s (ownEnergyChecks d s) e .places) .0 (own .0)
+
   taken : ringEnergyAnswer d s .number ≡ 0 → Admitted d × (leastRing ≤ positions d) × State (modelOf d) s
   taken e =
       let e' = number-admitted (firstOf (ringEnergyChecks d s)) zero (ringEnergy (modelOf d) s) e in
       let p = ring-passed d s (ownEnergyChecks d s) e' in
-      let own = none-holds (ownEnergyChecks d s) (passed (not (eqb (length s) (positions d))) d (ownEnergyChecks d s) (ownRingChecks d) e' .own) in
-      (p .design, p .ring, friends-right d .states s (p .places) .0 (own .0))
+      (p .design, p .ring, state-of e')
 
 pub ring-energy-answered : RingEnergyAnswered
 ring-energy-answered d s = (taken d s, answered d s)

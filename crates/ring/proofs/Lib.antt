@@ -1,3 +1,4 @@
 pub mod Replies
 pub mod Shown
 pub mod Answered
+pub mod Finite

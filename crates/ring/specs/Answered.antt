@@ -1,10 +1,12 @@
--- What is shown of the answers on rings, of the definitions by which the contracts of the calls are stated: when the number is 0, and that the search's is
--- then demand 3's. proofs/Answered.antt shows it of every design, whatever is lent.
+-- What is shown of the answers on rings, of the definitions by which the contracts of the calls are stated: when the number is 0, that the search's is
+-- then demand 3's, and that every figure is finite. proofs/Answered.antt shows it of every design, whatever is lent.
 use mathlib.Core.Path.{_≡_}
 use mathlib.Core.Logic.{_↔_}
 use mathlib.Core.List.{List}
 use Prim.Native.Nat.{ℕ, _≤_}
 use lib.ListN.{length}
+use lib.Ieee.{binary64}
+use Rattle.doubles.specs.Size.{Within}
 use Rattle.model.specs.Model.{State}
 use Rattle.model.specs.Ring.{LowestRing}
 use Rattle.design.specs.Design.{Design, positions, modelOf}
@@ -27,3 +29,12 @@ pub record RingSearchAnswered (d : Design) (entries : List ℕ) : Type 0 where
 -- of every design and all that is lent
 abbrev pub RingSearchAnswers : Type 0
 RingSearchAnswers = (d : Design) (entries : List ℕ) → Doubles d → RingSearchAnswered d entries
+
+-- ---- every figure is finite, to whatever is sent: at most 385 bonds of at most 80,000, and RT of at most 8; a refusal has 0.0
+pub record RingFiguresFinite (d : Design) : Type 0 where
+  pub energies : (s : List ℕ) → Within binary64 246400000 (ringEnergyAnswer d s .figure)
+  pub searches : (entries : List ℕ) → Within binary64 246400000 (ringSearchAnswer d entries .figure)
+
+-- of every design, admitted or not
+abbrev pub RingsFinite : Type 0
+RingsFinite = (d : Design) → Doubles d → RingFiguresFinite d
