@@ -57,7 +57,7 @@ fn list_outside(many: usize, start: usize, length: usize) -> bool
 }
 
 // Whether there is not just one list for each position, or one leaves the numbers.
-pub(crate) fn wrong_lists(
+pub fn wrong_lists(
     positions: usize,
     numbers: &[u8],
     starts: &[usize],
