@@ -17,7 +17,7 @@ use reply::Refusal;
 use words::print_trade_word;
 
 // Where in a file the reason lies. Line 0 is nowhere; a word of no bytes is none.
-#[derive(Drop)]
+#[derive(Clone, Copy)]
 pub struct Spot {
     pub line: usize,
     pub start: usize,
@@ -25,7 +25,7 @@ pub struct Spot {
 }
 
 // How many states a design has, where that many are listed.
-#[derive(Drop)]
+#[derive(Clone, Copy)]
 pub enum States {
     Number(u64),
     TooMany,

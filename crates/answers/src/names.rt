@@ -5,7 +5,7 @@ use design::reads::byte_at;
 use statements::words::place_at;
 
 // Who sits at a place.
-#[derive(Drop)]
+#[derive(Clone, Copy)]
 pub(crate) enum Occupant {
     Nobody,
     // A user strand by its place in the file, from 0.

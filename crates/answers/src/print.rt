@@ -5,7 +5,7 @@ use design::reads::byte_at;
 use libc::STDOUT_FILENO;
 
 // Whom the output is for.
-#[derive(Drop)]
+#[derive(Clone, Copy)]
 pub enum Style {
     People,
     Json,

@@ -3,7 +3,7 @@ use crate::print::print;
 use statements::statement::Reason;
 
 // Each reason that is told.
-#[derive(Drop)]
+#[derive(Clone, Copy)]
 pub enum Why {
     // The file can't be had.
     NoSuchFile,

@@ -10,14 +10,14 @@ ghost use Rattle.ceiling.specs.inner.Passing.{UnderFrom};
 use prepared::sums::{Begun, begin, ended};
 
 // What is found: the energy of a state, or that there is none.
-#[derive(Drop)]
+#[derive(Clone, Copy)]
 pub enum Under {
     Energy(f64),
     Nothing,
 }
 
 // RT, and the most that a state energy may be.
-#[derive(Drop)]
+#[derive(Clone, Copy)]
 pub(crate) struct Limit {
     pub rt: f64,
     pub ceiling: f64,

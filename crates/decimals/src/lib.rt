@@ -22,7 +22,7 @@ const SIGN: u64 = 0x8000_0000_0000_0000;
 const UNPRINTABLE: u64 = 0x42a0_0000_0000_0000;
 
 // What a word of a design file is as a number, or why it is none.
-#[derive(Drop)]
+#[derive(Clone, Copy)]
 pub enum NumberAnswer {
     Number(f64),
     // No decimal, and no pattern of bits.
@@ -34,7 +34,7 @@ pub enum NumberAnswer {
 }
 
 // What became of a text that was to be printed.
-#[derive(Drop)]
+#[derive(Clone, Copy)]
 pub enum Printed {
     // Its length: it stands in the first lent bytes.
     Text(usize),

@@ -13,7 +13,7 @@ const TOO_MANY: u64 = 100_000_000_000_000_000;
 const TOO_HIGH: u64 = 1000;
 
 // The power of ten behind a decimal's digits.
-#[derive(Drop)]
+#[derive(Clone, Copy)]
 enum Exponent {
     Up(u64),
     Down(u64),

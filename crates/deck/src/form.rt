@@ -23,7 +23,7 @@ const STRAND_NUMBERS: u32 = 64;
 pub(crate) const POSITIONS: usize = 128;
 
 // Positions in a row with one occupant: a strand's number, or 0 for empty places. A run of 0 is nothing.
-#[derive(Drop)]
+#[derive(Clone, Copy)]
 pub struct Stretch {
     pub occupant: u8,
     pub run: usize,

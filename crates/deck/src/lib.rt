@@ -18,7 +18,7 @@ use reply::{Place, Refusal};
 const WORDS: usize = 129;
 
 // How a deck stores strands.
-#[derive(Drop)]
+#[derive(Clone, Copy)]
 pub enum DeckForm {
     // Document 01's form: a word for each strand.
     Singles,
@@ -49,7 +49,7 @@ impl DeckForm {
 }
 
 // What reading a deck answers.
-#[derive(Drop)]
+#[derive(Clone, Copy)]
 pub enum DeckRead {
     // The number of positions; the configuration stands in the first lent entries.
     Positions(usize),
@@ -58,7 +58,7 @@ pub enum DeckRead {
 }
 
 // What writing a deck answers.
-#[derive(Drop)]
+#[derive(Clone, Copy)]
 pub enum DeckWritten {
     // The number of words; the deck stands in the first lent words.
     Words(usize),
@@ -66,7 +66,7 @@ pub enum DeckWritten {
 }
 
 // What moving a deck into the other form answers.
-#[derive(Drop)]
+#[derive(Clone, Copy)]
 pub enum DeckMoved {
     // The number of words; the deck in the other form stands in the first lent words.
     Words(usize),

@@ -6,7 +6,7 @@ ghost use Rattle.deck.specs.Word.{kind_of, payload_of, word_of};
 const PAYLOADS: u32 = 0x1000_0000;
 
 // A kind, the top 4 bits, and a payload, the low 28.
-#[derive(Drop)]
+#[derive(Clone, Copy)]
 pub struct Word {
     pub kind: u32,
     pub payload: u32,

@@ -7,7 +7,7 @@ ghost use Rattle.ensemble.specs.inner.Entries.{Chosen, Known, table_bond, Keys, 
 use super::bonds::{strand_bond_at, wide};
 
 // One of several entries, and the energy that it was compared with.
-#[derive(Drop)]
+#[derive(Clone, Copy)]
 pub(crate) struct Attached {
     pub strand: u8,
     pub energy: f64,

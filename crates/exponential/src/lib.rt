@@ -17,14 +17,14 @@ const MOST: f64 = 80000.0;
 const LN2: u64 = 48775896626291;
 
 // A weight, or why there is none.
-#[derive(Drop)]
+#[derive(Clone, Copy)]
 pub enum WeightAnswer {
     Given(Weight),
     Refused(Refusal, Place),
 }
 
 // digits × 2^power / 2^30
-#[derive(Drop)]
+#[derive(Clone, Copy)]
 struct Raised {
     digits: u64,
     power: u64,

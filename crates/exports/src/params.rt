@@ -9,7 +9,7 @@ use sdc1d_params::{Build, Copied, Copies, Penalty};
 use units::{KcalPerMol, KcalPerMolKelvin};
 
 // The build that a number names.
-#[derive(Drop)]
+#[derive(Clone, Copy)]
 pub enum NamedBuild {
     Known(Build),
     Unknown,

@@ -12,7 +12,7 @@ use deck::{DeckForm, DeckMoved, DeckRead, DeckWritten};
 use reply::{Place, Refusal, Reply};
 
 // The form that a number names.
-#[derive(Drop)]
+#[derive(Clone, Copy)]
 pub enum NamedForm {
     Known(DeckForm),
     Unknown,

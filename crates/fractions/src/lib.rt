@@ -1,7 +1,7 @@
 // Fractions of whole numbers, the numbers that fractions close in on, and weights.
 
 // digits × 2^power. In form it has 31 digits: from 2^30 up to, not including, 2^31.
-#[derive(Drop)]
+#[derive(Clone, Copy)]
 pub struct Weight {
     pub digits: u32,
     pub power: i32,

@@ -15,7 +15,7 @@ const SEARCH: u32 = 9;
 const COUNT: u32 = 10;
 
 // A job.
-#[derive(Drop)]
+#[derive(Clone, Copy)]
 pub enum Job {
     // the state energy of the state at a rank
     EnergyAt(u64),

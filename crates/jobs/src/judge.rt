@@ -16,7 +16,7 @@ use units::Ambient;
 
 // The number of the checks of a design's tables; and where they pass, how many states it has, one past the limit where these are more, and the number
 // of the checks of its ambient and potentials.
-#[derive(Drop)]
+#[derive(Clone, Copy)]
 pub(crate) struct Judged {
     pub tables: u32,
     pub states: u64,

@@ -19,7 +19,7 @@ use reply::limits::POSITIONS;
 use units::{Ambient, KcalPerMol};
 
 // How many states there are, one past the limit where these are more; RT; and the energy of the lowest configuration.
-#[derive(Drop)]
+#[derive(Clone, Copy)]
 pub(crate) struct Settled {
     pub states: u64,
     pub rt: KcalPerMol,

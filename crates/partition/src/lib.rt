@@ -2,7 +2,7 @@
 // within one part in 2^15. Definitions and laws; the code is in `partition_sums`.
 
 // A number of 31 digits times a power of two, in units of which every term on the way is a whole number.
-#[derive(Drop)]
+#[derive(Clone, Copy)]
 pub struct Term {
     pub digits: u64,
     pub power: u64,

@@ -10,7 +10,7 @@ ghost use Rattle.prepared.specs.inner.Sums.{cell_of, joined_in, begun_in, ended_
 use units::KcalPerMol;
 
 // An occupant, and the state sum up to its scaffold bond. To the left of position 0 there is nobody, and the sum is 0.0.
-#[derive(Drop)]
+#[derive(Clone, Copy)]
 pub struct Begun {
     pub strand: u8,
     pub sum: f64,

@@ -10,7 +10,7 @@ use crate::setting::{set_byte, set_double};
 use doubles::double;
 
 // Its numbers from the start of each array, and how many of them are its own.
-#[derive(Drop)]
+#[derive(Clone, Copy)]
 pub(crate) struct Design {
     scaffold: [u8; 128],
     glues: [u8; 192],
@@ -25,7 +25,7 @@ pub(crate) struct Design {
 }
 
 // A design after a line that sets something, and whether it did.
-#[derive(Drop)]
+#[derive(Clone, Copy)]
 pub(crate) struct Step {
     pub(crate) design: Design,
     pub(crate) done: bool,

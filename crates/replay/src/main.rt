@@ -16,14 +16,14 @@ use kind::{Kind, kind_of};
 use libc::STDOUT_FILENO;
 
 // How many lines of each kind were compared, and how many of them differ.
-#[derive(Drop)]
+#[derive(Clone, Copy)]
 struct Tally {
     compared: [u64; 17],
     differ: [u64; 17],
 }
 
 // How far the list was replayed: what was counted, the design that lines have set, the number of the next line and the place where it starts.
-#[derive(Drop)]
+#[derive(Clone, Copy)]
 struct Progress {
     tally: Tally,
     design: Design,
@@ -120,7 +120,7 @@ fn counted(mut tally: Tally, kind: Kind, agreed: bool) -> Tally {
 }
 
 // What was counted, and the design, after a line.
-#[derive(Drop)]
+#[derive(Clone, Copy)]
 struct Replayed {
     tally: Tally,
     design: Design,

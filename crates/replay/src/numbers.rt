@@ -4,14 +4,14 @@ ghost use Rattle.std.specs.Prelude.{◌≡◌, true};
 ghost use Rattle.replay.specs.Text.{hex_text, Decimal, ReadHex, ReadDecimal, ReadByte};
 
 // A number of 64 bits, or a word that is none.
-#[derive(Drop)]
+#[derive(Clone, Copy)]
 pub(crate) enum Number {
     Is(u64),
     Malformed,
 }
 
 // A number of 8 bits, or a word that is none.
-#[derive(Drop)]
+#[derive(Clone, Copy)]
 pub(crate) enum Byte {
     Is(u8),
     Malformed,

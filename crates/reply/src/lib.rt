@@ -6,7 +6,7 @@ ghost use Rattle.reply.specs.Number.{number_of, reply_number};
 ghost use Rattle.reply.specs.First.{first_of, ◌if◌, ◌if◌at◌, ◌or_else◌};
 
 // Each with its trade word.
-#[derive(Drop)]
+#[derive(Clone, Copy)]
 pub enum Refusal {
     // size: a count, a length, a number or a glue outside its limits
     WrongSize,
@@ -55,14 +55,14 @@ pub enum Refusal {
 }
 
 // Where a refusal lies, for those that say so.
-#[derive(Drop)]
+#[derive(Clone, Copy)]
 pub enum Place {
     Nowhere,
     At(usize),
 }
 
 // What a call replies: its checks pass, or it refuses, and where the fault lies if the refusal says so.
-#[derive(Drop)]
+#[derive(Clone, Copy)]
 pub enum Reply {
     Admitted,
     Refused(Refusal, Place),

@@ -15,14 +15,14 @@ use sdc_common::table::number;
 const REF: usize = 0;
 
 // What an entry is for, by the numbers of the names: one name, or a pair. 0 is a name that is not known.
-#[derive(Drop)]
+#[derive(Clone, Copy)]
 pub(crate) enum RefOrPair {
     Ref(usize),
     Pair(usize, usize),
 }
 
 // A row and a column; 0 where a name is not known.
-#[derive(Drop)]
+#[derive(Clone, Copy)]
 pub(crate) struct RowColumn(usize, usize);
 
 // What an entry is for, out of the mark of its second name and the numbers of both.

@@ -30,14 +30,14 @@ const LONGEST: usize = 256;
 const SHORTEST: usize = 2;
 
 // An entry's energy: two doubles, or a sequence by its start and length in the text.
-#[derive(Drop)]
+#[derive(Clone, Copy)]
 pub(crate) enum GsOrSeq {
     Given(f64, f64),
     Sequence(usize, usize),
 }
 
 // dG and dS of an entry.
-#[derive(Drop)]
+#[derive(Clone, Copy)]
 pub(crate) struct Gs(pub(crate) KcalPerMol, pub(crate) KcalPerMolKelvin);
 
 // Entry i, out of its row of eight numbers and its two doubles.

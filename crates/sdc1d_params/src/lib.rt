@@ -23,35 +23,35 @@ use units::{KcalPerMol, KcalPerMolKelvin};
 const MOST_POSITIONS: usize = 128;
 
 // Which names are taken: an ordinary build refuses strand and entry names that end in two or more stars, the archive's takes old designs.
-#[derive(Drop)]
+#[derive(Clone, Copy)]
 pub enum Build {
     Ordinary,
     Archive,
 }
 
 // The junction penalty, which is added to both numbers of every entry.
-#[derive(Drop)]
+#[derive(Clone, Copy)]
 pub struct Penalty {
     pub dg: KcalPerMol,
     pub ds: KcalPerMolKelvin,
 }
 
 // Whose glues the quencher or the reporter copies: no strand's, or those of a user strand, which are numbered from 1.
-#[derive(Drop)]
+#[derive(Clone, Copy)]
 pub enum Copied {
     Nothing,
     Strand(usize),
 }
 
 // Whose glues the quencher and the reporter copy.
-#[derive(Drop)]
+#[derive(Clone, Copy)]
 pub struct Copies {
     pub quencher: Copied,
     pub reporter: Copied,
 }
 
 // An energy entry as it is lent: its first name, its second where it is for a pair, and its energy in one of two forms.
-#[derive(Drop)]
+#[derive(Clone, Copy)]
 pub struct Entry {
     pub first_start: usize,
     pub first_size: usize,

@@ -9,7 +9,7 @@ use crate::{Copied, Copies};
 use sdc_common::strand_glues;
 
 // West, bottom and east of a strand.
-#[derive(Drop)]
+#[derive(Clone, Copy)]
 struct Sides(u8, u8, u8);
 
 // The three glues of one strand.

@@ -19,14 +19,14 @@ const MOST_STRANDS: usize = 61;
 pub const MOST_BASES: usize = 31;
 
 // A name's base, by its start and length, and whether the name stands for the base or for base*; or why there is none.
-#[derive(Drop)]
+#[derive(Clone, Copy)]
 pub enum NameAnswer {
     Given(usize, usize, bool),
     Refused(Refusal),
 }
 
 // How many base names the strands use, or why no names were numbered.
-#[derive(Drop)]
+#[derive(Clone, Copy)]
 pub enum NumbersAnswer {
     Given(usize),
     Refused(Refusal),

@@ -13,7 +13,7 @@ pub const PRESENT: usize = 1;
 const LONGEST: usize = 64;
 
 // A name as it is lent: whether it is there, and its part of the text.
-#[derive(Drop)]
+#[derive(Clone, Copy)]
 pub struct LentName {
     pub mark: usize,
     pub start: usize,

@@ -3,7 +3,7 @@ use crate::reads::tail;
 use answers::reasons::Why;
 
 // What became of a file that was to be read.
-#[derive(Drop)]
+#[derive(Clone, Copy)]
 pub(crate) enum FileRead {
     // How many; they stand first in the lent bytes.
     Bytes(usize),
@@ -11,7 +11,7 @@ pub(crate) enum FileRead {
 }
 
 // What one call of read gave.
-#[derive(Drop)]
+#[derive(Clone, Copy)]
 enum Step {
     More(usize),
     End,

@@ -3,7 +3,7 @@ use design::reads::byte_at;
 use statements::words::{Word, is_blank};
 
 // Where a walk over the text is: the line, how many words have begun on it, and the last of them.
-#[derive(Drop)]
+#[derive(Clone, Copy)]
 struct Walk {
     line: usize,
     begun: usize,

@@ -18,7 +18,7 @@ use statements::words::{Word, place_at};
 use utils::{DgDsAnswer, string_dna_dg_ds};
 
 // Where it lies, and why.
-#[derive(Drop)]
+#[derive(Clone, Copy)]
 pub(crate) struct Found {
     pub(crate) spot: Spot,
     pub(crate) why: Why,
@@ -123,7 +123,7 @@ fn member_row(kinds: &[u8], group: u8, member: usize) -> usize {
 // ---- size
 
 // The words of a row that are names of glues, from one up to before another.
-#[derive(Drop)]
+#[derive(Clone, Copy)]
 struct Slots(usize, usize);
 
 // Which words of a strand's or an entry's row are names of glues.

@@ -18,7 +18,7 @@ const MOST_POSITIONS: usize = 128;
 const MOST_ENTRIES: usize = 1024;
 
 // What is wrong with a file's rows, or how many strands, positions and entries there are.
-#[derive(Drop)]
+#[derive(Clone, Copy)]
 pub enum SheetAnswer {
     // Nothing is wrong: how many strands, positions and entries there are.
     Whole(usize, usize, usize),

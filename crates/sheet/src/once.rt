@@ -10,7 +10,7 @@ use statements::grammar::{KELVIN, PENALTY};
 use statements::words::Word;
 
 // The ambient as a file gives it.
-#[derive(Drop)]
+#[derive(Clone, Copy)]
 pub enum Ambient {
     Kelvin(f64),
     // RT, strand excess and scaffold excess.
@@ -19,7 +19,7 @@ pub enum Ambient {
 }
 
 // The junction penalty: dG and dS.
-#[derive(Drop)]
+#[derive(Clone, Copy)]
 pub struct Penalty(pub f64, pub f64);
 
 // Number j of the first row of a group, or 0.0.

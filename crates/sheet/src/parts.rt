@@ -13,7 +13,7 @@ use statements::grammar::{
 use statements::words::Word;
 
 // Which words of a row are wanted.
-#[derive(Drop)]
+#[derive(Clone, Copy)]
 pub(crate) enum Part {
     // West, bottom and east of a strand.
     Glues,

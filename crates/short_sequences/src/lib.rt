@@ -17,7 +17,7 @@ pub const BASES: usize = 8;
 const LETTERS: [u8; 4] = [b'a', b'c', b'g', b't'];
 
 // What the call answers.
-#[derive(Drop)]
+#[derive(Clone, Copy)]
 pub enum SequenceAnswer {
     // The number of bases; the sequence stands in the first lent bytes.
     Bases(usize),

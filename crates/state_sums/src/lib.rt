@@ -24,7 +24,7 @@ use units::Ambient;
 const OPTIONS: usize = 8192;
 
 // A sum, or why there is none.
-#[derive(Drop)]
+#[derive(Clone, Copy)]
 pub enum SumAnswer {
     Sum(Weight),
     Refused(Refusal, Place),

@@ -46,7 +46,7 @@ pub const BLOCKED: u8 = 11;
 pub(crate) const UNKNOWN: u8 = 12;
 
 // What a word after the keyword has to be, and the slot of the row that it fills.
-#[derive(Drop)]
+#[derive(Clone, Copy)]
 pub enum Item {
     Number(usize),
     // Any word but `-`.

@@ -15,7 +15,7 @@ use words::Word;
 const LONGEST: usize = 1048576;
 
 // What reading a text answers.
-#[derive(Drop)]
+#[derive(Clone, Copy)]
 pub enum ReadAnswer {
     // The number of rows; they stand first in the lent slices.
     Rows(usize),

@@ -28,7 +28,7 @@ fn count_words(line: &[u8], at: usize) -> usize
 }
 
 // How many rows a line has, or its fault.
-#[derive(Drop)]
+#[derive(Clone, Copy)]
 pub enum Count {
     Rows(usize),
     Fault(Word, Reason),

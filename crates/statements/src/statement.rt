@@ -10,7 +10,7 @@ use decimals::{NumberAnswer, read_number};
 use sdc_common::names::same_bytes;
 
 // Why a line can't be read.
-#[derive(Drop)]
+#[derive(Clone, Copy)]
 pub enum Reason {
     NoSuchStatement,
     TooFewWords,
@@ -27,7 +27,7 @@ pub enum Reason {
 }
 
 // What a line turned out to be.
-#[derive(Drop)]
+#[derive(Clone, Copy)]
 pub enum Outcome {
     // A line without words.
     Nothing,
@@ -39,7 +39,7 @@ pub enum Outcome {
 }
 
 // What a line holds. The kind, and the slots of the row, count where the outcome is `Whole`.
-#[derive(Drop)]
+#[derive(Clone, Copy)]
 pub struct Statement {
     pub outcome: Outcome,
     pub kind: u8,

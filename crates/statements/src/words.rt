@@ -4,7 +4,7 @@ ghost use Rattle.std.proofs.Math.Option.{some};
 ghost use Rattle.statements.specs.Words.{is_blank, scan, words_in, Next, Inside, spelled, line_of, lines_from};
 
 // A word by its place in the text. Words have a byte at least: a size of 0 stands for no word.
-#[derive(Drop)]
+#[derive(Clone, Copy)]
 pub struct Word {
     pub start: usize,
     pub size: usize,

@@ -7,15 +7,15 @@ ghost use Rattle.units.specs.Ambient.{ambient_figures, ambient_at};
 use reply::Refusal;
 
 // A temperature, or a difference of two.
-#[derive(Drop)]
+#[derive(Clone, Copy)]
 pub struct Kelvin(pub f64);
 
 // An energy: dG, or RT.
-#[derive(Drop)]
+#[derive(Clone, Copy)]
 pub struct KcalPerMol(pub f64);
 
 // An entropy: dS, or the gas constant.
-#[derive(Drop)]
+#[derive(Clone, Copy)]
 pub struct KcalPerMolKelvin(pub f64);
 
 impl Kelvin {
@@ -107,7 +107,7 @@ const LOWEST_KELVIN: f64 = 200.0;
 const HIGHEST_KELVIN: f64 = 500.0;
 
 // Document 01's ambient, in which a design is judged: RT, and the excess over 37 °C between strands and between strand and scaffold.
-#[derive(Drop)]
+#[derive(Clone, Copy)]
 pub struct Ambient {
     pub rt: KcalPerMol,
     pub strand_excess: Kelvin,
@@ -115,7 +115,7 @@ pub struct Ambient {
 }
 
 // An ambient, or why there is none.
-#[derive(Drop)]
+#[derive(Clone, Copy)]
 pub enum AmbientAnswer {
     Given(Ambient),
     Refused(Refusal),

@@ -4,7 +4,7 @@ ghost use Rattle.lists.specs.Find.{first_index};
 ghost use Rattle.utils.specs.Bases.{is_base, not_a_base, base_of, complement, complementary, index_of};
 
 // The bases in the Rust's order, in which its tables stand.
-#[derive(Drop)]
+#[derive(Clone, Copy)]
 pub(crate) enum DnaNucleotideBase {
     A,
     T,

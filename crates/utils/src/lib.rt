@@ -60,21 +60,21 @@ const LOWEST_EXCESS: f64 = -1024.0;
 const HIGHEST_EXCESS: f64 = 1024.0;
 
 // dG and dS, or why there are none.
-#[derive(Drop)]
+#[derive(Clone, Copy)]
 pub enum DgDsAnswer {
     Given(KcalPerMol, KcalPerMolKelvin),
     Refused(Refusal),
 }
 
 // An energy, or why there is none.
-#[derive(Drop)]
+#[derive(Clone, Copy)]
 pub enum DgAnswer {
     Given(KcalPerMol),
     Refused(Refusal),
 }
 
 // dG and dS so far, the bad windows in a row up to here, and whether some loop so far has no energy.
-#[derive(Drop)]
+#[derive(Clone, Copy)]
 struct Sums {
     dg: KcalPerMol,
     ds: KcalPerMolKelvin,

@@ -66,7 +66,7 @@ const LENGTHS: [usize; 15] = [3, 4, 5, 6, 7, 8, 9, 10, 12, 14, 16, 18, 20, 25, 3
 const GAIN: u64 = 13545464151244108;
 
 // The kinds of loop, in the order of LOOP_TABLE's rows.
-#[derive(Drop)]
+#[derive(Clone, Copy)]
 pub(crate) enum LoopKind {
     Internal,
     Bulge,
@@ -74,7 +74,7 @@ pub(crate) enum LoopKind {
 }
 
 // dG and dS of some windows.
-#[derive(Drop)]
+#[derive(Clone, Copy)]
 pub(crate) struct DgDs(pub(crate) KcalPerMol, pub(crate) KcalPerMolKelvin);
 
 impl LoopKind {
