@@ -1,4 +1,5 @@
 // What is printed of a design file: its settled configuration, a refusal, or why it can't be read.
+#![tactic(auto)]
 mod draw;
 mod names;
 pub mod print;

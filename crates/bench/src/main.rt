@@ -1,5 +1,6 @@
 // Document 01's bench table, the lines that are run rather than proved, and the worked examples of the paper and of rgrow's
 // documentation. Each answer is compared bit for bit with the sum that the line gives; the file stdout holds what must be written.
+#![tactic(auto)]
 use design::answers::CountAnswer;
 use reply::{Refusal, Reply};
 use sdc1d_params::{Build, Copied, Copies, Penalty};

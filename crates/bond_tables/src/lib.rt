@@ -2,6 +2,7 @@
 // cells where the same calls over a design work the bonds out.
 //
 // A design is lent as sdc1d takes it. After it come the strand bonds, strands by strands, and the scaffold bonds, positions by strands, row first.
+#![tactic(auto)]
 mod checks;
 mod terms;
 

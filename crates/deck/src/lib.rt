@@ -1,4 +1,5 @@
 // Stored configurations: the archive's deck of words, read and written.
+#![tactic(auto)]
 mod form;
 mod reading;
 pub mod word;

@@ -32,7 +32,7 @@ module _ {A : Type 0} (p : A → Bool) where
   pub mem-keep : {x : A} {xs : List A} → p x ≡ true → Memᴰ x xs → Memᴰ x (keep p xs)
   unfolding keep
   mem-keep {x} {xs = []} e m = absurd (Memᴰ.not-nil m)
-  mem-keep {x} {xs = y ∷ ys} e m = go (p y) refl (Memᴰ.cases_cons m) (λ l. mem-keep e l)
+  mem-keep {x} {xs = y ∷ ys} e m = go (p y) refl (Memᴰ.cases_cons m) (λ l. mem-keep {xs = ys} e l)
     where
       go : (b : Bool) → p y ≡ b → (x ≡ y) ⊎ Memᴰ x ys → (Memᴰ x ys → Memᴰ x (keep p ys)) → Memᴰ x (cond b (y ∷ keep p ys) (keep p ys))
       go true f (inl h) rest = Memᴰ.head h
@@ -43,7 +43,7 @@ module _ {A : Type 0} (p : A → Bool) where
   pub of-keep : {x : A} {xs : List A} → Memᴰ x (keep p xs) → (p x ≡ true) × Memᴰ x xs
   unfolding keep
   of-keep {x} {xs = []} m = absurd (Memᴰ.not-nil m)
-  of-keep {x} {xs = y ∷ ys} m = go (p y) refl m (λ l. of-keep l)
+  of-keep {x} {xs = y ∷ ys} m = go (p y) refl m (λ l. of-keep {xs = ys} l)
     where
       go : (b : Bool) → p y ≡ b → Memᴰ x (cond b (y ∷ keep p ys) (keep p ys)) → (Memᴰ x (keep p ys) → (p x ≡ true) × Memᴰ x ys) → (p x ≡ true) × Memᴰ x (y ∷ ys)
       go true f m rest = elim (Memᴰ.cases_cons m) [

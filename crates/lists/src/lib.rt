@@ -1,1 +1,2 @@
 // Definitions and laws on lists that several crates cite.
+#![tactic(auto)]

@@ -1,4 +1,5 @@
 // The natural logarithm, near the exact one, which specs/Logarithm.antt defines by fractions.
+#![tactic(auto)]
 ghost use Rattle.std.specs.Prelude.{◌≡◌, ◌+◌, ◌-◌, ◌*◌, ◌/◌, ◌^◌, ◌<◌, ◌≤◌};
 ghost use Rattle.logarithm.specs.Figure.{mul_units, ln_series, ln_reduced, ln_ratio, ln_whole};
 

@@ -1,6 +1,7 @@
 // Replays the list of the Rust's answers, data/answers, whose head says how a line is written and which command made it. Each
 // question is asked of the port again, and a line that does not say what the port answers, bit for bit, is a difference; so is a
 // line that is not written as the head says. Then it replays data/false, whose every answer was falsified, and has to report each.
+#![tactic(auto)]
 mod about;
 mod designs;
 mod kind;

@@ -1,4 +1,5 @@
 // Glue tables from names and energies, as `from_params` of sdc1d.rs builds them.
+#![tactic(auto)]
 mod building;
 mod cells;
 mod checks;

@@ -1,4 +1,5 @@
 // Names of glues, as sdc_common.rs reads them, and their numbers.
+#![tactic(auto)]
 pub mod names;
 pub mod retired;
 pub mod table;

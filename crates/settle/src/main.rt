@@ -2,6 +2,7 @@
 //
 // The first argument is --people or --json, the second --ordinary or --archive, the rest are names of files. A program has no exit status: whether all files were answered goes
 // to descriptor 3, as 0 or 1, where the script `settle` reads it.
+#![tactic(auto)]
 mod build;
 mod file;
 mod lines;

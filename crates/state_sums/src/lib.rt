@@ -1,6 +1,7 @@
 // The sums over the states of a design, over weights that are lent: the free sum over all states, and the constrained sum over those that lists of
 // allowed occupants leave. A weight is a whole number of 31 digits times a power of two, one for each position and strand, and one for each left
 // and right strand.
+#![tactic(auto)]
 mod sizes;
 
 ghost use Rattle.std.specs.Prelude.{◌≡◌, ◌*◌, ◌<◌, ◌≤◌, length};

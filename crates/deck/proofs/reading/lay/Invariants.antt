@@ -1,0 +1,17 @@
+-- `deck::reading::lay` meets its contract. The loop's invariant: what is still to store, stored, gives the whole. Assumes nothing.
+use mathlib.Core.Path.{◌≡◌, refl, sym, ◌∙◌}
+use Prim.Native.Nat.{◌≤◌, ◌-◌, ◌+◌}
+use native.Mathlib.Omega.{arith}
+use lib.ListN.{length, replicate, length-set}
+use lib.Seq.{sets}
+use borrow.Author.Rules.{rules}
+use Rattle.lists.proofs.Front.{sets-run, sets-none}
+use Rattle.deck.proofs.reading.lay.Given as goal
+
+abbrev pub invariant-loop-i : goal.invariant-loop-i
+invariant-loop-i l =
+    (l.at ≤ l.i) × (l.i ≤ l.end) × (l.end ≤ length l.entries) × (length l.entries ≡ length l.initial.entries)
+    × (sets l.entries l.i (replicate (l.end - l.i) l.occupant) ≡ sets l.initial.entries l.at (replicate (l.end - l.at) l.occupant))
+
+abbrev pub decreases-loop-i : goal.decreases-loop-i
+decreases-loop-i l = length l.entries - l.i

@@ -1,0 +1,23 @@
+-- `deck::reading::unpack` meets its contract. The loop's invariant: the stretches still to come, laid out from here on, give the whole.
+-- Assumes nothing.
+use mathlib.Core.Path.{◌≡◌, refl, ◌∙◌}
+use mathlib.Core.List.{map}
+use Prim.Native.Nat.{◌-◌, ◌+◌}
+use native.Mathlib.Omega.{arith}
+use lib.ListN.{length, drop}
+use lib.Seq.{sets}
+use borrow.Author.Rules.{rules}
+use Rattle.deck.specs.Forms.{form_of}
+use Rattle.deck.specs.Deck.{configuration_of, laid_out}
+use Rattle.deck.proofs.Decks.{configuration-few}
+use Rattle.deck.proofs.Laying.{laid-past, laid-length, laid_more}
+use Rattle.deck.proofs.reading.unpack.Given as goal
+
+abbrev pub invariant-loop-i : goal.invariant-loop-i
+invariant-loop-i l =
+    let rest = laid_out (map (form_of l.form).stretch_of (drop l.i l.words)) in
+    (length l.entries ≡ length l.initial.entries) × (l.at + length rest ≡ length (configuration_of (form_of l.form) l.words))
+    × (sets l.entries l.at rest ≡ sets l.initial.entries 0 (configuration_of (form_of l.form) l.words))
+
+abbrev pub decreases-loop-i : goal.decreases-loop-i
+decreases-loop-i l = length l.words - l.i

@@ -1,0 +1,6 @@
+-- `bond` meets its contract: each step is what its method ensures. Assumes nothing.
+use borrow.Author.Rules.{rules}
+use Rattle.design.proofs.bonds.bond.Goals as goal
+
+pub returns : goal.returns
+returns c = cc

@@ -1,0 +1,27 @@
+-- The range test of the cells meets its contract. The invariant, for each table: some cell is out if one was counted or one is left. Assumes nothing.
+use mathlib.Core.Path.{◌≡◌, refl, sym, ap, ◌∙◌}
+use mathlib.Core.Bool.{Bool, true, false, not, ◌||◌}
+use mathlib.Core.List.{List}
+use mathlib.Core.Logic.{inl, inr}
+use Prim.Native.Nat.{ℕ, ◌+◌, ◌<◌, ◌≤◌, ◌-◌}
+use native.Mathlib.Omega.{arith}
+use lib.Dec.{ltb}
+use lib.ListN.{length, get_or}
+use lib.Ieee.{Float, nan, neg, of_bits}
+use borrow.Author.Rules.{rules}
+use borrow.Author.Tests.{lt-ltb, le-ltb}
+use Rattle.doubles.specs.Decimal.{nearest}
+use Rattle.lists.specs.Find.{any}
+use Rattle.lists.proofs.Any.{CountedOrLeft, here, later, past}
+use Rattle.design.specs.Checks.{beyond, cells_out}
+use Rattle.design.proofs.checks.cells_out.Given as goal
+
+-- one table: how many of the cells passed are out
+abbrev pub Counted : ℕ → List Float → ℕ → ℕ → Type 0
+Counted most cells i count = (count ≤ i) × CountedOrLeft (beyond most) cells i count
+
+abbrev pub invariant-loop-i : goal.invariant-loop-i
+invariant-loop-i l = (l.i ≤ length l.dg) × Counted 1024 l.dg l.i l.dg_out × Counted 8 l.ds l.i l.ds_out
+
+abbrev pub decreases-loop-i : goal.decreases-loop-i
+decreases-loop-i l = length l.dg - l.i

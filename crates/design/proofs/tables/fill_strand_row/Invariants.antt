@@ -1,0 +1,18 @@
+-- The filling of a row of bonds meets its contract. The invariant: the first cells are stored. Assumes nothing.
+use mathlib.Core.Path.{◌≡◌, ap, ◌∙◌}
+use mathlib.Core.List.{List}
+use Prim.Native.Nat.{◌-◌, ◌<◌, ◌≤◌}
+use native.Mathlib.Omega.{arith}
+use lib.ListN.{length, set}
+use lib.Ieee.{Float}
+use borrow.Author.Rules.{rules}
+use Rattle.lists.proofs.Counted.{stored, stored-none, stored-length, stored_more, stored-whole}
+use Rattle.design.specs.Design.{strand_bond}
+use Rattle.design.proofs.tables.fill_strand_row.Given as goal
+
+abbrev pub invariant-loop-y : goal.invariant-loop-y
+invariant-loop-y l =
+    (l.y ≤ length l.initial.row) × (l.row ≡ stored (strand_bond l.glues l.dg l.ds l.ambient l.x) l.y l.initial.row)
+
+abbrev pub decreases-loop-y : goal.decreases-loop-y
+decreases-loop-y l = length l.initial.row - l.y

@@ -1,0 +1,29 @@
+use borrow.Author.Rules.{rules}
+use mathlib.Core.Path.{◌≡◌, refl, sym, ap, ◌∙◌}
+use Prim.Native.Nat.{◌≤◌, ◌+◌, ◌-◌}
+use native.Mathlib.Omega.{arith}
+use lib.ListN.{length, drop}
+use lib.Ieee.{Float, of_bits}
+use Rattle.doubles.specs.Sum.{sum_from}
+use Rattle.model.specs.Model.{Model}
+use Rattle.model.specs.Energy.{left_of, chain_terms, chain_energy}
+use Rattle.model.proofs.Sums.{chain_more, chain-done}
+use Rattle.ensemble.specs.Layout.{PlaceTerms}
+use Rattle.ensemble.proofs.energies.chain_sum.Goals as goal
+
+pub loop-position-init : goal.loop-position-init
+unfolding of_bits chain_energy
+loop-position-init c = (omega arith, λ m t. refl)
+
+pub loop-position-preserved : goal.loop-position-preserved
+loop-position-preserved c =
+    let l = c.loop-position in
+    let s = c.args.configuration.now in (
+      omega arith,
+      λ m t.
+          let rest : Float → Float = λ sum. sum_from sum (chain_terms m (l.position + 1) (left_of s (l.position + 1)) (drop (l.position + 1) s)) in
+          l.invariant.1 m t ∙ chain_more m s l.sum l.position c.loop-position-test.true ∙ ap rest (sym (c.chain_place-sum.ensures m t)),
+    )
+
+pub returns : goal.returns
+returns c = λ m t. sym (c.loop-position.invariant.1 m t ∙ chain-done m c.args.configuration.now c.loop-position.sum c.loop-position.position c.loop-position-test.false)

@@ -1,0 +1,34 @@
+-- The search meets its contract. The invariant: the entries of the last position passed, and the left choices of all. Assumes nothing.
+use mathlib.Core.Path.{◌≡◌, refl, sym, ap, ◌∙◌}
+use Prim.Native.Nat.{ℕ, ◌≤◌, ◌<◌, ◌+◌, ◌-◌, ◌*◌}
+use native.Mathlib.Nat.{not-suc-le-zero}
+use native.Mathlib.Omega.{arith}
+use lib.ListN.{length, length-set}
+use borrow.Author.Count.{below_none}
+use borrow.Author.Rules.{rules}
+use Rattle.model.specs.Model.{Model, positions}
+use Rattle.model.specs.Search.{options_at}
+use Rattle.ensemble.specs.Layout.{OptionRows, BondCells}
+use Rattle.ensemble.specs.inner.Entries.{Known, choice_in, LowTable, traced_back}
+use Rattle.ensemble.proofs.Vector.{Left}
+use Rattle.ensemble.proofs.Lent.{part, bounds, known-friends, known-options, friends-length, friends-part, options-part, part_length, row_in, row-length, row_at, table-zeros, table-low, Wide, wide-zeros, wide-more}
+use Rattle.ensemble.proofs.Positions.{Table, own-options, left-more, table_more, found}
+use Rattle.ensemble.proofs.lowest.lowest.Given as goal
+
+abbrev pub invariant-loop-position : goal.invariant-loop-position
+invariant-loop-position l =
+    (l.position ≤ length l.counts)
+    × (length l.choice ≡ 128)
+    × (length l.empty ≡ 128)
+    × (length l.energies ≡ 64)
+    × (length l.best ≡ 64)
+    × (l.start ≤ l.end)
+    × (l.end ≤ length l.rows)
+    × (l.end ≤ l.start + 64)
+    × Known (length l.potentials) (part l.rows l.start l.end)
+    × LowTable l.choice l.empty
+    × Wide l.choice
+    × ((m : Model) → OptionRows m l.rows l.counts → BondCells m (length l.potentials) l.strand_bonds l.scaffold_bonds l.potentials → Left m (options_at m) l.position (part l.rows l.start l.end) l.energies × Table m (options_at m) l.position l.choice l.empty)
+
+abbrev pub decreases-loop-position : goal.decreases-loop-position
+decreases-loop-position l = length l.counts - l.position

@@ -1,0 +1,21 @@
+-- The choice at the last position meets its contract. The invariant: of the strands before k, the one kept, with its product. Assumes nothing.
+use mathlib.Core.Path.{◌≡◌, sym, ap, ◌∙◌}
+use mathlib.Core.Logic.{inl, inr}
+use Prim.Native.Nat.{ℕ, ◌≤◌, ◌<◌, ◌-◌}
+use native.Mathlib.Omega.{arith}
+use lib.ListN.{length, get_or}
+use lib.Ieee.{Float, nan, binary64, mul, of_bits}
+use borrow.Author.Rules.{rules}
+use Rattle.doubles.specs.Least.{or_earlier}
+use Rattle.ensemble.proofs.Choosing.{Kept, kept-first, kept_more, kept-chosen, none-chosen, earlier-stays, earlier-moves}
+use Rattle.ensemble.proofs.lowest.lowest_product.Given as goal
+
+abbrev pub invariant-loop-k : goal.invariant-loop-k
+invariant-loop-k l =
+    (1 ≤ l.k)
+    × (l.k ≤ length l.last)
+    × (l.strand < 64)
+    × ((key : ℕ → Float) → ((j : ℕ) → j < length l.last → mul binary64 (get_or l.energies j nan) l.factor ≡ key (get_or l.last j 0)) → Kept (or_earlier key) key l.last l.k l.strand l.energy)
+
+abbrev pub decreases-loop-k : goal.decreases-loop-k
+decreases-loop-k l = length l.last - l.k

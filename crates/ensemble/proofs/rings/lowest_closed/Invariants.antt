@@ -1,0 +1,23 @@
+-- The choice at the last position of a ring meets its contract. The invariant: of the strands before k, the one kept, with its product. Assumes nothing.
+use mathlib.Core.Path.{◌≡◌, sym, ap, ◌∙◌}
+use mathlib.Core.Logic.{inl, inr}
+use Prim.Native.Nat.{ℕ, ◌≤◌, ◌<◌, ◌-◌}
+use native.Mathlib.Omega.{arith}
+use lib.ListN.{length, get_or}
+use lib.Ieee.{Float, nan, binary64, mul}
+use borrow.Author.Rules.{rules}
+use Rattle.doubles.specs.Least.{or_earlier}
+use Rattle.ensemble.specs.inner.Entries.{table_bond}
+use Rattle.ensemble.specs.inner.Ring.{closed_in}
+use Rattle.ensemble.proofs.Choosing.{Kept, kept-first, kept_more, kept-chosen, earlier-stays, earlier-moves}
+use Rattle.ensemble.proofs.rings.lowest_closed.Given as goal
+
+abbrev pub invariant-loop-k : goal.invariant-loop-k
+invariant-loop-k l =
+    (1 ≤ l.k)
+    × (l.k ≤ length l.last)
+    × (l.strand < 64)
+    × ((key : ℕ → Float) → ((j : ℕ) → j < length l.last → mul binary64 (closed_in (table_bond l.strands l.strand_bonds) l.first (get_or l.last j 0) (get_or l.energies j nan)) l.factor ≡ key (get_or l.last j 0)) → Kept (or_earlier key) key l.last l.k l.strand l.energy)
+
+abbrev pub decreases-loop-k : goal.decreases-loop-k
+decreases-loop-k l = length l.last - l.k

@@ -1,0 +1,403 @@
+use mathlib.Core.Path.{◌≡◌, refl, sym, ap, ◌∙◌, subst}
+use Prim.Native.Nat.{ℕ, ◌≤◌, ◌<◌, ◌+◌, ◌-◌, ◌*◌}
+use native.Mathlib.Omega.{arith}
+use lib.ListN.{length, get_or, replicate, length-set}
+use borrow.Author.Rules.{rules}
+use Rattle.model.specs.Model.{Model, positions}
+use Rattle.model.specs.Ring.{with_first}
+use Rattle.ensemble.specs.Layout.{OptionRows, BondCells}
+use Rattle.ensemble.specs.inner.Entries.{Known, choice_in, LowTable, traced_back}
+use Rattle.ensemble.specs.inner.Ring.{FoundFrom}
+use Rattle.ensemble.proofs.Vector.{Left}
+use Rattle.ensemble.proofs.Lent.{part, bounds, known-friends, known-options, friends-length, friends-part, options-part, part_length, row_in, row-length, row_at, table-zeros, table-low, Wide, wide-zeros, wide-more}
+use Rattle.ensemble.proofs.Positions.{Table, left-more, table_more}
+use Rattle.ensemble.proofs.Ringed.{ring-options, later-options, part-one, part-some, one-row, row_small, first-known, known-one, first-option, first_member, left-first, table-first, no-choices, found_first}
+use Rattle.ensemble.proofs.rings.ring_from.Goals as goal
+
+pub bounds-rows-option : goal.bounds-rows-option
+bounds-rows-option c = let s = c.requires in let few = s.searchable.readable.few 0 s.counts_nonzero in let sized = s.0.readable.sized in let some = s.1.1.1.1.0 in let h = s.1.1.1.1.1 in omega arith
+
+pub first_entry-requires : goal.first_entry-requires
+first_entry-requires c =
+    let s = c.requires in
+    record {
+      strand_in_bounds = first-known s.searchable s.counts_nonzero s.option_bound;
+      potentials_in_bounds = one-row (length c.args.potentials.now) (length c.args.counts.now) s.counts_nonzero s.potentials_in_bounds_2;
+    }
+
+pub bounds-energies-0 : goal.bounds-energies-0
+bounds-energies-0 c = omega arith
+
+pub overflow_add-end : goal.overflow_add-end
+overflow_add-end c = let s = c.requires in let few = s.searchable.readable.few 0 s.counts_nonzero in let h = s.1.1.1.1.1 in omega arith
+
+pub loop-position-init : goal.loop-position-init
+loop-position-init c =
+    let s = c.requires in
+    let a = c.args in
+    let some = s.1.1.1.1.0 in
+    let h = s.1.1.1.1.1 in
+    let few = s.searchable.readable.few 0 some in
+    let sized = s.0.readable.sized in
+    let inside : a.option < length a.rows.now = omega arith in (
+      omega arith,
+      refl,
+      refl,
+      refl,
+      refl,
+      omega arith,
+      omega arith,
+      omega arith,
+      rw (part-one a.rows.now a.option inside) (known-one (first-known s.searchable some h)),
+      table-zeros 128 64 128,
+      wide-zeros 128,
+      λ m o b.
+          let in-model : 0 < positions m = rw (sym o.positions) some in
+          let f = first_member o in-model h in (
+            left-first m (get_or a.rows.now a.option 0) f b in-model (part a.rows.now a.option (a.option + 1)) _ (part-one a.rows.now a.option inside) c.first_entry.ensures,
+            table-first m (get_or a.rows.now a.option 0) f (replicate 128 (replicate 64 0)) (replicate 128 0) (no-choices 128 64 127),
+          ),
+      omega arith,
+    )
+
+pub overflow_mul-first : goal.overflow_mul-first
+overflow_mul-first c =
+    let b = bounds c.requires.searchable c.loop-position.position c.loop-position-test.true in
+    omega arith
+
+pub overflow_add-empty_at : goal.overflow_add-empty_at
+overflow_add-empty_at c =
+    let b = bounds c.requires.searchable c.loop-position.position c.loop-position-test.true in
+    let count = c.wide.ensures in
+    omega arith
+
+pub overflow_sub-empty_at : goal.overflow_sub-empty_at
+overflow_sub-empty_at c =
+    let b = bounds c.requires.searchable c.loop-position.position c.loop-position-test.true in
+    let count = c.wide.ensures in
+    omega arith
+
+pub slice_bounds-best_energies-count : goal.slice_bounds-best_energies-count
+slice_bounds-best_energies-count c =
+    let inv = c.loop-position.invariant in
+    omega arith
+
+pub slice_bounds-best_energies-start : goal.slice_bounds-best_energies-start
+slice_bounds-best_energies-start c =
+    let inv = c.loop-position.invariant in
+    omega arith
+
+pub slice_bounds-best_energies-end : goal.slice_bounds-best_energies-end
+slice_bounds-best_energies-end c =
+    let inv = c.loop-position.invariant in
+    omega arith
+
+pub slice_bounds-best_energies-end-in-loop-position : goal.slice_bounds-best_energies-end-in-loop-position
+slice_bounds-best_energies-end-in-loop-position c = sym c.loop-position.invariant.3
+
+pub slice_bounds-best_energies-count-in-loop-position : goal.slice_bounds-best_energies-count-in-loop-position
+slice_bounds-best_energies-count-in-loop-position c =
+    let b = bounds c.requires.searchable c.loop-position.position c.loop-position-test.true in
+    let count = c.wide.ensures in
+    omega arith
+
+pub slice_bounds-best_energies-start-in-loop-position : goal.slice_bounds-best_energies-start-in-loop-position
+slice_bounds-best_energies-start-in-loop-position c =
+    let b = bounds c.requires.searchable c.loop-position.position c.loop-position-test.true in
+    let count = c.wide.ensures in
+    omega arith
+
+pub slice_bounds-best_energies-end-in-loop-position-2 : goal.slice_bounds-best_energies-end-in-loop-position-2
+slice_bounds-best_energies-end-in-loop-position-2 c =
+    let b = bounds c.requires.searchable c.loop-position.position c.loop-position-test.true in
+    let count = c.wide.ensures in
+    omega arith
+
+pub slice_bounds-best_energies-end-in-loop-position-3 : goal.slice_bounds-best_energies-end-in-loop-position-3
+slice_bounds-best_energies-end-in-loop-position-3 c = sym c.loop-position.invariant.4
+
+pub offset_bounds-choice-position : goal.offset_bounds-choice-position
+offset_bounds-choice-position c =
+    let b = bounds c.requires.searchable c.loop-position.position c.loop-position-test.true in
+    omega arith
+
+pub bounds-choice-position : goal.bounds-choice-position
+bounds-choice-position c =
+    let b = bounds c.requires.searchable c.loop-position.position c.loop-position-test.true in
+    let inv = c.loop-position.invariant in
+    omega arith
+
+pub best_energies-requires : goal.best_energies-requires
+best_energies-requires c =
+    let b = bounds c.requires.searchable c.loop-position.position c.loop-position-test.true in
+    let inv = c.loop-position.invariant in
+    let rows = c.args.rows.now in
+    let left = part_length rows c.loop-position.start c.loop-position.end in
+    let inside : c.loop-position.position < length c.loop-position.choice = omega arith in
+    record {
+      known = inv.8;
+      left_in_bounds = omega arith;
+      known_2 = known-friends c.requires.searchable c.loop-position.position c.loop-position-test.true c.wide.result c.wide.ensures;
+      strands_bound = c.requires.searchable.few;
+      strands_in_bounds = c.requires.potentials_in_bounds;
+      best_len = inv.4;
+      choice_len = inv.10 c.loop-position.position inside;
+      low = inv.9.friends c.loop-position.position;
+    }
+
+pub slice_bounds-best_energy_for_empty-count : goal.slice_bounds-best_energy_for_empty-count
+slice_bounds-best_energy_for_empty-count c =
+    let inv = c.loop-position.invariant in
+    omega arith
+
+pub slice_bounds-best_energy_for_empty-start : goal.slice_bounds-best_energy_for_empty-start
+slice_bounds-best_energy_for_empty-start c =
+    let inv = c.loop-position.invariant in
+    omega arith
+
+pub slice_bounds-best_energy_for_empty-end : goal.slice_bounds-best_energy_for_empty-end
+slice_bounds-best_energy_for_empty-end c =
+    let inv = c.loop-position.invariant in
+    omega arith
+
+pub slice_bounds-best_energy_for_empty-end-in-loop-position : goal.slice_bounds-best_energy_for_empty-end-in-loop-position
+slice_bounds-best_energy_for_empty-end-in-loop-position c = sym c.loop-position.invariant.3
+
+pub best_energy_for_empty-attached-requires : goal.best_energy_for_empty-attached-requires
+best_energy_for_empty-attached-requires c =
+    let inv = c.loop-position.invariant in
+    let left = part_length c.args.rows.now c.loop-position.start c.loop-position.end in
+    let few = c.requires.searchable.few in
+    record {
+      known = λ k h. omega (arith, inv.8 k h);
+      left_in_bounds = omega arith;
+    }
+
+pub overflow_mul-cell : goal.overflow_mul-cell
+overflow_mul-cell c =
+    let cells = row_in (length c.args.potentials.now) (length c.args.counts.now) c.args.scaffold_bonds.now c.loop-position.position c.loop-position-test.true c.requires.potentials_in_bounds_2 in
+    let z = c.requires.searchable in
+    let small = row_small c.loop-position.position (length c.args.potentials.now) (bounds z c.loop-position.position c.loop-position-test.true).place z.few in
+    omega arith
+
+pub overflow_add-next_cell : goal.overflow_add-next_cell
+overflow_add-next_cell c =
+    let cells = row_in (length c.args.potentials.now) (length c.args.counts.now) c.args.scaffold_bonds.now c.loop-position.position c.loop-position-test.true c.requires.potentials_in_bounds_2 in
+    let z = c.requires.searchable in
+    let small = row_small c.loop-position.position (length c.args.potentials.now) (bounds z c.loop-position.position c.loop-position-test.true).place z.few in
+    omega arith
+
+pub offset_bounds-scaffold_bonds-cell : goal.offset_bounds-scaffold_bonds-cell
+offset_bounds-scaffold_bonds-cell c =
+    let cells = row_in (length c.args.potentials.now) (length c.args.counts.now) c.args.scaffold_bonds.now c.loop-position.position c.loop-position-test.true c.requires.potentials_in_bounds_2 in
+    let z = c.requires.searchable in
+    let small = row_small c.loop-position.position (length c.args.potentials.now) (bounds z c.loop-position.position c.loop-position-test.true).place z.few in
+    omega arith
+
+pub slice_bounds-mfe_next_vector-count : goal.slice_bounds-mfe_next_vector-count
+slice_bounds-mfe_next_vector-count c =
+    let cells = row_in (length c.args.potentials.now) (length c.args.counts.now) c.args.scaffold_bonds.now c.loop-position.position c.loop-position-test.true c.requires.potentials_in_bounds_2 in
+    omega arith
+
+pub slice_bounds-mfe_next_vector-start : goal.slice_bounds-mfe_next_vector-start
+slice_bounds-mfe_next_vector-start c =
+    let cells = row_in (length c.args.potentials.now) (length c.args.counts.now) c.args.scaffold_bonds.now c.loop-position.position c.loop-position-test.true c.requires.potentials_in_bounds_2 in
+    omega arith
+
+pub slice_bounds-mfe_next_vector-end : goal.slice_bounds-mfe_next_vector-end
+slice_bounds-mfe_next_vector-end c =
+    let cells = row_in (length c.args.potentials.now) (length c.args.counts.now) c.args.scaffold_bonds.now c.loop-position.position c.loop-position-test.true c.requires.potentials_in_bounds_2 in
+    omega arith
+
+pub slice_bounds-mfe_next_vector-count-in-loop-position : goal.slice_bounds-mfe_next_vector-count-in-loop-position
+slice_bounds-mfe_next_vector-count-in-loop-position c =
+    let b = bounds c.requires.searchable c.loop-position.position c.loop-position-test.true in
+    let count = c.wide.ensures in
+    omega arith
+
+pub slice_bounds-mfe_next_vector-start-in-loop-position : goal.slice_bounds-mfe_next_vector-start-in-loop-position
+slice_bounds-mfe_next_vector-start-in-loop-position c =
+    let b = bounds c.requires.searchable c.loop-position.position c.loop-position-test.true in
+    let count = c.wide.ensures in
+    omega arith
+
+pub slice_bounds-mfe_next_vector-end-in-loop-position : goal.slice_bounds-mfe_next_vector-end-in-loop-position
+slice_bounds-mfe_next_vector-end-in-loop-position c =
+    let b = bounds c.requires.searchable c.loop-position.position c.loop-position-test.true in
+    let count = c.wide.ensures in
+    omega arith
+
+pub slice_bounds-mfe_next_vector-end-in-loop-position-2 : goal.slice_bounds-mfe_next_vector-end-in-loop-position-2
+slice_bounds-mfe_next_vector-end-in-loop-position-2 c = sym c.best_energies.ensures.wide
+
+pub slice_bounds-mfe_next_vector-end-in-loop-position-3 : goal.slice_bounds-mfe_next_vector-end-in-loop-position-3
+slice_bounds-mfe_next_vector-end-in-loop-position-3 c = sym c.loop-position.invariant.3
+
+pub mfe_next_vector-requires : goal.mfe_next_vector-requires
+mfe_next_vector-requires c =
+    let b = bounds c.requires.searchable c.loop-position.position c.loop-position-test.true in
+    let n = length c.args.potentials.now in
+    let few = c.requires.searchable.few in
+    let count = c.wide.ensures in
+    let wide = c.best_energies.ensures.wide in
+    let inv = c.loop-position.invariant in
+    let sites = row-length n (length c.args.counts.now) c.args.scaffold_bonds.now c.loop-position.position c.loop-position-test.true c.requires.potentials_in_bounds_2 in
+    let friends = part_length c.args.rows.now (64 * c.loop-position.position) (64 * c.loop-position.position + c.wide.result - 1) in
+    record {
+      known = known-friends c.requires.searchable c.loop-position.position c.loop-position-test.true c.wide.result c.wide.ensures;
+      potentials_in_bounds = omega arith;
+      potentials_in_bounds_2 = omega arith;
+      friends_in_bounds = omega arith;
+    }
+
+pub overflow_sub-energies : goal.overflow_sub-energies
+overflow_sub-energies c =
+    let b = bounds c.requires.searchable c.loop-position.position c.loop-position-test.true in
+    let count = c.wide.ensures in
+    omega arith
+
+pub offset_bounds-energies-empty_at : goal.offset_bounds-energies-empty_at
+offset_bounds-energies-empty_at c =
+    let b = bounds c.requires.searchable c.loop-position.position c.loop-position-test.true in
+    let count = c.wide.ensures in
+    omega arith
+
+pub bounds-energies-empty_at : goal.bounds-energies-empty_at
+bounds-energies-empty_at c =
+    let b = bounds c.requires.searchable c.loop-position.position c.loop-position-test.true in
+    let count = c.wide.ensures in
+    let next = c.mfe_next_vector.ensures.energies_len_unchanged in
+    let inv = c.loop-position.invariant in
+    omega arith
+
+pub bounds-empty-position : goal.bounds-empty-position
+bounds-empty-position c =
+    let b = bounds c.requires.searchable c.loop-position.position c.loop-position-test.true in
+    let inv = c.loop-position.invariant in
+    omega arith
+
+pub overflow_add-end-in-loop-position : goal.overflow_add-end-in-loop-position
+overflow_add-end-in-loop-position c =
+    let b = bounds c.requires.searchable c.loop-position.position c.loop-position-test.true in
+    let count = c.wide.ensures in
+    omega arith
+
+pub overflow_add-position : goal.overflow_add-position
+overflow_add-position c =
+    let b = bounds c.requires.searchable c.loop-position.position c.loop-position-test.true in
+    omega arith
+
+pub loop-position-smaller : goal.loop-position-smaller
+loop-position-smaller c = let here = c.loop-position-test.true in omega arith
+
+pub loop-position-preserved : goal.loop-position-preserved
+loop-position-preserved c =
+    let a = c.args in
+    let l = c.loop-position in
+    let i = l.position in
+    let here = c.loop-position-test.true in
+    let z = c.requires.searchable in
+    let b = bounds z i here in
+    let count = c.wide.result in
+    let is = c.wide.ensures in
+    let friends = part a.rows.now (64 * i) (64 * i + count - 1) in
+    let sites = part a.scaffold-bonds.now (i * length a.potentials.now) (i * length a.potentials.now + length a.potentials.now) in
+    let att = c.best_energies.ensures in
+    let best = c.best_energies.new.1.1.1.1.1.0 in
+    let row = c.best_energies.new.1.1.1.1.1.1.0 in
+    let none = c.best_energy_for_empty-attached in
+    let next = c.mfe_next_vector.new.1.1.1.1.0 in
+    let inv = l.invariant in
+    let sized : length next ≡ 64 = c.mfe_next_vector.ensures.energies_len_unchanged ∙ inv.3 in
+    let number = friends-length z i here count is in
+    let in-next : length friends < length next = omega arith in
+    let in-choice : i < length l.choice = omega arith in
+    let in-empty : i < length l.empty = omega arith in (
+      omega arith,
+      length-set l.choice i row ∙ inv.1,
+      length-set l.empty i none.result.strand ∙ inv.2,
+      length-set next (64 * i + count - 1 - 64 * i) none.result.energy ∙ sized,
+      att.wide,
+      omega arith,
+      omega arith,
+      omega arith,
+      known-options z i here count is,
+      table-low i row none.result.strand l.choice l.empty in-choice in-empty inv.9 att.low none.ensures.1,
+      wide-more l.choice i row att.sized in-choice inv.10,
+      λ m o b.
+          let old = inv.11 m o b in
+          let f = get_or a.rows.now a.option 0 in
+          let option = first_member o (rw (sym o.positions) c.requires.counts_nonzero) c.requires.option_bound in
+          let in-model : i < positions m = rw (sym o.positions) here in
+          let are = friends-part z i here count is o in-model in
+          let known = known-friends z i here count is in (
+            left-more (ring-options m f option) b i in-model friends are (later-options m f i inv.12) known (part a.rows.now l.start l.end) l.energies old.0 best row att none.result none.ensures.0 sites
+                (row_at (length a.potentials.now) (length a.counts.now) a.scaffold-bonds.now i here c.requires.potentials_in_bounds_2) next in-next c.mfe_next_vector.ensures.energies
+                (part a.rows.now (64 * i) (64 * i + count - 1 + 1)) (64 * i + count - 1 - 64 * i) (options-part z i here count is o in-model) number,
+            table_more (ring-options m f option) b i in-model friends are (later-options m f i inv.12) known (part a.rows.now l.start l.end) l.energies old.0 best row att none.result none.ensures.0 l.choice l.empty in-choice in-empty old.1,
+          ),
+      omega arith,
+    )
+
+pub slice_bounds-lowest_closed-count : goal.slice_bounds-lowest_closed-count
+slice_bounds-lowest_closed-count c =
+    let inv = c.loop-position.invariant in
+    omega arith
+
+pub slice_bounds-lowest_closed-start : goal.slice_bounds-lowest_closed-start
+slice_bounds-lowest_closed-start c =
+    let inv = c.loop-position.invariant in
+    omega arith
+
+pub slice_bounds-lowest_closed-end : goal.slice_bounds-lowest_closed-end
+slice_bounds-lowest_closed-end c =
+    let inv = c.loop-position.invariant in
+    omega arith
+
+pub slice_bounds-lowest_closed-end-2 : goal.slice_bounds-lowest_closed-end-2
+slice_bounds-lowest_closed-end-2 c = sym c.loop-position.invariant.3
+
+pub lowest_closed-last-requires : goal.lowest_closed-last-requires
+lowest_closed-last-requires c =
+    let l = c.loop-position in
+    let inv = l.invariant in
+    let s = c.requires in
+    let rows = c.args.rows.now in
+    let left = part_length rows l.start l.end in
+    record {
+      known = inv.8;
+      last_nonzero = part-some rows l.start l.end inv.5 inv.6;
+      last_in_bounds = omega arith;
+      first_lt_strands = first-known s.searchable s.counts_nonzero s.option_bound;
+      strands_bound = s.searchable.few;
+      strands_in_bounds = s.potentials_in_bounds;
+    }
+
+pub trace-requires : goal.trace-requires
+trace-requires c =
+    let short = c.requires.searchable.short in
+    let size = c.requires.1.1.1 in
+    let low = c.lowest_closed-last.ensures.strand_bound in
+    record {
+      configuration_len_bound = omega arith;
+      last_bound = omega arith;
+      low_table = c.loop-position.invariant.9;
+    }
+
+pub returns : goal.returns
+returns c = λ m o b closing e.
+    let l = c.loop-position in
+    let a = c.args in
+    let s = c.requires in
+    let upto = l.invariant.0 in
+    let past = c.loop-position-test.false in
+    let all : l.position ≡ length a.counts.now = omega arith in
+    let in-model : 0 < positions m = rw (sym o.positions) s.counts_nonzero in
+    let f = get_or a.rows.now a.option 0 in
+    let kept = l.invariant.11 m o b in
+    let low = c.lowest_closed-last in
+    subst (λ (x : ℕ). FoundFrom m x c.trace.new.1.1.1.0 low.result.energy) (first-option o in-model s.option_bound)
+    (found_first m f (first_member o in-model s.option_bound) (length a.potentials.now) a.strand-bonds.now closing a.rt.0 e
+    l.choice l.empty (part a.rows.now l.start l.end) l.energies low.result c.trace.new.1.1.1.0 low.ensures.0
+    l.position l.invariant.12 (all ∙ o.positions) kept.0 kept.1
+    (c.trace.ensures ∙ ap (λ (n : ℕ). traced_back (choice_in l.choice l.empty) n low.result.strand) (s.configuration_len ∙ sym all)))

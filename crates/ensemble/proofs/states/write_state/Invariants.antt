@@ -1,0 +1,27 @@
+-- The writing of the state at a rank meets its contract. The invariant: the occupants of the positions passed stand in front, and those
+-- left are the state of the later positions at the rank left. Assumes nothing.
+use mathlib.Core.Path.{◌≡◌, refl, sym, ◌∙◌}
+use mathlib.Core.List.{List, []}
+use Prim.Native.Nat.{ℕ, ◌≤◌, ◌<◌, ◌+◌, ◌-◌, ◌*◌, ◌/◌, ◌%◌}
+use native.Mathlib.Omega.{arith}
+use lib.ListN.{length, drop, get_or, length-set}
+use borrow.Author.Rules.{rules}
+use Rattle.lists.specs.Build.{product}
+use Rattle.lists.proofs.Front.{Front, front-none, front-step, front-full}
+use Rattle.model.specs.Model.{Model, options}
+use Rattle.model.specs.States.{choice_at}
+use Rattle.ensemble.specs.Layout.{OptionRows}
+use Rattle.ensemble.proofs.Products.{product-more, first-positive, rest-positive, divided, rank_left, rank-first}
+use Rattle.ensemble.proofs.Options.{row_inside, choice-more, choice-past}
+use Rattle.ensemble.proofs.states.write_state.Given as goal
+
+abbrev pub invariant-loop-position : goal.invariant-loop-position
+invariant-loop-position l =
+    (l.position ≤ length l.counts)
+    × (l.later ≡ product (drop l.position l.counts))
+    × (l.left < l.later)
+    × (length l.entries ≡ length l.counts)
+    × ((m : Model) → OptionRows m l.rows l.counts → Front l.initial.entries (choice_at (options m) l.rank) (choice_at (drop l.position (options m)) l.left) l.position l.entries)
+
+abbrev pub decreases-loop-position : goal.decreases-loop-position
+decreases-loop-position l = length l.counts - l.position

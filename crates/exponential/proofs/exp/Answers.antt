@@ -1,0 +1,18 @@
+-- The call meets its contract. Assumes nothing.
+use mathlib.Core.Path.{refl, sym, ◌∙◌}
+use lib.Ieee.{neg, of_bits, round}
+use borrow.Author.Rules.{rules}
+use Rattle.exponential.specs.Near.{least_argument, most_argument}
+use Rattle.exponential.proofs.exp.Goals as goal
+
+pub exp_weight-requires : goal.exp_weight-requires
+unfolding least_argument most_argument neg of_bits
+exp_weight-requires c = sym c.in_range.ensures ∙ c.if-in_range.true
+
+pub returns-then-in_range : goal.returns-then-in_range
+unfolding least_argument most_argument neg of_bits
+returns-then-in_range c = (sym c.in_range.ensures ∙ c.if-in_range.true, c.exp_weight.ensures)
+
+pub returns : goal.returns
+unfolding least_argument most_argument neg of_bits
+returns c = (sym c.in_range.ensures ∙ c.if-in_range.false, refl, refl)

@@ -1,0 +1,13 @@
+-- `exports::figures::dg_tell` meets its contract: what is given, and 0 where it is refused. Assumes nothing.
+use mathlib.Core.Path.{refl}
+use lib.Ieee.{of_bits}
+use borrow.Author.Rules.{rules}
+use Rattle.exports.proofs.figures.dg_tell.Goals as goal
+
+pub returns-in-Refused : goal.returns-in-Refused
+unfolding of_bits
+returns-in-Refused c =
+    let all = rw c.in-Refused.is (c.number-in-Refused.ensures, refl) in record {
+      value = all.0;
+      dg_after = all.1;
+    }

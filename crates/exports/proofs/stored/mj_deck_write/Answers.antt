@@ -1,0 +1,25 @@
+-- `exports::stored::mj_deck_write` meets its contract, from the contract of the call; an unknown form is refused. Assumes nothing.
+use mathlib.Core.Path.{refl, sym, ◌∙◌}
+use borrow.Author.Rules.{rules}
+use Rattle.exports.proofs.stored.mj_deck_write.Goals as goal
+
+pub returns-in-Known : goal.returns-in-Known
+returns-in-Known c =
+    let all = let form = sym c.of.ensures ∙ c.in-Known.is in
+    let answer = c.write.ensures in
+    let told = rw answer.0 at c.tell_written.ensures in
+    rw form (told.0, (told.1, answer.1)) in record {
+      value = all.0;
+      count_after = all.1.0;
+      words_after = all.1.1;
+    }
+
+pub returns-in-Unknown : goal.returns-in-Unknown
+returns-in-Unknown c =
+    let all = let form = sym c.of.ensures ∙ c.in-Unknown.is in
+    let told = c.tell_written-in-Unknown.ensures in
+    rw form (told.value, (told.count_after, refl)) in record {
+      value = all.0;
+      count_after = all.1.0;
+      words_after = all.1.1;
+    }

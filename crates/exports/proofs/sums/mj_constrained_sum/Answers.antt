@@ -1,0 +1,26 @@
+-- `exports::sums::mj_constrained_sum` meets its contract, from the contract of the call. Assumes nothing.
+use lib.ListN.{length}
+use borrow.Author.Rules.{rules}
+use Rattle.design.specs.Design.{Design, lent}
+use Rattle.partition.specs.Weights.{Weights}
+use Rattle.state_sums.specs.Sizes.{Lists}
+use Rattle.state_sums.specs.Answers.{sum_figures}
+use Rattle.state_sums.proofs.Lent.{weights}
+use Rattle.exports.proofs.Summed.{constrained-told}
+use Rattle.exports.proofs.sums.mj_constrained_sum.Goals as goal
+
+pub returns : goal.returns
+returns c =
+    
+    let a = c.args in
+    let d : Design = lent a.scaffold a.marks a.glues a.dg a.ds a.potentials c.ambient.result in
+    let w : Weights = weights (length a.potentials.now) a.place-digits.now a.place-powers.now a.pair-digits.now a.pair-powers.now in
+    let l : Lists = record { numbers = a.numbers.now; starts = a.starts.now; lengths = a.lengths.now } in
+    let ambient = c.ambient.ensures in
+    let ensured = c.constrained_sum.ensures in
+    let told = c.tell_sum.ensures in
+    let shown = constrained-told d w l (sum_figures c.constrained_sum.result) ensured.constrained_shown told.number told.figure in
+    record {
+      told = rw (ensured.result_value, ambient) at told;
+      constrained_told = rw ambient at shown;
+    }

@@ -1,0 +1,26 @@
+use Rattle.jobs.specs.inner.Settled.{energy_in, energy_of_word}
+use Rattle.prepared.specs.Layout.{StateCells}
+use Rattle.ensemble.specs.Layout.{OptionRows}
+use Rattle.model.specs.Model.{Model}
+use Rattle.lists.proofs.Places.{tabulate-places}
+use lib.Ieee.{Float}
+use Rattle.lists.proofs.Counted.{stored, stored-none, stored-length, stored_more, stored-whole}
+use Rattle.lists.specs.Build.{tabulate}
+use lib.ListN.{length, get_or, set, length-set}
+use native.Mathlib.Omega.{arith}
+use Prim.Native.Nat.{ℕ, ◌+◌, ◌-◌, ◌<◌, ◌≤◌}
+use mathlib.Core.List.{List}
+use mathlib.Core.Path.{◌≡◌, refl, sym, ap, ◌∙◌}
+use borrow.Author.Rules.{rules}
+use Rattle.jobs.proofs.fill.fill_energies.Reads as reads
+use Rattle.jobs.proofs.fill.fill_energies.Lts as lts
+use Rattle.jobs.proofs.job.read.Reads as read-reads
+use Rattle.jobs.proofs.settle.job_energy.Reads as job-energy-reads
+use Rattle.jobs.proofs.fill.fill_energies.Given as goal
+
+abbrev pub invariant-loop-k : goal.invariant-loop-k
+invariant-loop-k l =
+    (l.k ≤ length l.jobs) × (length l.energies ≡ length l.initial.energies) × ((m : Model) → OptionRows m l.rows l.options → StateCells m (length l.potentials) l.strand_bonds l.scaffold_bonds l.potentials → l.settled.rt.0 ≡ m.rt → l.energies ≡ stored (λ i. energy_of_word m l.settled.least.0 (get_or l.jobs i 0)) l.k l.initial.energies)
+
+abbrev pub decreases-loop-k : goal.decreases-loop-k
+decreases-loop-k l = length l.jobs - l.k

@@ -1,0 +1,43 @@
+use mathlib.Core.Path.{◌≡◌, refl, sym, ◌∙◌}
+use Prim.Native.Nat.{◌+◌, ◌-◌, ◌*◌, ◌^◌, ◌≤◌}
+use native.Mathlib.Nat.{div-le_self, le_refl}
+use native.Mathlib.Omega.{arith}
+use Rattle.logarithm.specs.Figure.{mul_units, terms_from, ln_series}
+use Rattle.logarithm.proofs.Steps.{power-falls, terms-step, terms-end}
+use Rattle.logarithm.proofs.ln_series.Reads as reads
+use Rattle.logarithm.proofs.ln_series.Lts as lts
+use Rattle.logarithm.proofs.mul_units.Reads as mul-units-reads
+use Rattle.logarithm.proofs.ln_series.Goals as goal
+
+pub loop-j-init : goal.loop-j-init
+unfolding ln_series
+loop-j-init c = (omega arith, le_refl (2 ^ 54), omega arith, refl)
+
+pub overflow_add-j : goal.overflow_add-j
+overflow_add-j c = omega arith
+
+pub mul_units-power-requires : goal.mul_units-power-requires
+mul_units-power-requires c = (omega arith, omega arith)
+
+pub nonzero_div-sum : goal.nonzero_div-sum
+nonzero_div-sum c = omega arith
+
+fallen : (c : lts.After-mul-units (mul-units-reads.Asked, mul-units-reads.Learnt) reads.Pre reads.Post invariant-loop decreases-loop) → c.mul-units.result ≤ 2 ^ 54
+fallen c = rw c.mul-units.ensures (power-falls c.before.before.loop.power c.before.before.before.args.u (omega arith) (omega arith))
+
+pub overflow_add-sum : goal.overflow_add-sum
+overflow_add-sum c = omega (arith, fallen c, div-le_self c.mul_units-power.result (c.loop-j.j + 1))
+
+pub loop-j-smaller : goal.loop-j-smaller
+loop-j-smaller c = omega arith
+
+pub loop-j-preserved : goal.loop-j-preserved
+loop-j-preserved c = (
+  omega arith,
+  fallen c,
+  omega (arith, fallen c, div-le_self c.mul_units-power.result (c.loop-j.j + 1)),
+  c.loop-j.invariant.3 ∙ rw c.mul_units-power.ensures (terms-step c.args.u c.loop-j.j c.loop-j.power c.loop-j.sum (omega arith)),
+)
+
+pub returns : goal.returns
+returns c = sym (c.loop-j.invariant.3 ∙ terms-end c.args.u c.loop-j.j c.loop-j.power c.loop-j.sum (omega arith))

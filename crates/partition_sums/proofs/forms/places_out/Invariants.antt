@@ -1,0 +1,28 @@
+-- The search of the places for a weight outside its form meets its contract. Assumes nothing.
+use mathlib.Core.Path.{◌≡◌, refl, sym, ap, ◌∙◌}
+use mathlib.Core.List.{List}
+use Prim.Native.Nat.{ℕ, ◌+◌, ◌*◌, ◌-◌, ◌<◌, ◌≤◌, zero-le}
+use native.Mathlib.Omega.{arith}
+use borrow.Author.Rules.{rules}
+use lib.IntN.{ℤ}
+use lib.ListN.{length, get_or, drop}
+use Rattle.lists.specs.Build.{up_to}
+use Rattle.lists.specs.Find.{any}
+use Rattle.lists.proofs.Build.{any_here, any-later, any-past}
+use Rattle.partition.specs.Weights.{Weights, places_out_at, pairs_out_at}
+use Rattle.partition_sums.specs.Layout.{friends_in}
+use Rattle.partition_sums.proofs.Positions.{cells_are, row-length, inside}
+use Rattle.partition_sums.proofs.Outs.{friends-part, friends-below, places-at}
+use Rattle.partition_sums.proofs.forms.places_out.Given as goal
+
+abbrev pub lent : List ℕ → List ℤ → List ℕ → List ℤ → ℕ → Weights
+lent place-digits place-powers pair-digits pair-powers strands =
+    record { strands = strands; place_digits = place-digits; place_powers = place-powers; pair_digits = pair-digits; pair_powers = pair-powers }
+
+abbrev pub invariant-loop-position : goal.invariant-loop-position
+invariant-loop-position l =
+    (l.position ≤ length l.counts)
+    × (any (places_out_at (friends_in l.rows l.counts) (lent l.place_digits l.place_powers l.pair_digits l.pair_powers l.strands)) (up_to (length l.counts)) ≡ any (places_out_at (friends_in l.rows l.counts) (lent l.place_digits l.place_powers l.pair_digits l.pair_powers l.strands)) (drop l.position (up_to (length l.counts))))
+
+abbrev pub decreases-loop-position : goal.decreases-loop-position
+decreases-loop-position l = length l.counts - l.position

@@ -1,0 +1,25 @@
+-- The state energy meets its contract. The invariant: what is left to add, after the sum so far, gives the whole. Assumes nothing.
+use mathlib.Core.Logic.{inl}
+use mathlib.Core.Path.{◌≡◌, refl, sym, ap, ◌∙◌}
+use Prim.Native.Nat.{◌-◌, ◌<◌, ◌≤◌}
+use native.Mathlib.Omega.{arith}
+use lib.Ieee.{Float, binary64, of_bits, mul}
+use lib.ListN.{length, get_or, drop}
+use borrow.Author.Rules.{rules}
+use Rattle.lists.proofs.Grid.{row-end}
+use Rattle.model.specs.Model.{Model, State}
+use Rattle.doubles.specs.Decimal.{zero}
+use Rattle.prepared.specs.inner.Sums.{sum_on, energy_on, begun_at, Beside}
+use Rattle.prepared.specs.Layout.{StateCells}
+use Rattle.prepared.proofs.Begun.{begun-is, ended_is, beside-next, sum_more, sum_done, whole-energy}
+use Rattle.prepared.proofs.sums.state_energy.Given as goal
+
+abbrev pub invariant-loop-position : goal.invariant-loop-position
+invariant-loop-position l =
+    (l.position ≤ length l.state)
+    × (l.begun.strand < length l.potentials)
+    × ((m : Model) → StateCells m (length l.potentials) l.strand_bonds l.scaffold_bonds l.potentials → State m l.state
+    → (sum_on m 0 0 zero l.state ≡ sum_on m l.position l.begun.strand l.begun.sum (drop l.position l.state)) × Beside m l.position l.begun.strand)
+
+abbrev pub decreases-loop-position : goal.decreases-loop-position
+decreases-loop-position l = length l.state - l.position

@@ -1,0 +1,7 @@
+-- `replay::designs::count` meets its contract: the call has the definition's figures, and the rest of the line says them. Assumes nothing.
+use Rattle.std.proofs.Common.{refl, rules}
+use Rattle.replay.proofs.Figures.{says-as}
+use Rattle.replay.proofs.designs.count.Goals as goal
+
+pub returns : goal.returns
+returns c = λ e. let told = c.mj_states-reply.ensures in says-as refl told.number (rw told.figure) (c.says.ensures e)

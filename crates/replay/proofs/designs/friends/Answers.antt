@@ -1,0 +1,19 @@
+-- `replay::designs::friends` meets its contract: the call has the definition's figures, and the rest of the line says them. Assumes nothing.
+use Rattle.std.proofs.Common.{rules}
+use Rattle.replay.proofs.Words.{as-decimal}
+use Rattle.replay.proofs.Tests.{never}
+use Rattle.replay.proofs.Letters.{places-as}
+use Rattle.replay.proofs.designs.friends.Goals as goal
+
+pub returns-in_default : goal.returns-in_default
+returns-in_default c = λ e. never e
+
+pub returns : goal.returns
+returns c = λ e.
+    
+    let answer = c.mj_friends-reply.ensures in
+    record {
+      position = c.position.given.0.0;
+      first = as-decimal c.up_to.ensures c.position.given.1 c.decimal.ensures;
+      answer = places-as c.past.ensures answer.told.number (rw (answer.told.figure, answer.entries_after)) (c.Says-first.ensures e);
+    }

@@ -1,0 +1,27 @@
+-- `replay::designs::scaffold_bond` meets its contract: the call has the definition's figures, and the rest of the line says them. Assumes nothing.
+use Rattle.std.proofs.Common.{ap, ◌∙◌, rules}
+use Rattle.replay.specs.Kinds.{word, later}
+use Rattle.replay.proofs.Words.{as_byte, as-decimal}
+use Rattle.replay.proofs.Tests.{never}
+use Rattle.replay.proofs.Figures.{says-as}
+use Rattle.replay.proofs.designs.scaffold_bond.Goals as goal
+
+pub returns-in_default : goal.returns-in_default
+returns-in_default c = λ e. never e
+
+pub returns-in_default-small : goal.returns-in_default-small
+returns-in_default-small c = λ e. never e
+
+pub returns : goal.returns
+returns c = λ e.
+    let told = c.mj_scaffold_bond-reply.ensures in
+    
+    
+    let rest = c.past-rest.ensures in
+    record {
+      position = c.in-Is.position;
+      strand = c.in-Is-small.strand;
+      first = as-decimal c.up_to.ensures c.in-Is.is c.decimal.ensures;
+      second = as_byte (c.up_to-2.ensures ∙ ap word rest) c.in-Is-small.is c.small.ensures;
+      answer = says-as (c.past.ensures ∙ ap later rest) told.number (rw (c.bits.ensures, told.figure)) (c.says.ensures e);
+    }

@@ -1,0 +1,8 @@
+-- `replay::numbers::is_decimal` meets its contract: the word is what `io::decimal` writes. Assumes nothing.
+use Rattle.std.proofs.Common.{◌∙◌, rules}
+use Rattle.replay.proofs.numbers.is_decimal.Goals as goal
+
+pub returns : goal.returns
+returns c = λ e.
+    let d = c.decimal-n in
+    record { places = d.result; fewest = d.ensures.1.0; written = c.same.ensures.0 e ∙ d.ensures.1.1 }

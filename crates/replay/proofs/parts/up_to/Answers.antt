@@ -1,0 +1,14 @@
+-- `replay::parts::up_to` meets its contract. Assumes nothing.
+use Rattle.std.proofs.Common.{◌≤◌, eqb, length, sym, arith, length-take-le, rules}
+use Rattle.lists.proofs.Find.{first-le}
+use Rattle.replay.proofs.parts.up_to.Goals as goal
+
+pub slice_bounds-result-end : goal.slice_bounds-result-end
+slice_bounds-result-end c =
+    
+    let text = c.args.text.now in
+    let within : c.mark-place.result ≤ length text = omega (arith, first-le (eqb c.args.mark) text) in
+    sym (length-take-le c.mark-place.result text within)
+
+pub returns : goal.returns
+returns c = rw c.mark_place-n.ensures

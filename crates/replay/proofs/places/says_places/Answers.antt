@@ -1,0 +1,22 @@
+-- `replay::places::says_places` meets its contract. Assumes nothing.
+use Rattle.std.proofs.Common.{sym, ap, ◌∙◌, inl, inr, rules}
+use borrow.Author.Tests.{not-false}
+use Rattle.replay.specs.Kinds.{letters}
+use Rattle.replay.proofs.Tests.{never}
+use Rattle.replay.proofs.places.says_places.Goals as goal
+
+pub returns-then-number-ne0 : goal.returns-then-number-ne0
+returns-then-number-ne0 c = λ e. inl (c.refused.ensures e)
+
+pub returns-then-not-same : goal.returns-then-not-same
+returns-then-not-same c = λ e. never e
+
+pub returns : goal.returns
+returns c = λ e.
+    
+    inr
+    (record {
+      answered = c.if-number-ne0.false;
+      first = sym c.up_to.ensures ∙ c.same.ensures.0 (not-false _ c.if-not-same.false-raw);
+      second = ap letters (sym c.past.ensures) ∙ c.is_places.ensures e;
+    })

@@ -1,0 +1,10 @@
+-- Assumes nothing.
+use borrow.Author.Rules.{rules}
+use Rattle.reply.specs.First.{◌or_else◌}
+use Rattle.reply.proofs.Reply.or.Goals as goal
+
+pub returns-in-Admitted : goal.returns-in-Admitted
+returns-in-Admitted c = rw c.in-Admitted.is
+
+pub returns-in-Refused : goal.returns-in-Refused
+returns-in-Refused c = rw c.in-Refused.is

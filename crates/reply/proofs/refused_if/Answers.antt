@@ -1,0 +1,9 @@
+-- Assumes nothing.
+use borrow.Author.Rules.{rules}
+use Rattle.reply.proofs.refused_if.Goals as goal
+
+pub returns-then-holds : goal.returns-then-holds
+returns-then-holds c = rw c.if-holds.true
+
+pub returns : goal.returns
+returns c = rw c.if-holds.false

@@ -1,0 +1,44 @@
+-- `sdc1d_params::has_bad_base` meets its contract: the sequence call refuses a byte that is no base. Assumes nothing.
+use borrow.Author.Rules.{rules}
+use mathlib.Core.Path.{◌≡◌, sym, ap, ap₂, ◌∙◌}
+use lib.Dec.{eqb}
+use mathlib.Core.Bool.{false}
+use native.Mathlib.Omega.{arith}
+use Rattle.utils.specs.Answers.{dg_ds_figures}
+use Rattle.utils.specs.Single.{string_dna_dg_ds}
+use Rattle.sdc_common.specs.Lent.{part_of}
+use Rattle.sdc_common.proofs.Held.{part-is}
+use Rattle.sdc1d_params.specs.Entries.{unfit_energy, has_bad_base}
+use Rattle.sdc1d_params.specs.declared.entries.GsOrSeq.TheVariants.{Sequence}
+use Rattle.sdc1d_params.proofs.Sequences.{sequence-fits, not-long, given-good, refused-bad}
+use Rattle.sdc1d_params.proofs.entries.has_bad_base.Goals as goal
+
+pub overflow_add-end : goal.overflow_add-end
+overflow_add-end c =
+    let v = c.energy-1.given.0 in
+    let text = c.args.text.now in
+    let fit : unfit_energy text (Sequence v.0 v.1.0) ≡ false = sym (ap (unfit_energy text) c.in-Sequence.is) ∙ c.requires in
+    omega (arith, sequence-fits text v.0 v.1.0 fit)
+
+pub slice_bounds-string_dna_dg_ds-end : goal.slice_bounds-string_dna_dg_ds-end
+slice_bounds-string_dna_dg_ds-end c =
+    let v = c.energy-1.given.0 in
+    let text = c.args.text.now in
+    let fit : unfit_energy text (Sequence v.0 v.1.0) ≡ false = sym (ap (unfit_energy text) c.in-Sequence.is) ∙ c.requires in
+    omega (arith, sequence-fits text v.0 v.1.0 fit)
+
+pub returns-in-Given-string_dna_dg_ds : goal.returns-in-Given-string_dna_dg_ds
+returns-in-Given-string_dna_dg_ds c =
+    let v = c.energy-1.given.0 in
+    let text = c.args.text.now in
+    let fit : unfit_energy text (Sequence v.0 v.1.0) ≡ false = sym (ap (unfit_energy text) c.in-Sequence.is) ∙ c.requires in
+    let said = sym (ap dg_ds_figures c.in-Given-string_dna_dg_ds.is) ∙ c.string_dna_dg_ds.ensures ∙ ap string_dna_dg_ds (part-is text v.0 v.1.0) in
+    sym (ap (has_bad_base text) c.in-Sequence.is ∙ given-good (part_of text v.0 v.1.0) (not-long text v.0 v.1.0 fit) _ _ said)
+
+pub returns-in-Refused : goal.returns-in-Refused
+returns-in-Refused c =
+    let v = c.energy-1.given.0 in
+    let text = c.args.text.now in
+    let fit : unfit_energy text (Sequence v.0 v.1.0) ≡ false = sym (ap (unfit_energy text) c.in-Sequence.is) ∙ c.requires in
+    let said = sym (ap dg_ds_figures c.in-Refused.is) ∙ c.string_dna_dg_ds.ensures ∙ ap string_dna_dg_ds (part-is text v.0 v.1.0) in
+    ap₂ eqb c.number.ensures c.number-in-Refused.ensures ∙ refused-bad (part_of text v.0 v.1.0) (not-long text v.0 v.1.0 fit) c.in-Refused.refusal said ∙ sym (ap (has_bad_base text) c.in-Sequence.is)

@@ -1,0 +1,18 @@
+-- `sdc1d_params::any_retired_entry` meets its contract: no entry that was passed over has a name that retires. Assumes nothing.
+use borrow.Author.Rules.{rules}
+use mathlib.Core.Path.{◌≡◌, refl, sym, ap, ◌∙◌}
+use mathlib.Core.Bool.{true, false}
+use Prim.Native.Nat.{ℕ, ◌≤◌, ◌-◌}
+use native.Mathlib.Omega.{arith}
+use Rattle.lists.specs.Find.{any}
+use Rattle.lists.specs.Build.{tabulate}
+use Rattle.lists.proofs.Counted.{any-more, any_found}
+use Rattle.sdc1d_params.specs.Entries.{entry_at, entry_rows, unfit_entry}
+use Rattle.sdc1d_params.specs.Params.{is_retired_entry}
+use Rattle.sdc1d_params.proofs.retired.any_retired_entry.Given as goal
+
+abbrev pub invariant-loop-i : goal.invariant-loop-i
+invariant-loop-i l = (l.i ≤ l.n) × (any (is_retired_entry l.text) (tabulate l.i (entry_at l.entries l.energies)) ≡ false) × (l.n ≡ entry_rows l.entries)
+
+abbrev pub decreases-loop-i : goal.decreases-loop-i
+decreases-loop-i l = l.n - l.i

@@ -1,0 +1,34 @@
+-- `sdc1d_params::is_retired_entry` meets its contract: the first name is always there. Assumes nothing.
+use borrow.Author.Rules.{rules}
+use mathlib.Core.Path.{◌≡◌, sym, ap, ◌∙◌}
+use mathlib.Core.Bool.{true, false}
+use Rattle.sdc_common.specs.Names.{is_retired}
+use Rattle.sdc_common.specs.Lent.{part_of, glue_of, is_retired_glue}
+use Rattle.sdc_common.specs.declared.names.LentName.{LentName}
+use Rattle.sdc1d_params.proofs.Lengths.{first-fit, second-fit}
+use Rattle.sdc1d_params.proofs.Stars.{first-retired}
+use Rattle.sdc1d_params.proofs.retired.is_retired_entry.Goals as goal
+
+pub is_retired-requires : goal.is_retired-requires
+is_retired-requires c =
+    let a = c.args in
+    rw c.first_name.ensures (first-fit a.text.now a.entry c.requires)
+
+pub returns-then-is_retired : goal.returns-then-is_retired
+returns-then-is_retired c =
+    let a = c.args in
+    let e = a.entry in
+    let bad : is_retired (part_of a.text.now e.first_start e.first_size) ≡ true = sym (first-retired a.text.now e) ∙ sym (ap (λ (n : LentName). is_retired_glue (glue_of a.text.now n)) c.first_name.ensures) ∙ sym c.is_retired.ensures ∙ c.if-is_retired.true in
+    simp bad
+
+pub is_retired-requires-2 : goal.is_retired-requires-2
+is_retired-requires-2 c =
+    let a = c.args in
+    second-fit a.text.now a.entry c.requires
+
+pub returns : goal.returns
+returns c =
+    let a = c.args in
+    let e = a.entry in
+    let first : is_retired (part_of a.text.now e.first_start e.first_size) ≡ false = sym (first-retired a.text.now e) ∙ sym (ap (λ (n : LentName). is_retired_glue (glue_of a.text.now n)) c.first_name.ensures) ∙ sym c.is_retired.ensures ∙ c.if-is_retired.false in
+    simp first c.is_retired-2.ensures

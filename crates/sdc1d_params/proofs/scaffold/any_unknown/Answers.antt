@@ -1,0 +1,45 @@
+use borrow.Author.Rules.{rules}
+use mathlib.Core.Path.{◌≡◌, refl, sym, ap, ◌∙◌}
+use mathlib.Core.Bool.{true, false}
+use Prim.Native.Nat.{ℕ, ◌≤◌, ◌-◌, ◌/◌}
+use native.Mathlib.Omega.{arith}
+use lib.ListN.{length, get_or}
+use Rattle.lists.specs.Find.{any}
+use Rattle.lists.specs.Build.{tabulate, up_to}
+use Rattle.lists.proofs.Counted.{any-more, any_found}
+use Rattle.sdc_common.specs.Lent.{glue_of}
+use Rattle.sdc_common.specs.declared.names.LentName.{LentName}
+use Rattle.sdc1d_params.specs.inner.Scaffold.{unknown_by, unknown_at}
+use Rattle.sdc1d_params.proofs.scaffold.any_unknown.Goals as goal
+
+pub loop-i-init : goal.loop-i-init
+unfolding any tabulate
+loop-i-init c = (omega arith, refl)
+
+pub name_at-requires : goal.name_at-requires
+name_at-requires c = let m = c.requires.numbers_len in omega arith
+
+pub is_unknown-requires : goal.is_unknown-requires
+is_unknown-requires c = let m = c.requires.numbers_len in rw c.name_at.ensures (c.requires.fit_names c.loop-i.i (omega arith))
+
+pub returns-then-is_unknown : goal.returns-then-is_unknown
+returns-then-is_unknown c =
+    let a = c.args in
+    let i = c.loop-i.i in
+    let m = c.requires.numbers_len in
+    let said = ap (λ (n : LentName). unknown_by (get_or a.numbers.now i 0) (glue_of a.text.now n)) c.name_at.ensures in
+    sym (any_found (unknown_at a.text.now a.scaffold.now a.numbers.now) (length a.scaffold.now / 3) (λ j. j) i (omega arith) (sym said ∙ sym c.is_unknown.ensures ∙ c.if-is_unknown.true))
+
+pub loop-i-preserved : goal.loop-i-preserved
+loop-i-preserved c =
+    let a = c.args in
+    let i = c.loop-i.i in
+    let said = ap (λ (n : LentName). unknown_by (get_or a.numbers.now i 0) (glue_of a.text.now n)) c.name_at.ensures in
+    (omega arith, any-more (unknown_at a.text.now a.scaffold.now a.numbers.now) (λ j. j) i c.loop-i.invariant.1 (sym said ∙ sym c.is_unknown.ensures ∙ c.if-is_unknown.false))
+
+pub returns : goal.returns
+returns c =
+    let a = c.args in
+    let m = c.requires.numbers_len in
+    let end : c.loop-i.i ≡ length a.scaffold.now / 3 = omega arith in
+    sym (ap (λ (k : ℕ). any (unknown_at a.text.now a.scaffold.now a.numbers.now) (up_to k)) (sym end) ∙ c.loop-i.invariant.1)

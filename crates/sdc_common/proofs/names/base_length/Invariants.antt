@@ -1,0 +1,16 @@
+-- `sdc_common::base_length` meets its contract: what was passed over from the end is stars. Assumes nothing.
+use borrow.Author.Rules.{rules}
+use mathlib.Core.Path.{◌≡◌, sym, ap, ◌∙◌}
+use Prim.Native.Nat.{ℕ, ◌≤◌, ◌+◌, ◌-◌}
+use native.Mathlib.Omega.{arith}
+use lib.ListN.{length, take}
+use lib.Seq.{take-length}
+use Rattle.sdc_common.specs.Names.{base_length}
+use Rattle.sdc_common.proofs.Bases.{base-none, strip-star, strip-none}
+use Rattle.sdc_common.proofs.names.base_length.Given as goal
+
+abbrev pub invariant-loop-n : goal.invariant-loop-n
+invariant-loop-n l = (l.n ≤ length l.name) × (base_length l.name ≡ base_length (take l.n l.name))
+
+abbrev pub decreases-loop-n : goal.decreases-loop-n
+decreases-loop-n l = l.n

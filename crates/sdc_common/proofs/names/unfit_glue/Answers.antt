@@ -1,0 +1,17 @@
+-- `sdc_common::unfit_glue` meets its contract: an absent name is not looked at. Assumes nothing.
+use borrow.Author.Rules.{rules}
+use borrow.Author.Tests.{eq-eqb, ne_eqb}
+use Rattle.sdc_common.specs.Lent.{unfit_glue}
+use Rattle.sdc_common.proofs.names.unfit_glue.Goals as goal
+
+pub returns-then-name-eq-ABSENT : goal.returns-then-name-eq-ABSENT
+unfolding unfit_glue
+returns-then-name-eq-ABSENT c = simp (eq-eqb c.args.name.mark 0 c.if-name-eq-ABSENT.true)
+
+pub returns-then-name-ne-PRESENT : goal.returns-then-name-ne-PRESENT
+unfolding unfit_glue
+returns-then-name-ne-PRESENT c = simp (ne_eqb c.args.name.mark 0 c.if-name-eq-ABSENT.false, ne_eqb c.args.name.mark 1 c.if-name-ne-PRESENT.true)
+
+pub returns : goal.returns
+unfolding unfit_glue
+returns c = simp (ne_eqb c.args.name.mark 0 c.if-name-eq-ABSENT.false, eq-eqb c.args.name.mark 1 c.if-name-ne-PRESENT.false) c.unfit_name.ensures

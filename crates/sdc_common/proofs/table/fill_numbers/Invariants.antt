@@ -1,0 +1,21 @@
+-- `sdc_common::fill_numbers` meets its contract: the numbers of the names passed are stored. Assumes nothing.
+use borrow.Author.Rules.{rules}
+use mathlib.Core.Path.{◌≡◌, refl, sym, ap, ◌∙◌}
+use mathlib.Core.List.{map}
+use Prim.Native.Nat.{ℕ, ◌-◌, ◌/◌, ◌≤◌}
+use native.Mathlib.Omega.{arith}
+use lib.ListN.{length}
+use Rattle.lists.specs.Build.{tabulate}
+use Rattle.lists.proofs.Counted.{stored, stored-none, stored-length, stored_more, stored-whole, map-tabulate}
+use Rattle.sdc_common.specs.Lent.{Glue, glue_of}
+use Rattle.sdc_common.specs.Numbers.{glue_number}
+use Rattle.sdc_common.specs.inner.Table.{held}
+use Rattle.sdc_common.proofs.Fit.{glue_at, glues-listed}
+use Rattle.sdc_common.proofs.Held.{number_of_glue}
+use Rattle.sdc_common.proofs.table.fill_numbers.Given as goal
+
+abbrev pub invariant-loop-i : goal.invariant-loop-i
+invariant-loop-i l = (l.i ≤ l.n) × (length l.initial.numbers ≡ l.n) × (l.numbers ≡ stored (number_of_glue l.text l.heads l.sizes l.count l.names) l.i l.initial.numbers) × (l.n ≡ length l.names / 3)
+
+abbrev pub decreases-loop-i : goal.decreases-loop-i
+decreases-loop-i l = l.n - l.i

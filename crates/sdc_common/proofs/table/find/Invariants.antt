@@ -1,0 +1,18 @@
+-- `sdc_common::find` meets its contract: no base that was passed over has the name. Assumes nothing.
+use borrow.Author.Rules.{rules}
+use mathlib.Core.Path.{◌≡◌, sym, ap, ◌∙◌}
+use mathlib.Core.Bool.{true, false}
+use Prim.Native.Nat.{ℕ, ◌-◌, ◌≤◌, ◌<◌}
+use native.Mathlib.Omega.{arith}
+use borrow.Author.Count.{below_none, below_more}
+use Rattle.lists.proofs.Counted.{first_found, first-none}
+use Rattle.sdc_common.specs.Names.{same_name}
+use Rattle.sdc_common.specs.inner.Table.{held_at, held}
+use Rattle.sdc_common.proofs.Held.{part-is}
+use Rattle.sdc_common.proofs.table.find.Given as goal
+
+abbrev pub invariant-loop-k : goal.invariant-loop-k
+invariant-loop-k l = (l.k ≤ l.count) × ((j : ℕ) → j < l.k → same_name l.name (held_at l.text l.heads l.sizes j) ≡ false)
+
+abbrev pub decreases-loop-k : goal.decreases-loop-k
+decreases-loop-k l = l.count - l.k

@@ -1,0 +1,48 @@
+use borrow.Author.Rules.{rules}
+use mathlib.Core.Path.{◌≡◌, sym, ap, ◌∙◌}
+use Prim.Native.Nat.{◌+◌, ◌-◌, ◌≤◌}
+use native.Mathlib.Omega.{arith}
+use native.Mathlib.Numerals.{add-one}
+use lib.ListN.{length, drop}
+use borrow.Author.Tests.{lt-ltb, le-ltb}
+use Rattle.lists.specs.Find.{first_index}
+use Rattle.lists.proofs.Find.{first-here, first-later, first_past}
+use Rattle.sheet.specs.Faults.{same_word}
+use Rattle.sheet.specs.Once.{is_named, strand_named}
+use Rattle.sheet.proofs.once.strand_named.Goals as goal
+
+pub loop-k-init : goal.loop-k-init
+loop-k-init c = (omega arith, omega arith)
+
+pub returns-then-same_word : goal.returns-then-same_word
+unfolding strand_named
+returns-then-same_word c =
+    
+    let a = c.args in
+    let t = is_named a.text.now a.words.now a.name in
+    let rows = a.rows.now in
+    let k = c.loop-k.k in
+    let met = sym (c.same_word.ensures ∙ ap (same_word a.text.now a.name) c.word_of.ensures) ∙ c.if-same_word.true in
+    let here : first_index t rows ≡ k = omega (arith, first-here t rows k 0 (omega arith) met) in
+    rw here (rw (lt-ltb k (length rows) (omega arith)) (add-one k))
+
+pub loop-k-preserved : goal.loop-k-preserved
+loop-k-preserved c =
+    
+    let a = c.args in
+    let t = is_named a.text.now a.words.now a.name in
+    let rows = a.rows.now in
+    let k = c.loop-k.k in
+    let met = sym (c.same_word.ensures ∙ ap (same_word a.text.now a.name) c.word_of.ensures) ∙ c.if-same_word.false in
+    (omega arith, omega (arith, first-later t rows k 0 (omega arith) met))
+
+pub returns : goal.returns
+unfolding strand_named
+returns c =
+    
+    let a = c.args in
+    let t = is_named a.text.now a.words.now a.name in
+    let rows = a.rows.now in
+    let k = c.loop-k.k in
+    let past : length rows ≤ first_index t rows = omega (arith, first_past t rows k c.loop-k-test.false) in
+    simp (le-ltb _ _ past)

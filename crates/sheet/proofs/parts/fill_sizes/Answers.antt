@@ -1,0 +1,25 @@
+use borrow.Author.Rules.{rules}
+use mathlib.Core.Path.{ap}
+use Prim.Native.Nat.{◌-◌}
+use native.Mathlib.Omega.{arith}
+use lib.ListN.{length}
+use Rattle.statements.specs.declared.words.Word.{Word}
+use Rattle.sheet.specs.Parts.{size_at}
+use Rattle.sheet.specs.declared.parts.Part.TheVariants.{First}
+use Rattle.sheet.proofs.Fill.{Filled, filled_none, filled-length, filled_more, filled-whole}
+use Rattle.sheet.proofs.parts.fill_sizes.Goals as goal
+
+pub loop-m-init : goal.loop-m-init
+loop-m-init c = filled_none _ _
+
+pub loop-m-smaller : goal.loop-m-smaller
+loop-m-smaller c = omega (arith, filled-length c.loop-m.invariant)
+
+pub loop-m-preserved : goal.loop-m-preserved
+loop-m-preserved c = filled_more c.loop-m.invariant c.loop-m-test.true (ap (λ (w : Word). w.size) c.part_at-word.ensures)
+
+pub shape_of-sizes : goal.shape_of-sizes
+shape_of-sizes c = filled-length c.loop-m.invariant
+
+pub returns : goal.returns
+returns c = filled-whole c.loop-m.invariant c.loop-m-test.false

@@ -1,0 +1,6 @@
+-- `sheet::parts::positions` meets its contract. Assumes nothing.
+use borrow.Author.Rules.{rules}
+use Rattle.sheet.proofs.parts.positions.Goals as goal
+
+pub returns : goal.returns
+returns c = c.fill_names.ensures

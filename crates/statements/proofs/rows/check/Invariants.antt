@@ -1,0 +1,20 @@
+-- `statements::rows::check` meets its contract: the lines that are left give the whole answer. Assumes nothing.
+use borrow.Author.Rules.{rules}
+use mathlib.Core.Path.{◌≡◌, refl, sym, ◌∙◌}
+use Prim.Native.Nat.{◌≤◌, ◌-◌, ◌+◌}
+use native.Mathlib.Omega.{arith}
+use lib.ListN.{length, drop}
+use lib.Seq.{length-take-le}
+use Rattle.statements.specs.Words.{line_of, lines_from, lines_of}
+use Rattle.statements.specs.Rows.{answer_from}
+use Rattle.statements.proofs.Bytes.{lines-past}
+use Rattle.statements.proofs.Answers.{answer-fault, answer-full, answer-more}
+use Rattle.statements.proofs.rows.check.Given as goal
+
+abbrev pub invariant-loop-at : goal.invariant-loop-at
+invariant-loop-at l =
+    (l.count ≤ l.room) × (l.number ≤ l.at + 1) × (l.at ≤ length l.text + 1)
+    × (answer_from l.text l.room 1 0 (lines_of l.text) ≡ answer_from l.text l.room l.number l.count (lines_from l.at l.at (drop l.at l.text)))
+
+abbrev pub decreases-loop-at : goal.decreases-loop-at
+decreases-loop-at l = length l.text + 1 - l.at

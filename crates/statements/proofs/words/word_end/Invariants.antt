@@ -1,0 +1,17 @@
+-- `statements::words::word_end` meets its contract: up to the end, the word goes on. Assumes nothing.
+use borrow.Author.Rules.{rules}
+use mathlib.Core.Path.{◌≡◌, refl, sym, ◌∙◌}
+use mathlib.Core.Option.{some}
+use Prim.Native.Nat.{◌≤◌, ◌<◌, ◌-◌, ◌+◌}
+use native.Mathlib.Omega.{arith}
+use lib.ListN.{length, drop}
+use Rattle.statements.specs.Words.{scan}
+use Rattle.statements.proofs.Bytes.{word_on, word-ends, word-last}
+use Rattle.statements.proofs.words.word_end.Given as goal
+
+abbrev pub invariant-loop-i : goal.invariant-loop-i
+invariant-loop-i l =
+    (l.start < l.i) × (l.i ≤ length l.line) × (scan (some l.start) (l.start + 1) (drop (l.start + 1) l.line) ≡ scan (some l.start) l.i (drop l.i l.line))
+
+abbrev pub decreases-loop-i : goal.decreases-loop-i
+decreases-loop-i l = length l.line - l.i
