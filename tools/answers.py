@@ -131,6 +131,20 @@ def as_record(body, fields):
     return None
 
 
+def references(callee):
+    """The parameters of a function that are references, by its path."""
+    if not callee:
+        return []
+    crate, name = callee.split("::")[0], callee.split("::")[-1]
+    for f in sorted(glob.glob(f"crates/{crate}/src/**/*.rt", recursive=True)):
+        with open(f, encoding="utf-8") as it:
+            m = re.search(rf"fn {name}(?:<[^>]*>)?\(([^)]*)\)", it.read())
+        if m:
+            params = [p.strip() for p in m[1].replace("\n", " ").split(",") if ":" in p]
+            return [p.split(":")[0].replace("mut ", "").strip() for p in params if "&" in p]
+    return []
+
+
 class Function:
     def __init__(self, names):
         self.v = names
@@ -190,7 +204,7 @@ class Function:
             return "c", q
         step = rest[0]
         if step in ("args", "lifetimes", "ranges", "auto", "type_inv", "well-formed"):
-            rest = [norm_field(r) for r in rest]
+            rest = [rest[0]] + [norm_field(r) for r in rest[1:2]] + rest[2:]
             text = "." + ".".join(rest)
             for old, new in self.v["args"]:
                 text = re.sub(re.escape(old.replace(" ", "")) + r"(?![\w-])", new.replace(" ", ""), text)
@@ -225,7 +239,15 @@ class Function:
             if norm(old) == norm(step) and rest[1:2] == ["given"]:
                 return ".".join(["c", "type_inv", name] + rest[2:]), None
         new = self.own(found)[1]
-        rest = [norm_field(r) if not r.isdigit() else r for r in rest[1:]]
+        rest = rest[1:]
+        if rest and new.startswith("loop"):
+            rest[0] = norm_field(rest[0])
+        if len(rest) > 1 and rest[0] == "new":
+            callee = self.v["places"][found][3]
+            params = references(callee)
+            if rest[1].isdigit() and int(rest[1]) < len(params):
+                rest[1] = params[int(rest[1])]
+            rest[1] = norm_field(rest[1])
         for old, now in self.v["places"][found][4]:
             if rest and rest[0] == old:
                 rest[0] = now

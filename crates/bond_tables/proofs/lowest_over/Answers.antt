@@ -47,7 +47,7 @@ unfolding model_of
 slice_bounds-lowest-end-2 c =
     let a = c.args in
     let d : Design = lent a.scaffold a.marks a.glues a.dg a.ds a.potentials a.ambient in
-    let number : length c.fill_options.new.1.1.1.1.1.1.1.0 ≡ positions d = placed d (c.fill_options.ensures.option_rows (model_of d) refl) in
+    let number : length c.fill_options.new.marks.1.1.1.1.1.1.0 ≡ positions d = placed d (c.fill_options.ensures.option_rows (model_of d) refl) in
     simp length-append (omega arith)
 
 pub lowest-requires : goal.lowest-requires
@@ -55,9 +55,9 @@ unfolding model_of
 lowest-requires c =
     let a = c.args in
     let d : Design = lent a.scaffold a.marks a.glues a.dg a.ds a.potentials a.ambient in
-    let number : length c.fill_options.new.1.1.1.1.1.1.1.0 ≡ positions d = placed d (c.fill_options.ensures.option_rows (model_of d) refl) in
-    let full : length c.fill_options.new.1.1.1.1.1.1.1.0 ≡ positions d - 0 = omega (arith, number) in
-    let again = take_at c.fill_options.new.1.1.1.1.1.1.1.0 (drop (positions d - 0) (replicate {A = ℕ} 128 0)) (positions d - 0) full in
+    let number : length c.fill_options.new.marks.1.1.1.1.1.1.0 ≡ positions d = placed d (c.fill_options.ensures.option_rows (model_of d) refl) in
+    let full : length c.fill_options.new.marks.1.1.1.1.1.1.0 ≡ positions d - 0 = omega (arith, number) in
+    let again = take_at c.fill_options.new.marks.1.1.1.1.1.1.0 (drop (positions d - 0) (replicate {A = ℕ} 128 0)) (positions d - 0) full in
     record {
       searchable = rw again c.fill_options.ensures.searchable;
       potentials_in_bounds = omega (arith, c.requires.strand_bonds_len);
@@ -72,8 +72,8 @@ returns c =
     let d : Design = lent a.scaffold a.marks a.glues a.dg a.ds a.potentials a.ambient in
     let t = a.strand-bonds.now in
     let u = a.scaffold-bonds.now in
-    let number : length c.fill_options.new.1.1.1.1.1.1.1.0 ≡ positions d = placed d (c.fill_options.ensures.option_rows (model_of d) refl) in
-    let full : length c.fill_options.new.1.1.1.1.1.1.1.0 ≡ positions d - 0 = omega (arith, number) in
-    let again = take_at c.fill_options.new.1.1.1.1.1.1.1.0 (drop (positions d - 0) (replicate {A = ℕ} 128 0)) (positions d - 0) full in
+    let number : length c.fill_options.new.marks.1.1.1.1.1.1.0 ≡ positions d = placed d (c.fill_options.ensures.option_rows (model_of d) refl) in
+    let full : length c.fill_options.new.marks.1.1.1.1.1.1.0 ≡ positions d - 0 = omega (arith, number) in
+    let again = take_at c.fill_options.new.marks.1.1.1.1.1.1.0 (drop (positions d - 0) (replicate {A = ℕ} 128 0)) (positions d - 0) full in
     let options = c.fill_options.ensures.option_rows (model_over d t u) refl in
     c.lowest.ensures (model_over d t u) (rw again options) (cells-lent d t u (tables-fit d t u c.requires.strand_bonds_len c.requires.scaffold_bonds_len) c.requires.admitted) refl

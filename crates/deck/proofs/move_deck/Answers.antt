@@ -80,9 +80,9 @@ returns-in-Nowhere c =
     let count : c.pack.result ≡ length (moved_words from to words) = p.0 ∙ ap length deck in
     let few = configuration-few from words v in
     let room = deck-length to (configuration_of from words) in
-    let written : c.pack.new.1.1.0 ≡ over (moved_words from to words) moved =
+    let written : c.pack.new.words.1.0 ≡ over (moved_words from to words) moved =
     p.1 ∙ ap (sets moved 0) deck ∙ sets_over (moved_words from to words) moved (omega arith) in
-    let result : take c.pack.result c.pack.new.1.1.0 ≡ moved_words from to words =
+    let result : take c.pack.result c.pack.new.words.1.0 ≡ moved_words from to words =
     ap₂ take count written ∙ take-over (moved_words from to words) moved in
     record {
       result_value = rw (t, v, count);

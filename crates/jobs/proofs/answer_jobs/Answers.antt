@@ -52,8 +52,8 @@ fill_energies-requires c =
     let area = mul-le-mul short few in
     let same = p.1.1.1.0 in
     let n = length a.scaffold.now in
-    let strand-cells : length c.settle-least.new.1.1.1.1.1.1.1.1.0 ≡ 4096 = c.settle-least.auto.1.1.1.1.1.1.1.1.0 in
-    let scaffold-cells : length c.settle-least.new.1.1.1.1.1.1.1.1.1.0 ≡ 8192 = c.settle-least.auto.1.1.1.1.1.1.1.1.1.0 in
+    let strand-cells : length c.settle-least.new.options.1.1.1.1.1.1.1.0 ≡ 4096 = c.settle-least.auto.1.1.1.1.1.1.1.1.0 in
+    let scaffold-cells : length c.settle-least.new.options.1.1.1.1.1.1.1.1.0 ≡ 8192 = c.settle-least.auto.1.1.1.1.1.1.1.1.1.0 in
     record {
       searchable = p.searchable;
       potentials_nonzero = p.potentials_nonzero;
@@ -79,7 +79,7 @@ slice_bounds-fill_stretches-end c =
     let area = mul-le-mul short few in
     let same = p.1.1.1.0 in
     let n = length a.scaffold.now in
-    let shown = c.settle-least.new.1.1.1.1.1.1.1.1.1.1.0 in
+    let shown = c.settle-least.new.options.1.1.1.1.1.1.1.1.1.0 in
     let number : length shown ≡ n = c.settle-least.auto.1.1.1.1.1.1.1.1.1.1.0 ∙ (omega (arith, length-take (n - 0) (replicate {A = ℕ} 128 0))) in
     simp length-append (omega arith)
 
@@ -94,7 +94,7 @@ fill_stretches-requires c =
     let area = mul-le-mul short few in
     let same = p.1.1.1.0 in
     let n = length a.scaffold.now in
-    let shown = c.settle-least.new.1.1.1.1.1.1.1.1.1.1.0 in
+    let shown = c.settle-least.new.options.1.1.1.1.1.1.1.1.1.0 in
     let number : length shown ≡ n = c.settle-least.auto.1.1.1.1.1.1.1.1.1.1.0 ∙ (omega (arith, length-take (n - 0) (replicate {A = ℕ} 128 0))) in
     let full : length shown ≡ n - 0 = omega (arith, number) in
     let again = take_at shown (drop (n - 0) (replicate {A = ℕ} 128 0)) (n - 0) full in
@@ -117,7 +117,7 @@ returns c =
     let area = mul-le-mul short few in
     let same = p.1.1.1.0 in
     let n = length a.scaffold.now in
-    let shown = c.settle-least.new.1.1.1.1.1.1.1.1.1.1.0 in
+    let shown = c.settle-least.new.options.1.1.1.1.1.1.1.1.1.0 in
     let number : length shown ≡ n = c.settle-least.auto.1.1.1.1.1.1.1.1.1.1.0 ∙ (omega (arith, length-take (n - 0) (replicate {A = ℕ} 128 0))) in
     let full : length shown ≡ n - 0 = omega (arith, number) in
     let again = take_at shown (drop (n - 0) (replicate {A = ℕ} 128 0)) (n - 0) full in

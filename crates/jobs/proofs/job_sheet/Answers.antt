@@ -101,7 +101,7 @@ slice_bounds-answer_jobs-end-2 c =
     let fit = judged-fit d judged c.if-judged-ne0.false c.if-judged-ne0-2.false in
     let z = sized d fit.sizes in
     let short = z.short in
-    let room : length c.judge-judged.new.1.1.1.1.1.1.1.1.1.0 ≡ 128 = c.judge-judged.auto.1.1.1.1.1.1.1.1.1.0 in
+    let room : length c.judge-judged.new.marks.1.1.1.1.1.1.1.1.0 ≡ 128 = c.judge-judged.auto.1.1.1.1.1.1.1.1.1.0 in
     omega arith
 
 -- src/lib.rt:207:5
@@ -143,7 +143,7 @@ returns c =
     let z = sized d fit.sizes in
     let options = c.judge-judged.ensures.option_rows c.if-judged-ne0.false in
     let minus : positions d - 0 ≡ positions d = omega arith in
-    let lent-options = subst (λ (k : ℕ). OptionRows (model_of d) c.judge-judged.new.1.1.1.1.1.1.1.1.0 (take k c.judge-judged.new.1.1.1.1.1.1.1.1.1.0)) (sym minus) options.0 in
+    let lent-options = subst (λ (k : ℕ). OptionRows (model_of d) c.judge-judged.new.marks.1.1.1.1.1.1.1.0 (take k c.judge-judged.new.marks.1.1.1.1.1.1.1.1.0)) (sym minus) options.0 in
     let answered = c.answer_jobs.ensures a.marks.now fit lent-options in
     sheet-answered d s e (c.fill_numbers.ensures d judged) answered.0 answered.1 answered.2 in record {
       value = all.0;

@@ -34,8 +34,8 @@ loop-i-preserved c =
     let dg-is = ap not (sym c.in_range.ensures) in
     let ds-is = ap not (sym c.in_range-in-loop-i.ensures) in (
       omega arith,
-      elim c.if-not-in_range.branch [ inl w ↦ counted-here 1024 c.args.dg.now c.loop-i.i c.loop-i.dg_out c.if-not-in_range.dg_out dg-inside (dg-is ∙ w.0.taken) inv.1 w.1 | inr w ↦ counted-later 1024 c.args.dg.now c.loop-i.i c.loop-i.dg_out c.if-not-in_range.dg_out dg-inside (dg-is ∙ w.0.left) inv.1 w.1 ],
-      elim c.if-not-in_range-2.branch [ inl w ↦ counted-here 8 c.args.ds.now c.loop-i.i c.loop-i.ds_out c.if-not-in_range-2.ds_out ds-inside (ds-is ∙ w.0.taken) inv.2 w.1 | inr w ↦ counted-later 8 c.args.ds.now c.loop-i.i c.loop-i.ds_out c.if-not-in_range-2.ds_out ds-inside (ds-is ∙ w.0.left) inv.2 w.1 ],
+      elim c.if-not-in_range.branch [ inl w ↦ counted-here 1024 c.args.dg.now c.loop-i.i c.loop-i.dg_out c.if-not-in_range.dg-out dg-inside (dg-is ∙ w.0.taken) inv.1 w.1 | inr w ↦ counted-later 1024 c.args.dg.now c.loop-i.i c.loop-i.dg_out c.if-not-in_range.dg-out dg-inside (dg-is ∙ w.0.left) inv.1 w.1 ],
+      elim c.if-not-in_range-2.branch [ inl w ↦ counted-here 8 c.args.ds.now c.loop-i.i c.loop-i.ds_out c.if-not-in_range-2.ds-out ds-inside (ds-is ∙ w.0.taken) inv.2 w.1 | inr w ↦ counted-later 8 c.args.ds.now c.loop-i.i c.loop-i.ds_out c.if-not-in_range-2.ds-out ds-inside (ds-is ∙ w.0.left) inv.2 w.1 ],
     )
 
 pub returns-then-dg_out-gt0 : goal.returns-then-dg_out-gt0

@@ -78,5 +78,5 @@ returns c =
     let m = c.wide-right_end.result - 1 - 0 in
     record {
       kept = filled.kept;
-      closing_held = closing-held bond c.requires.searchable c.fill_neighbours.new.1.1.1.1.1.1.1.0 c.requires.counts_nonzero n m (omega arith) (omega arith) filled.by_index;
+      closing_held = closing-held bond c.requires.searchable c.fill_neighbours.new.friends.1.1.1.1.1.1.0 c.requires.counts_nonzero n m (omega arith) (omega arith) filled.by_index;
     }

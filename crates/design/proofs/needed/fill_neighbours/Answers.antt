@@ -26,7 +26,7 @@ loop-j-preserved c =
     let bond = (strand_bond c.args.glues.now c.args.dg.now c.args.ds.now c.args.ambient) in
     let left = c.args.left.now in
     let friends = c.args.friends.now in
-    let cells = c.fill_pairs_of.new.1.1.1.1.1.1.1.0 in (
+    let cells = c.fill_pairs_of.new.glues.1.1.1.1.1.1.0 in (
       omega arith,
       kept_then bond c.args.strands c.loop-j.invariant.1 c.fill_pairs_of.ensures.kept,
       below_more (λ (i : ℕ). HeldAt bond c.args.strands cells (get_or left i 0) friends (length friends)) c.loop-j.j

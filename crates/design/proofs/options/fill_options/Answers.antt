@@ -28,7 +28,7 @@ loop-position-preserved c =
     let a = c.args in
     let l = c.loop-position in
     let i = l.position in
-    let row = c.fill_row.new.1.1.1.1.1.1.0 in
+    let row = c.fill_row.new.dg.1.1.1.1.1.0 in
     let room : 64 * i + 64 ≤ length l.rows = omega arith in
     let full : length row ≡ 64 = let sized = c.fill_row in omega arith in
     let size : 64 * i + 64 - 64 * i ≡ 64 = omega arith in

@@ -27,7 +27,7 @@ bounds-pairs-position c =
     omega (arith, c.requires.configuration_in_bounds_2)
 
 pub offset_bounds-logs-position : goal.offset_bounds-logs-position
-offset_bounds-logs-position c = let here = c.loop-position-test.true in let room = c.requires.configuration_in_bounds_3 in let known = c.well_formed in omega arith
+offset_bounds-logs-position c = let here = c.loop-position-test.true in let room = c.requires.configuration_in_bounds_3 in let known = c.well-formed in omega arith
 
 pub bounds-logs-position : goal.bounds-logs-position
 bounds-logs-position c =
@@ -35,7 +35,7 @@ bounds-logs-position c =
     omega (arith, c.requires.configuration_in_bounds_3)
 
 pub overflow_add-position-in-loop-position : goal.overflow_add-position-in-loop-position
-overflow_add-position-in-loop-position c = let here = c.loop-position-test.true in let room = c.requires.configuration_in_bounds_3 in let known = c.well_formed in omega arith
+overflow_add-position-in-loop-position c = let here = c.loop-position-test.true in let room = c.requires.configuration_in_bounds_3 in let known = c.well-formed in omega arith
 
 pub loop-position-preserved : goal.loop-position-preserved
 loop-position-preserved c =

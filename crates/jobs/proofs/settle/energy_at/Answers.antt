@@ -34,7 +34,7 @@ slice_bounds-state_energy-end c =
     let p = c.requires in
     let short = p.0.short in
     let n = length a.options.now in
-    let written = c.write_state.new.1.1.1.1.0 in
+    let written = c.write_state.new.counts.1.1.1.0 in
     let number : length written ≡ n = c.write_state.auto.1.1.1.1.0 ∙ (omega (arith, length-take (n - 0) (replicate {A = ℕ} 128 0))) in
     simp length-append (omega arith)
 
@@ -45,7 +45,7 @@ state_energy-energy-requires c =
     let p = c.requires in
     let short = p.0.short in
     let n = length a.options.now in
-    let written = c.write_state.new.1.1.1.1.0 in
+    let written = c.write_state.new.counts.1.1.1.0 in
     let number : length written ≡ n = c.write_state.auto.1.1.1.1.0 ∙ (omega (arith, length-take (n - 0) (replicate {A = ℕ} 128 0))) in
     let full : length written ≡ n - 0 = omega (arith, number) in
     let again = take_at written (drop (n - 0) (replicate {A = ℕ} 128 0)) (n - 0) full in
@@ -71,7 +71,7 @@ returns c =
     let p = c.requires in
     let short = p.0.short in
     let n = length a.options.now in
-    let written = c.write_state.new.1.1.1.1.0 in
+    let written = c.write_state.new.counts.1.1.1.0 in
     let number : length written ≡ n = c.write_state.auto.1.1.1.1.0 ∙ (omega (arith, length-take (n - 0) (replicate {A = ℕ} 128 0))) in
     let full : length written ≡ n - 0 = omega (arith, number) in
     let again = take_at written (drop (n - 0) (replicate {A = ℕ} 128 0)) (n - 0) full in

@@ -51,7 +51,7 @@ returns-then-none_left c =
     let w = lent a.place-digits.now a.place-powers.now a.pair-digits.now a.pair-powers.now a.strands in
     let n = length a.counts.now in
     let k = c.keep_allowed.ensures in
-    let kept = c.keep_allowed.new.1.1.1.1.1.1.0 in
+    let kept = c.keep_allowed.new.counts.1.1.1.1.1.0 in
     let full : length kept ≡ n - 0 = omega (arith, k.positions) in
     let again = take_at kept (drop (n - 0) (replicate {A = ℕ} 128 0)) (n - 0) full in
     let none = none-left-is k ∙ sym (rw again at c.none_left.ensures) ∙ c.if-none_left.true in
@@ -70,7 +70,7 @@ free_sum-requires c =
     let w = lent a.place-digits.now a.place-powers.now a.pair-digits.now a.pair-powers.now a.strands in
     let n = length a.counts.now in
     let k = c.keep_allowed.ensures in
-    let kept = c.keep_allowed.new.1.1.1.1.1.1.0 in
+    let kept = c.keep_allowed.new.counts.1.1.1.1.1.0 in
     let number = k.positions in
     let full : length kept ≡ n - 0 = omega arith in
     let again = take_at kept (drop (n - 0) (replicate {A = ℕ} 128 0)) (n - 0) full in
@@ -92,7 +92,7 @@ returns c =
     let w = lent a.place-digits.now a.place-powers.now a.pair-digits.now a.pair-powers.now a.strands in
     let n = length a.counts.now in
     let k = c.keep_allowed.ensures in
-    let kept = c.keep_allowed.new.1.1.1.1.1.1.0 in
+    let kept = c.keep_allowed.new.counts.1.1.1.1.1.0 in
     let full : length kept ≡ n - 0 = omega (arith, k.positions) in
     let again = take_at kept (drop (n - 0) (replicate {A = ℕ} 128 0)) (n - 0) full in
     rw again at c.free_sum.ensures ∙ ap (sum_of_weights w) (kept-options k r.listed.starting)

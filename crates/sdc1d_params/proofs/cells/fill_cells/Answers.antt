@@ -35,7 +35,7 @@ pub offset_bounds-rows-i : goal.offset_bounds-rows-i
 offset_bounds-rows-i c =
     let n = c.loop-i.invariant.5 in
     let t = c.loop-i-test.true in
-    omega (arith, c.well_formed, n, t)
+    omega (arith, c.well-formed, n, t)
 
 pub bounds-rows-i : goal.bounds-rows-i
 bounds-rows-i c =
@@ -47,7 +47,7 @@ pub offset_bounds-columns-i : goal.offset_bounds-columns-i
 offset_bounds-columns-i c =
     let n = c.loop-i.invariant.5 in
     let t = c.loop-i-test.true in
-    omega (arith, c.well_formed, n, t)
+    omega (arith, c.well-formed, n, t)
 
 pub bounds-columns-i : goal.bounds-columns-i
 bounds-columns-i c =
@@ -59,7 +59,7 @@ pub overflow_add-i : goal.overflow_add-i
 overflow_add-i c =
     let n = c.loop-i.invariant.5 in
     let t = c.loop-i-test.true in
-    omega (arith, c.well_formed, n, t)
+    omega (arith, c.well-formed, n, t)
 
 pub loop-i-smaller : goal.loop-i-smaller
 loop-i-smaller c = let t = c.loop-i-test.true in omega (arith, t)

@@ -45,10 +45,10 @@ loop-i-preserved c =
     (omega arith, omega (arith, e.upper_bound), e.table_2, e.result_after ∙ ap₂ (λ (bases : List (List ℕ)) (g : Glue). learn bases g) l.invariant.3 here ∙ sym (fold_more learn [] glue l.i), l.invariant.4)
 
 pub shape_of-heads : goal.shape_of-heads
-shape_of-heads c = c.loop-i.invariant.2.starts_room ∙ sym c.requires.heads_len.0
+shape_of-heads c = c.loop-i.invariant.2.starts-room ∙ sym c.requires.heads_len.0
 
 pub shape_of-sizes : goal.shape_of-sizes
-shape_of-sizes c = c.loop-i.invariant.2.lengths_room ∙ sym c.requires.heads_len.1
+shape_of-sizes c = c.loop-i.invariant.2.lengths-room ∙ sym c.requires.heads_len.1
 
 pub returns : goal.returns
 unfolding bases_of

@@ -23,7 +23,7 @@ unfolding rows_by
 overflow_add-result c =
     let a = c.args in
     let one = ap length (rows-by a.line.now a.at c.statement_of-row.result c.statement_of-row.ensures _ c.in-Whole.is a.number) in
-    omega (arith, c.well_formed, c.requires.at_in_bounds)
+    omega (arith, c.well-formed, c.requires.at_in_bounds)
 
 pub lay_positions-requires : goal.lay_positions-requires
 unfolding rows_by

@@ -39,12 +39,12 @@ pub overflow_add-next : goal.overflow_add-next
 overflow_add-next c =
     let more = ap length (c.next_word-word.ensures.more (omega arith)) in
     let room : c.loop-word.next < length c.loop-word.kinds = omega (arith, c.requires) in
-    omega (arith, c.well_formed)
+    omega (arith, c.well-formed)
 
 pub overflow_add-from : goal.overflow_add-from
 overflow_add-from c =
     let inside = c.next_word-word.ensures.inside (omega arith) in
-    omega (arith, c.well_formed)
+    omega (arith, c.well-formed)
 
 pub loop-word-smaller : goal.loop-word-smaller
 loop-word-smaller c =
