@@ -185,6 +185,8 @@ class Function:
             return fields[k], rest[k:]
         if k < len(rest) and rest[k] == "0":
             return fields[k], rest[k + 1 :]
+        if k == len(rest):
+            return fields[k:], []
         return None, rest
 
     def turn_chain(self, at, fields):
@@ -214,6 +216,8 @@ class Function:
             rest = rest[1:]
             if pre and rest:
                 name, rest = self.clause(pre["fields"], rest)
+                if isinstance(name, list):
+                    return "c.requires", ("clauses", name)
                 return ".".join(["c.requires"] + ([name] if name else []) + rest), None
             return ".".join(["c.requires"] + rest), ("clauses", pre["fields"]) if pre else None
         found = self.find(at, step)
@@ -239,39 +243,53 @@ class Function:
             if norm(old) == norm(step) and rest[1:2] == ["given"]:
                 return ".".join(["c", "type_inv", name] + rest[2:]), None
         new = self.own(found)[1]
-        rest = rest[1:]
-        if rest and new.startswith("loop"):
-            rest[0] = norm_field(rest[0])
-        if len(rest) > 1 and rest[0] == "new":
-            callee = self.v["places"][found][3]
-            params = references(callee)
-            if rest[1].isdigit() and int(rest[1]) < len(params):
-                rest[1] = params[int(rest[1])]
-            rest[1] = norm_field(rest[1])
+        if len(rest) == 1:
+            return ".".join(["c", new]), ("step", found)
+        tail, left = self.turn_step(found, rest[1:])
+        return ".".join(["c", new] + tail), left
+
+    def turn_step(self, found, rest):
+        """The fields behind a step's name, turned, and what a `let` of them would stand for."""
+        callee = self.v["places"][found][3]
+        if self.own(found)[1].startswith("loop"):
+            rest = [norm_field(rest[0])] + rest[1:]
+        if len(rest) > 1 and rest[0] in ("new", "auto"):
+            given = references(callee)
+            if rest[1].isdigit() and int(rest[1]) < len(given):
+                rest = [rest[0], given[int(rest[1])]] + rest[2:]
+            rest = [rest[0], norm_field(rest[1])] + rest[2:]
         for old, now in self.v["places"][found][4]:
-            if rest and rest[0] == old:
-                rest[0] = now
+            if rest[0] == old:
+                rest = [now] + rest[1:]
                 break
-        if rest and rest[0] == "ensures":
-            cf = self.clause_fields(found)
-            if cf:
-                if len(rest) > 1:
-                    name, tail = self.clause(cf, rest[1:])
-                    rest = ["ensures"] + ([name] if name else []) + tail
-                else:
-                    return ".".join(["c", new, "ensures"]), ("clauses", cf)
-        return ".".join(["c", new] + rest), None
+        cf = self.clause_fields(found) if rest[0] == "ensures" else None
+        if cf:
+            if len(rest) == 1:
+                return rest, ("clauses", cf)
+            name, tail = self.clause(cf, rest[1:])
+            if isinstance(name, list):
+                return ["ensures"], ("clauses", name)
+            return ["ensures"] + ([name] if name else []) + tail, None
+        return rest, None
 
     def turn(self, body, at, record):
         """The body of an answer, turned; `record` is the name of its argument."""
         aliases = {record: at}
-        clauses = {}
+        clauses, steps, args = {}, {}, set()
 
         def chain(m):
             name, fields = m[1], [f for f in m[2].split(".") if f]
             if name in clauses and fields:
                 named, rest = self.clause(clauses[name], fields)
+                if isinstance(named, list):
+                    self.flags.append(f"the clauses from {named[0]} on")
+                    return m[0]
                 return ".".join([name] + ([named] if named else []) + rest)
+            if name in steps and fields:
+                tail, _ = self.turn_step(steps[name], fields)
+                return ".".join([name] + tail)
+            if name in args and fields:
+                return ".".join([name, norm_field(fields[0])] + fields[1:])
             if name not in aliases:
                 return m[0]
             if name == record and not fields:
@@ -293,8 +311,22 @@ class Function:
                     # the alias goes: every use of it is turned to `c`
                     continue
                 if isinstance(left, tuple):
-                    clauses[name] = left[1]
+                    (clauses if left[0] == "clauses" else steps)[name] = left[1]
+                if new == "c.args":
+                    args.add(name)
                 out.append(f"let {name} = {new} in")
+            elif base in steps and fields:
+                tail, left = self.turn_step(steps[base], fields)
+                if isinstance(left, tuple):
+                    clauses[name] = left[1]
+                out.append(f"let {name} = {'.'.join([base] + tail)} in")
+            elif base in clauses and fields:
+                named, rest = self.clause(clauses[base], fields)
+                if isinstance(named, list):
+                    clauses[name] = named
+                    out.append(f"let {name} = {base} in")
+                else:
+                    out.append(f"let {name} = {'.'.join([base] + ([named] if named else []) + rest)} in")
             else:
                 out.append(m[0])
             last = m.end()

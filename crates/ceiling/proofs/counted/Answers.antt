@@ -15,7 +15,7 @@ pub search_states-requires : goal.search_states-requires
 search_states-requires c =
     let a = c.args in
     let d : Design = lent a.scaffold a.marks a.glues a.dg a.ds a.potentials a.ambient in
-    let kept : length c.count_options-states.new.marks.1.1.1.1.1.1.1.0 ≡ length a.counts.now = c.count_options-states.auto.1.1.1.1.1.1.1.1.0 in
+    let kept : length c.count_options-states.new.marks.1.1.1.1.1.1.1.0 ≡ length a.counts.now = c.count_options-states.auto.marks.1.1.1.1.1.1.1.0 in
     let p = c.requires in
     record {
       searchable = c.count_options-states.ensures.searchable;

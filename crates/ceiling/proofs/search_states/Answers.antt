@@ -27,8 +27,8 @@ under_from-requires c =
     let few = c.requires.searchable.few in
     let square = mul-le-mul few few in
     let area = mul-le-mul c.requires.searchable.short few in
-    let strand-cells : length c.fill_bonds.new.counts.1.1.1.1.1.1.1.0 ≡ 4096 = c.fill_bonds.auto.1.1.1.1.1.1.1.1.0 in
-    let scaffold-cells : length c.fill_bonds.new.counts.1.1.1.1.1.1.1.1.0 ≡ 8192 = c.fill_bonds.auto.1.1.1.1.1.1.1.1.1.0 in
+    let strand-cells : length c.fill_bonds.new.counts.1.1.1.1.1.1.1.0 ≡ 4096 = c.fill_bonds.auto.counts.1.1.1.1.1.1.1.0 in
+    let scaffold-cells : length c.fill_bonds.new.counts.1.1.1.1.1.1.1.1.0 ≡ 8192 = c.fill_bonds.auto.counts.1.1.1.1.1.1.1.1.0 in
     record {
       searchable = c.requires.searchable;
       potentials_in_bounds = omega arith;

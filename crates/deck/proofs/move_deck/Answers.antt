@@ -56,10 +56,10 @@ count c =
     omega arith
 
 pub slice_bounds-entries-end : goal.slice_bounds-entries-end
-slice_bounds-entries-end c = omega (arith, count c, c.unpack-count.auto.1.1.0)
+slice_bounds-entries-end c = omega (arith, count c, c.unpack-count.auto.entries.1.0)
 
 pub slice_bounds-pack-end : goal.slice_bounds-pack-end
-slice_bounds-pack-end c = simp length-take (omega (arith, count c, c.unpack-count.auto.1.1.0))
+slice_bounds-pack-end c = simp length-take (omega (arith, count c, c.unpack-count.auto.entries.1.0))
 
 pub pack-requires : goal.pack-requires
 pack-requires c = (simp length-take (omega (arith, count c)), search rules)

@@ -27,11 +27,11 @@ pub settle-least-requires : goal.settle-least-requires
 settle-least-requires c =
     let a = c.args in
     let p = c.requires in
-    let few = p.0.few in
-    let short = p.0.short in
+    let few = p.searchable.few in
+    let short = p.searchable.short in
     let square = mul-le-mul few few in
     let area = mul-le-mul short few in
-    let same = p.1.1.1.0 in
+    let same = p.options_len in
     let n = length a.scaffold.now in
     record {
       searchable = p.searchable;
@@ -46,14 +46,14 @@ pub fill_energies-requires : goal.fill_energies-requires
 fill_energies-requires c =
     let a = c.args in
     let p = c.requires in
-    let few = p.0.few in
-    let short = p.0.short in
+    let few = p.searchable.few in
+    let short = p.searchable.short in
     let square = mul-le-mul few few in
     let area = mul-le-mul short few in
-    let same = p.1.1.1.0 in
+    let same = p.options_len in
     let n = length a.scaffold.now in
-    let strand-cells : length c.settle-least.new.options.1.1.1.1.1.1.1.0 ≡ 4096 = c.settle-least.auto.1.1.1.1.1.1.1.1.0 in
-    let scaffold-cells : length c.settle-least.new.options.1.1.1.1.1.1.1.1.0 ≡ 8192 = c.settle-least.auto.1.1.1.1.1.1.1.1.1.0 in
+    let strand-cells : length c.settle-least.new.options.1.1.1.1.1.1.1.0 ≡ 4096 = c.settle-least.auto.options.1.1.1.1.1.1.1.0 in
+    let scaffold-cells : length c.settle-least.new.options.1.1.1.1.1.1.1.1.0 ≡ 8192 = c.settle-least.auto.options.1.1.1.1.1.1.1.1.0 in
     record {
       searchable = p.searchable;
       potentials_nonzero = p.potentials_nonzero;
@@ -73,14 +73,14 @@ pub slice_bounds-fill_stretches-end : goal.slice_bounds-fill_stretches-end
 slice_bounds-fill_stretches-end c =
     let a = c.args in
     let p = c.requires in
-    let few = p.0.few in
-    let short = p.0.short in
+    let few = p.searchable.few in
+    let short = p.searchable.short in
     let square = mul-le-mul few few in
     let area = mul-le-mul short few in
-    let same = p.1.1.1.0 in
+    let same = p.options_len in
     let n = length a.scaffold.now in
     let shown = c.settle-least.new.options.1.1.1.1.1.1.1.1.1.0 in
-    let number : length shown ≡ n = c.settle-least.auto.1.1.1.1.1.1.1.1.1.1.0 ∙ (omega (arith, length-take (n - 0) (replicate {A = ℕ} 128 0))) in
+    let number : length shown ≡ n = c.settle-least.auto.options.1.1.1.1.1.1.1.1.1.0 ∙ (omega (arith, length-take (n - 0) (replicate {A = ℕ} 128 0))) in
     simp length-append (omega arith)
 
 -- src/lib.rt:146:5
@@ -88,14 +88,14 @@ pub fill_stretches-requires : goal.fill_stretches-requires
 fill_stretches-requires c =
     let all = let a = c.args in
     let p = c.requires in
-    let few = p.0.few in
-    let short = p.0.short in
+    let few = p.searchable.few in
+    let short = p.searchable.short in
     let square = mul-le-mul few few in
     let area = mul-le-mul short few in
-    let same = p.1.1.1.0 in
+    let same = p.options_len in
     let n = length a.scaffold.now in
     let shown = c.settle-least.new.options.1.1.1.1.1.1.1.1.1.0 in
-    let number : length shown ≡ n = c.settle-least.auto.1.1.1.1.1.1.1.1.1.1.0 ∙ (omega (arith, length-take (n - 0) (replicate {A = ℕ} 128 0))) in
+    let number : length shown ≡ n = c.settle-least.auto.options.1.1.1.1.1.1.1.1.1.0 ∙ (omega (arith, length-take (n - 0) (replicate {A = ℕ} 128 0))) in
     let full : length shown ≡ n - 0 = omega (arith, number) in
     let again = take_at shown (drop (n - 0) (replicate {A = ℕ} 128 0)) (n - 0) full in
     rw (again, number) (p.jobs_len_bound, (omega arith, p.stretches_len)) in record {
@@ -111,14 +111,14 @@ returns c =
     λ marks admitted options.
     let a = c.args in
     let p = c.requires in
-    let few = p.0.few in
-    let short = p.0.short in
+    let few = p.searchable.few in
+    let short = p.searchable.short in
     let square = mul-le-mul few few in
     let area = mul-le-mul short few in
-    let same = p.1.1.1.0 in
+    let same = p.options_len in
     let n = length a.scaffold.now in
     let shown = c.settle-least.new.options.1.1.1.1.1.1.1.1.1.0 in
-    let number : length shown ≡ n = c.settle-least.auto.1.1.1.1.1.1.1.1.1.1.0 ∙ (omega (arith, length-take (n - 0) (replicate {A = ℕ} 128 0))) in
+    let number : length shown ≡ n = c.settle-least.auto.options.1.1.1.1.1.1.1.1.1.0 ∙ (omega (arith, length-take (n - 0) (replicate {A = ℕ} 128 0))) in
     let full : length shown ≡ n - 0 = omega (arith, number) in
     let again = take_at shown (drop (n - 0) (replicate {A = ℕ} 128 0)) (n - 0) full in
     let d : Design = design a.scaffold.now marks a.glues.now a.dg.now a.ds.now a.potentials.now a.ambient in

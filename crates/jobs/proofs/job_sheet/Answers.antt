@@ -101,7 +101,7 @@ slice_bounds-answer_jobs-end-2 c =
     let fit = judged-fit d judged c.if-judged-ne0.false c.if-judged-ne0-2.false in
     let z = sized d fit.sizes in
     let short = z.short in
-    let room : length c.judge-judged.new.marks.1.1.1.1.1.1.1.1.0 ≡ 128 = c.judge-judged.auto.1.1.1.1.1.1.1.1.1.0 in
+    let room : length c.judge-judged.new.marks.1.1.1.1.1.1.1.1.0 ≡ 128 = c.judge-judged.auto.marks.1.1.1.1.1.1.1.1.0 in
     omega arith
 
 -- src/lib.rt:207:5

@@ -13,7 +13,7 @@ pub returns-then-count-gt-MOST_ENTRIES : goal.returns-then-count-gt-MOST_ENTRIES
 returns-then-count-gt-MOST_ENTRIES c =
     let a = c.args in
     let p : Params = params_of a.text.now a.users a.strands.now a.scaffold.now a.entries.now a.energies.now a.penalty a.copies in
-    let lent : Outcome = lent_of a.strand-glues.now a.scaffold-glues.now a.dg.now a.ds.now in
+    let lent : Outcome = lent_of a.strand_glues.now a.scaffold_glues.now a.dg.now a.ds.now in
     let over : 1024 < length p.entries.each = rw (length-tabulate (entry_rows a.entries.now) (entry_at a.entries.now a.energies.now)) c.if-count-gt-MOST_ENTRIES.true in
     entries-refused p lent a.build over
 
@@ -21,14 +21,14 @@ pub returns-then-positions-gt-MOST_POSITIONS : goal.returns-then-positions-gt-MO
 returns-then-positions-gt-MOST_POSITIONS c =
     let a = c.args in
     let p : Params = params_of a.text.now a.users a.strands.now a.scaffold.now a.entries.now a.energies.now a.penalty a.copies in
-    let lent : Outcome = lent_of a.strand-glues.now a.scaffold-glues.now a.dg.now a.ds.now in
+    let lent : Outcome = lent_of a.strand_glues.now a.scaffold_glues.now a.dg.now a.ds.now in
     positions-refused p lent a.build c.if-positions-gt-MOST_POSITIONS.true
 
 pub build_all-requires : goal.build_all-requires
 build_all-requires c =
     let a = c.args in
     let entries = entry_rows a.entries.now in
-    let positions = length a.scaffold-glues.now in
+    let positions = length a.scaffold_glues.now in
     record {
       scaffold_glues_len_bound = (c.if-positions-gt-MOST_POSITIONS.false, part_length 128 positions 0 c.if-positions-gt-MOST_POSITIONS.false);
       rows_len = (part_length 1024 entries 0 c.if-count-gt-MOST_ENTRIES.false, part_length 1024 entries 0 c.if-count-gt-MOST_ENTRIES.false);

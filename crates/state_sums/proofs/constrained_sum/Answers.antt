@@ -21,7 +21,7 @@ pub returns-then-positions-eq0 : goal.returns-then-positions-eq0
 returns-then-positions-eq0 c =
     let all = let a = c.args in
     let d : Design = lent a.scaffold a.marks a.glues a.dg a.ds a.potentials a.ambient in
-    let w : Weights = weights (length a.potentials.now) a.place-digits.now a.place-powers.now a.pair-digits.now a.pair-powers.now in
+    let w : Weights = weights (length a.potentials.now) a.place_digits.now a.place_powers.now a.pair_digits.now a.pair_powers.now in
     let l : Lists = record { numbers = a.numbers.now; starts = a.starts.now; lengths = a.lengths.now } in
     let same : sizes_out d ≡ false → c.either-own_size.result ≡ (wrong_cells (positions d) w || wrong_lists (positions d) l) = λ s. let z = sized d s in c.either-own_size.ensures ∙ ap₂ ◌||◌ (c.wrong_cells-wrong_weights.ensures z.short z.few) c.wrong_lists.ensures in
     let r = c.design_reply.ensures in
@@ -34,7 +34,7 @@ pub slice_bounds-counts-end : goal.slice_bounds-counts-end
 slice_bounds-counts-end c =
     let a = c.args in
     let d : Design = lent a.scaffold a.marks a.glues a.dg a.ds a.potentials a.ambient in
-    let w : Weights = weights (length a.potentials.now) a.place-digits.now a.place-powers.now a.pair-digits.now a.pair-powers.now in
+    let w : Weights = weights (length a.potentials.now) a.place_digits.now a.place_powers.now a.pair_digits.now a.pair_powers.now in
     let l : Lists = record { numbers = a.numbers.now; starts = a.starts.now; lengths = a.lengths.now } in
     let same : sizes_out d ≡ false → c.either-own_size.result ≡ (wrong_cells (positions d) w || wrong_lists (positions d) l) = λ s. let z = sized d s in c.either-own_size.ensures ∙ ap₂ ◌||◌ (c.wrong_cells-wrong_weights.ensures z.short z.few) c.wrong_lists.ensures in
     let r = c.design_reply.ensures in
@@ -45,7 +45,7 @@ pub weighed_constrained-requires : goal.weighed_constrained-requires
 weighed_constrained-requires c =
     let a = c.args in
     let d : Design = lent a.scaffold a.marks a.glues a.dg a.ds a.potentials a.ambient in
-    let w : Weights = weights (length a.potentials.now) a.place-digits.now a.place-powers.now a.pair-digits.now a.pair-powers.now in
+    let w : Weights = weights (length a.potentials.now) a.place_digits.now a.place_powers.now a.pair_digits.now a.pair_powers.now in
     let l : Lists = record { numbers = a.numbers.now; starts = a.starts.now; lengths = a.lengths.now } in
     let same : sizes_out d ≡ false → c.either-own_size.result ≡ (wrong_cells (positions d) w || wrong_lists (positions d) l) = λ s. let z = sized d s in c.either-own_size.ensures ∙ ap₂ ◌||◌ (c.wrong_cells-wrong_weights.ensures z.short z.few) c.wrong_lists.ensures in
     let r = c.design_reply.ensures in
@@ -65,7 +65,7 @@ pub returns-in-Refused : goal.returns-in-Refused
 returns-in-Refused c =
     let all = let a = c.args in
     let d : Design = lent a.scaffold a.marks a.glues a.dg a.ds a.potentials a.ambient in
-    let w : Weights = weights (length a.potentials.now) a.place-digits.now a.place-powers.now a.pair-digits.now a.pair-powers.now in
+    let w : Weights = weights (length a.potentials.now) a.place_digits.now a.place_powers.now a.pair_digits.now a.pair_powers.now in
     let l : Lists = record { numbers = a.numbers.now; starts = a.starts.now; lengths = a.lengths.now } in
     let same : sizes_out d ≡ false → c.either-own_size.result ≡ (wrong_cells (positions d) w || wrong_lists (positions d) l) = λ s. let z = sized d s in c.either-own_size.ensures ∙ ap₂ ◌||◌ (c.wrong_cells-wrong_weights.ensures z.short z.few) c.wrong_lists.ensures in
     let r = c.design_reply.ensures in
@@ -78,7 +78,7 @@ pub returns-else-positions-eq0 : goal.returns-else-positions-eq0
 returns-else-positions-eq0 c =
     let all = let a = c.args in
     let d : Design = lent a.scaffold a.marks a.glues a.dg a.ds a.potentials a.ambient in
-    let w : Weights = weights (length a.potentials.now) a.place-digits.now a.place-powers.now a.pair-digits.now a.pair-powers.now in
+    let w : Weights = weights (length a.potentials.now) a.place_digits.now a.place_powers.now a.pair_digits.now a.pair_powers.now in
     let l : Lists = record { numbers = a.numbers.now; starts = a.starts.now; lengths = a.lengths.now } in
     let same : sizes_out d ≡ false → c.either-own_size.result ≡ (wrong_cells (positions d) w || wrong_lists (positions d) l) = λ s. let z = sized d s in c.either-own_size.ensures ∙ ap₂ ◌||◌ (c.wrong_cells-wrong_weights.ensures z.short z.few) c.wrong_lists.ensures in
     let r = c.design_reply.ensures in

@@ -20,7 +20,7 @@ pub returns-then-positions-eq0 : goal.returns-then-positions-eq0
 returns-then-positions-eq0 c =
     let all = let a = c.args in
     let d : Design = lent a.scaffold a.marks a.glues a.dg a.ds a.potentials a.ambient in
-    let w : Weights = weights (length a.potentials.now) a.place-digits.now a.place-powers.now a.pair-digits.now a.pair-powers.now in
+    let w : Weights = weights (length a.potentials.now) a.place_digits.now a.place_powers.now a.pair_digits.now a.pair_powers.now in
     let same : sizes_out d ≡ false → c.wrong_cells-own_size.result ≡ (wrong_cells (positions d) w) = λ s. let z = sized d s in c.wrong_cells-own_size.ensures z.short z.few in
     let r = c.design_reply.ensures in
     free-both d w (sum-bare d w (wrong_cells (positions d) w) (free_figure (model_of d) w) same r c.in-Admitted.is c.if-positions-eq0.true) in record {
@@ -32,7 +32,7 @@ pub slice_bounds-counts-end : goal.slice_bounds-counts-end
 slice_bounds-counts-end c =
     let a = c.args in
     let d : Design = lent a.scaffold a.marks a.glues a.dg a.ds a.potentials a.ambient in
-    let w : Weights = weights (length a.potentials.now) a.place-digits.now a.place-powers.now a.pair-digits.now a.pair-powers.now in
+    let w : Weights = weights (length a.potentials.now) a.place_digits.now a.place_powers.now a.pair_digits.now a.pair_powers.now in
     let same : sizes_out d ≡ false → c.wrong_cells-own_size.result ≡ (wrong_cells (positions d) w) = λ s. let z = sized d s in c.wrong_cells-own_size.ensures z.short z.few in
     let r = c.design_reply.ensures in
     let short = (sized d (sum-passed d w (wrong_cells (positions d) w) (free_figure (model_of d) w) same r c.in-Admitted.is).design.sizes).short in
@@ -42,7 +42,7 @@ pub weighed_free-requires : goal.weighed_free-requires
 weighed_free-requires c =
     let a = c.args in
     let d : Design = lent a.scaffold a.marks a.glues a.dg a.ds a.potentials a.ambient in
-    let w : Weights = weights (length a.potentials.now) a.place-digits.now a.place-powers.now a.pair-digits.now a.pair-powers.now in
+    let w : Weights = weights (length a.potentials.now) a.place_digits.now a.place_powers.now a.pair_digits.now a.pair_powers.now in
     let same : sizes_out d ≡ false → c.wrong_cells-own_size.result ≡ (wrong_cells (positions d) w) = λ s. let z = sized d s in c.wrong_cells-own_size.ensures z.short z.few in
     let r = c.design_reply.ensures in
     let p = sum-passed d w (wrong_cells (positions d) w) (free_figure (model_of d) w) same r c.in-Admitted.is in
@@ -59,7 +59,7 @@ pub returns-in-Refused : goal.returns-in-Refused
 returns-in-Refused c =
     let all = let a = c.args in
     let d : Design = lent a.scaffold a.marks a.glues a.dg a.ds a.potentials a.ambient in
-    let w : Weights = weights (length a.potentials.now) a.place-digits.now a.place-powers.now a.pair-digits.now a.pair-powers.now in
+    let w : Weights = weights (length a.potentials.now) a.place_digits.now a.place_powers.now a.pair_digits.now a.pair_powers.now in
     let same : sizes_out d ≡ false → c.wrong_cells-own_size.result ≡ (wrong_cells (positions d) w) = λ s. let z = sized d s in c.wrong_cells-own_size.ensures z.short z.few in
     let r = c.design_reply.ensures in
     free-both d w (sum-refused d w (wrong_cells (positions d) w) (free_figure (model_of d) w) same r c.in-Refused.is) in record {
@@ -71,7 +71,7 @@ pub returns-else-positions-eq0 : goal.returns-else-positions-eq0
 returns-else-positions-eq0 c =
     let all = let a = c.args in
     let d : Design = lent a.scaffold a.marks a.glues a.dg a.ds a.potentials a.ambient in
-    let w : Weights = weights (length a.potentials.now) a.place-digits.now a.place-powers.now a.pair-digits.now a.pair-powers.now in
+    let w : Weights = weights (length a.potentials.now) a.place_digits.now a.place_powers.now a.pair_digits.now a.pair_powers.now in
     let same : sizes_out d ≡ false → c.wrong_cells-own_size.result ≡ (wrong_cells (positions d) w) = λ s. let z = sized d s in c.wrong_cells-own_size.ensures z.short z.few in
     let r = c.design_reply.ensures in
     free-both d w (sum-weighed d w (wrong_cells (positions d) w) (free_figure (model_of d) w) same r c.in-Admitted.is c.if-positions-eq0.false c.weighed_free.ensures) in record {

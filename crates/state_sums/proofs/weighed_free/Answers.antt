@@ -46,7 +46,7 @@ unfolding model_of
 weights_out-requires c =
     let a = c.args in
     let d : Design = lent a.scaffold a.marks a.glues a.dg a.ds a.potentials a.ambient in
-    let w : Weights = weights (length a.potentials.now) a.place-digits.now a.place-powers.now a.pair-digits.now a.pair-powers.now in
+    let w : Weights = weights (length a.potentials.now) a.place_digits.now a.place_powers.now a.pair_digits.now a.pair_powers.now in
     let filled = c.fill_options.ensures in
     let number = placed d (filled.option_rows (model_of d) refl) in
     record {
@@ -59,7 +59,7 @@ unfolding model_of
 returns-then-weights_out c =
     let a = c.args in
     let d : Design = lent a.scaffold a.marks a.glues a.dg a.ds a.potentials a.ambient in
-    let w : Weights = weights (length a.potentials.now) a.place-digits.now a.place-powers.now a.pair-digits.now a.pair-powers.now in
+    let w : Weights = weights (length a.potentials.now) a.place_digits.now a.place_powers.now a.pair_digits.now a.pair_powers.now in
     let options = c.fill_options.ensures.option_rows (model_of d) refl in
     weighed-refused d w (free_figure (model_of d) w) (sym (ap (λ (friends : List (List ℕ)). weights_out friends w) (friends-in options)) ∙ sym c.weights_out.ensures ∙ c.if-weights_out.true)
 
@@ -68,7 +68,7 @@ unfolding model_of
 free_sum-requires c =
     let a = c.args in
     let d : Design = lent a.scaffold a.marks a.glues a.dg a.ds a.potentials a.ambient in
-    let w : Weights = weights (length a.potentials.now) a.place-digits.now a.place-powers.now a.pair-digits.now a.pair-powers.now in
+    let w : Weights = weights (length a.potentials.now) a.place_digits.now a.place_powers.now a.pair_digits.now a.pair_powers.now in
     let r = c.requires in
     let filled = c.fill_options.ensures in
     let options = filled.option_rows (model_of d) refl in
@@ -87,7 +87,7 @@ unfolding model_of
 returns c =
     let a = c.args in
     let d : Design = lent a.scaffold a.marks a.glues a.dg a.ds a.potentials a.ambient in
-    let w : Weights = weights (length a.potentials.now) a.place-digits.now a.place-powers.now a.pair-digits.now a.pair-powers.now in
+    let w : Weights = weights (length a.potentials.now) a.place_digits.now a.place_powers.now a.pair_digits.now a.pair_powers.now in
     let options = c.fill_options.ensures.option_rows (model_of d) refl in
     let none = sym (ap (λ (friends : List (List ℕ)). weights_out friends w) (friends-in options)) ∙ sym c.weights_out.ensures ∙ c.if-weights_out.false in
     weighed-given d w (free_figure (model_of d) w) none (c.free_sum.ensures ∙ ap (sum_of_weights w) (options-in options))

@@ -18,7 +18,7 @@ returns-then-wrong_tables c =
     let d : Design = design a.scaffold.now a.marks.now a.glues.now a.dg.now a.ds.now a.potentials.now ambient in
     let t = a.strand-bonds.now in
     let u = a.scaffold-bonds.now in
-    wrong-told a.own-size d t u own (sym c.wrong_tables.ensures ∙ c.if-wrong_tables.true)
+    wrong-told a.own_size d t u own (sym c.wrong_tables.ensures ∙ c.if-wrong_tables.true)
 
 pub returns-then-bonds_out : goal.returns-then-bonds_out
 returns-then-bonds_out c =
@@ -26,8 +26,8 @@ returns-then-bonds_out c =
     let d : Design = design a.scaffold.now a.marks.now a.glues.now a.dg.now a.ds.now a.potentials.now ambient in
     let t = a.strand-bonds.now in
     let u = a.scaffold-bonds.now in
-    ap (λ (r : Reply). r or_else first_of (design_checks a.own-size d own [])) c.ranged_reply.ensures
-    ∙ range-told a.own-size d t u own (not-wrong d t u (sym c.wrong_tables.ensures ∙ c.if-wrong_tables.false)) (sym c.bonds_out.ensures ∙ c.if-bonds_out.true) (first_of (design_checks a.own-size d own []))
+    ap (λ (r : Reply). r or_else first_of (design_checks a.own_size d own [])) c.ranged_reply.ensures
+    ∙ range-told a.own_size d t u own (not-wrong d t u (sym c.wrong_tables.ensures ∙ c.if-wrong_tables.false)) (sym c.bonds_out.ensures ∙ c.if-bonds_out.true) (first_of (design_checks a.own_size d own []))
 
 pub returns : goal.returns
 returns c =
@@ -35,4 +35,4 @@ returns c =
     let d : Design = design a.scaffold.now a.marks.now a.glues.now a.dg.now a.ds.now a.potentials.now ambient in
     let t = a.strand-bonds.now in
     let u = a.scaffold-bonds.now in
-    sym (same-checks a.own-size d t u own (not-wrong d t u (sym c.wrong_tables.ensures ∙ c.if-wrong_tables.false)) (sym c.bonds_out.ensures ∙ c.if-bonds_out.false))
+    sym (same-checks a.own_size d t u own (not-wrong d t u (sym c.wrong_tables.ensures ∙ c.if-wrong_tables.false)) (sym c.bonds_out.ensures ∙ c.if-bonds_out.false))

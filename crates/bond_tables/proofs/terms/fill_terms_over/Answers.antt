@@ -51,7 +51,7 @@ loop-position-preserved c =
     let l = c.loop-position in
     let a = c.args in
     let here = c.loop-position-test.true in
-    let pair = c.bond_cell-in-loop-position.ensures ∙ ap (λ (y : ℕ). bond_cell (length a.potentials.now) a.strand-bonds.now (get_or a.configuration.now l.position 0) y) c.byte_at-right.ensures in (
+    let pair = c.bond_cell-in-loop-position.ensures ∙ ap (λ (y : ℕ). bond_cell (length a.potentials.now) a.strand_bonds.now (get_or a.configuration.now l.position 0) y) c.byte_at-right.ensures in (
       omega arith,
       ap (λ (t : List Float). set t l.position c.bond_cell.result) l.invariant.1 ∙ stored_more (site_term (length c.args.potentials.now) c.args.scaffold_bonds.now c.args.configuration.now) l.position a.sites.now c.bond_cell.result (omega (arith, here, c.requires.configuration_in_bounds)) c.bond_cell.ensures,
       ap (λ (t : List Float). set t l.position c.bond_cell-in-loop-position.result) l.invariant.2 ∙ stored_more (pair_term (length c.args.potentials.now) c.args.strand_bonds.now c.args.configuration.now) l.position a.pairs.now c.bond_cell-in-loop-position.result (omega (arith, here, c.requires.configuration_in_bounds_2)) pair,

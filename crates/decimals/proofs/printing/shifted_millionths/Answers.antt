@@ -28,11 +28,11 @@ nearest_quotient-requires c =
     
     let num = c.times in
     let den = c.times_power in
-    let m : length num.new.0 ≡ 47 = search rules in
-    let n : length den.new.0 ≡ 47 = search rules in
-    let digits : value_of num.new.0 ≡ c.args.significand * 1000000 = num.ensures ∙ ap (◌* 1000000) c.limbs_of-num.ensures in
-    let unit : value_of den.new.0 ≡ 1 * 2 ^ (c.args.shift + 63) = den.ensures ∙ ap (◌* 2 ^ (c.args.shift + 63)) c.limbs_of-den.ensures in
-    let proper : Proper num.new.0 den.new.0 = record {
+    let m : length num.new.limbs ≡ 47 = search rules in
+    let n : length den.new.limbs ≡ 47 = search rules in
+    let digits : value_of num.new.limbs ≡ c.args.significand * 1000000 = num.ensures ∙ ap (◌* 1000000) c.limbs_of-num.ensures in
+    let unit : value_of den.new.limbs ≡ 1 * 2 ^ (c.args.shift + 63) = den.ensures ∙ ap (◌* 2 ^ (c.args.shift + 63)) c.limbs_of-den.ensures in
+    let proper : Proper num.new.limbs den.new.limbs = record {
       same = m ∙ sym n;
       less = rw (digits, unit) (below-unit c.args.significand c.args.shift c.requires.0 c.requires.1);
       room = rw (n, unit) (unit-room c.args.shift c.requires.2);
@@ -44,6 +44,6 @@ returns c =
     
     let num = c.times in
     let den = c.times_power in
-    let digits : value_of num.new.0 ≡ c.args.significand * 1000000 = num.ensures ∙ ap (◌* 1000000) c.limbs_of-num.ensures in
-    let unit : value_of den.new.0 ≡ 1 * 2 ^ (c.args.shift + 63) = den.ensures ∙ ap (◌* 2 ^ (c.args.shift + 63)) c.limbs_of-den.ensures in
+    let digits : value_of num.new.limbs ≡ c.args.significand * 1000000 = num.ensures ∙ ap (◌* 1000000) c.limbs_of-num.ensures in
+    let unit : value_of den.new.limbs ≡ 1 * 2 ^ (c.args.shift + 63) = den.ensures ∙ ap (◌* 2 ^ (c.args.shift + 63)) c.limbs_of-den.ensures in
     c.nearest_quotient.ensures ∙ rw (digits, unit) (unit-same (c.args.significand * 1000000) c.args.shift)

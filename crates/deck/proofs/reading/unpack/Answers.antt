@@ -31,7 +31,7 @@ loop-i-preserved c =
     let s = c.of in
     let laid = c.lay-at.ensures in
     let n = laid-length (form_of a.form) a.words.now l.i h s.result s.ensures in
-    (omega (arith, c.lay-at.auto.0), omega arith, rw (laid.0, laid.1) (laid_more (form_of a.form) a.words.now l.i h s.result s.ensures l.entries l.at ∙ l.invariant.2))
+    (omega (arith, c.lay-at.auto.entries), omega arith, rw (laid.0, laid.1) (laid_more (form_of a.form) a.words.now l.i h s.result s.ensures l.entries l.at ∙ l.invariant.2))
 
 pub returns : goal.returns
 returns c =

@@ -10,4 +10,4 @@ unfolding scaffold_bond
 returns c =
     let a = c.args in
     c.bond_at.ensures
-    ∙ ap (λ (column : ℕ). bond_at a.dg.now a.ds.now a.scaffold-glue column a.ambient.scaffold_excess.0 a.ambient.rt.0) c.bottom_glue-bottom.ensures
+    ∙ ap (λ (column : ℕ). bond_at a.dg.now a.ds.now a.scaffold_glue column a.ambient.scaffold_excess.0 a.ambient.rt.0) c.bottom_glue-bottom.ensures

@@ -11,16 +11,16 @@ pub numbers_reply-requires : goal.numbers_reply-requires
 numbers_reply-requires c =
     let a = c.args in
     let d : Design = lent a.scaffold a.marks a.glues a.dg a.ds a.potentials a.ambient in
-    (sized d (tabled a.own-size d (sym c.tables_reply.ensures ∙ c.in-Admitted.is)).tables.sizes).few
+    (sized d (tabled a.own_size d (sym c.tables_reply.ensures ∙ c.in-Admitted.is)).tables.sizes).few
 
 pub returns-in-Refused : goal.returns-in-Refused
 returns-in-Refused c =
     let a = c.args in
     let d : Design = lent a.scaffold a.marks a.glues a.dg a.ds a.potentials a.ambient in
-    sym (tables-refuse a.own-size d [] [] (sym c.tables_reply.ensures ∙ c.in-Refused.is))
+    sym (tables-refuse a.own_size d [] [] (sym c.tables_reply.ensures ∙ c.in-Refused.is))
 
 pub returns-in-Admitted : goal.returns-in-Admitted
 returns-in-Admitted c =
     let a = c.args in
     let d : Design = lent a.scaffold a.marks a.glues a.dg a.ds a.potentials a.ambient in
-    c.numbers_reply.ensures ∙ sym (after-tables a.own-size d [] (sym c.tables_reply.ensures ∙ c.in-Admitted.is))
+    c.numbers_reply.ensures ∙ sym (after-tables a.own_size d [] (sym c.tables_reply.ensures ∙ c.in-Admitted.is))

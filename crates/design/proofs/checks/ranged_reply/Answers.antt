@@ -34,5 +34,5 @@ returns c =
     let own = OutOfRange if a.own_range in
     let range = c.or-range.ensures ∙ ap₂ ◌or_else◌ c.cells_reply.ensures c.refused_if.ensures ∙ joined (cells ∷ []) (own ∷ []) in
     let null = c.refused_if-2.ensures ∙ ap (λ (b : Bool). first_of (NullBinds if b ∷ [])) c.null_binds.ensures in
-    let sizes : (a.own-size || wrong_sizes a.scaffold.now a.marks.now a.glues.now dg ds a.potentials.now) ≡ false = simp (c.if-own_size.false, ← c.wrong_sizes.ensures, c.if-wrong_sizes.false) in
+    let sizes : (a.own_size || wrong_sizes a.scaffold.now a.marks.now a.glues.now dg ds a.potentials.now) ≡ false = simp (c.if-own_size.false, ← c.wrong_sizes.ensures, c.if-wrong_sizes.false) in
     rw sizes (c.or.ensures ∙ ap₂ ◌or_else◌ range null ∙ joined (cells ∷ own ∷ []) (NullBinds if null_binds a.glues.now dg ds ∷ []))

@@ -8,4 +8,4 @@ pub returns : goal.returns
 unfolding befriends
 returns c =
     let a = c.args in
-    c.binds.ensures ∙ ap (binding a.dg.now a.ds.now a.scaffold-glue) c.bottom_glue.ensures
+    c.binds.ensures ∙ ap (binding a.dg.now a.ds.now a.scaffold_glue) c.bottom_glue.ensures

@@ -27,7 +27,7 @@ loop-strand-preserved c =
     
     let a = c.args in
     
-    let t = befriends a.scaffold-glue a.glues.now a.dg.now a.ds.now in
+    let t = befriends a.scaffold_glue a.glues.now a.dg.now a.ds.now in
     elim c.if-is_friend.branch [
       | inl w ↦ (
         omega arith,
@@ -48,9 +48,9 @@ pub returns : goal.returns
 returns c =
     let a = c.args in
     
-    let t = befriends a.scaffold-glue a.glues.now a.dg.now a.ds.now in
+    let t = befriends a.scaffold_glue a.glues.now a.dg.now a.ds.now in
     let past = keep-past t a.strands c.loop-strand.strand c.loop-strand-test.false in
-    let w : Front a.entries.now (friends_to a.scaffold-glue a.glues.now a.dg.now a.ds.now a.strands) [] c.loop-strand.count c.loop-strand.entries = rw past at c.loop-strand.invariant.2 in
+    let w : Front a.entries.now (friends_to a.scaffold_glue a.glues.now a.dg.now a.ds.now a.strands) [] c.loop-strand.count c.loop-strand.entries = rw past at c.loop-strand.invariant.2 in
     record {
       value = front-count w;
       entries_after = front-whole w;

@@ -8,7 +8,7 @@ use Rattle.ensemble.proofs.Attachments.{attach-none, attach-more}
 use Rattle.ensemble.proofs.attach.attach_each.Goals as goal
 
 pub loop-k-init : goal.loop-k-init
-loop-k-init c = let p = c.requires.1.1.1.1.1 in (omega arith, attach-none _ _ _ _ _ _ p.0 p.1.0 p.1.1)
+loop-k-init c = let p = c.requires in (omega arith, attach-none _ _ _ _ _ _ p.best_len p.choice_len p.low)
 
 pub best_energy_for_strand-attached-requires : goal.best_energy_for_strand-attached-requires
 best_energy_for_strand-attached-requires c =
@@ -56,11 +56,11 @@ loop-k-preserved c =
     let wide = l.invariant.1.wide in
     let sized = l.invariant.1.sized in
     let r = c.best_energy_for_strand-attached in
-    let below = r.ensures.1 in
+    let below = r.ensures.strand_lt_strands in
     let in-best : x < length l.best = omega arith in
     let in-choice : x < length l.choice = omega arith in (
       omega arith,
-      attach-more (table_bond a.strands a.strand-bonds.now) a.left.now a.energies.now a.friends.now l.best l.choice x r.result in-best in-choice r.ensures.0
+      attach-more (table_bond a.strands a.strand_bonds.now) a.left.now a.energies.now a.friends.now l.best l.choice x r.result in-best in-choice r.ensures.by_index
           l.k c.wide-tile.ensures (omega arith) l.invariant.1,
     )
 

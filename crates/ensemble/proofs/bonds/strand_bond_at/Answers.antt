@@ -41,4 +41,4 @@ bounds-strand_bonds-wide c =
     omega arith
 
 pub returns : goal.returns
-returns c = let a = c.args in ap (λ (x : ℕ). table_bond a.strands a.strand-bonds.now x a.right) c.wide.ensures
+returns c = let a = c.args in ap (λ (x : ℕ). table_bond a.strands a.strand_bonds.now x a.right) c.wide.ensures

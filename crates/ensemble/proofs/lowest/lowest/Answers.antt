@@ -265,7 +265,7 @@ loop-position-preserved c =
     let count = c.wide.result in
     let is = c.wide.ensures in
     let friends = part a.rows.now (64 * i) (64 * i + count - 1) in
-    let sites = part a.scaffold-bonds.now (i * length a.potentials.now) (i * length a.potentials.now + length a.potentials.now) in
+    let sites = part a.scaffold_bonds.now (i * length a.potentials.now) (i * length a.potentials.now + length a.potentials.now) in
     let att = c.best_energies.ensures in
     let best = c.best_energies.new.energies.1.1.1.1.0 in
     let row = c.best_energies.new.energies.1.1.1.1.1.0 in
@@ -286,17 +286,17 @@ loop-position-preserved c =
       omega arith,
       omega arith,
       known-options z i here count is,
-      table-low i row none.result.strand l.choice l.empty in-choice in-empty inv.9 att.low none.ensures.1,
+      table-low i row none.result.strand l.choice l.empty in-choice in-empty inv.9 att.low none.ensures.strand_bound,
       wide-more l.choice i row att.sized in-choice inv.10,
       λ m o b.
           let old = inv.11 m o b in
           let in-model : i < positions m = rw (sym o.positions) here in
           let are = friends-part z i here count is o in-model in
           let known = known-friends z i here count is in (
-            left-more (own-options m) b i in-model friends are refl known (part a.rows.now l.start l.end) l.energies old.0 best row att none.result none.ensures.0 sites
-                (row_at (length a.potentials.now) (length a.counts.now) a.scaffold-bonds.now i here c.requires.potentials_in_bounds_2) next in-next c.mfe_next_vector.ensures.energies
+            left-more (own-options m) b i in-model friends are refl known (part a.rows.now l.start l.end) l.energies old.0 best row att none.result none.ensures.by_index sites
+                (row_at (length a.potentials.now) (length a.counts.now) a.scaffold_bonds.now i here c.requires.potentials_in_bounds_2) next in-next c.mfe_next_vector.ensures.energies
                 (part a.rows.now (64 * i) (64 * i + count - 1 + 1)) (64 * i + count - 1 - 64 * i) (options-part z i here count is o in-model) number,
-            table_more (own-options m) b i in-model friends are refl known (part a.rows.now l.start l.end) l.energies old.0 best row att none.result none.ensures.0 l.choice l.empty in-choice in-empty old.1,
+            table_more (own-options m) b i in-model friends are refl known (part a.rows.now l.start l.end) l.energies old.0 best row att none.result none.ensures.by_index l.choice l.empty in-choice in-empty old.1,
           ),
     )
 
@@ -348,6 +348,6 @@ returns c = λ m o b e.
     let all : l.position ≡ length a.counts.now = omega arith in
     let kept = l.invariant.11 m o b in
     let low = c.lowest_product-last in
-    found l.choice l.empty (part a.rows.now l.start l.end) l.energies a.rt.0 low.result c.trace.new.1.1.1.0 e low.ensures.0
+    found l.choice l.empty (part a.rows.now l.start l.end) l.energies a.rt.0 low.result c.trace.new.1.1.1.0 e low.ensures.by_index
     l.position (all ∙ o.positions) kept.0 kept.1
     (c.trace.ensures ∙ ap (λ (n : ℕ). traced_back (choice_in l.choice l.empty) n low.result.strand) (c.requires.configuration_len ∙ sym all))

@@ -18,5 +18,5 @@ returns-then-last-eq0 c =
 pub returns : goal.returns
 returns c =
     let a = c.args in
-    let bond = c.strand_bond_at.ensures ∙ ap (table_bond a.strands a.strand-bonds.now a.last) c.wide.ensures in
+    let bond = c.strand_bond_at.ensures ∙ ap (table_bond a.strands a.strand_bonds.now a.last) c.wide.ensures in
     rw (ne_eqb a.first 0 c.if-first-eq0.false, ne_eqb a.last 0 c.if-last-eq0.false) (ap (add binary64 a.sum) bond)

@@ -13,7 +13,7 @@ use Rattle.ensemble.proofs.rings.lowest_closed.Goals as goal
 
 pub closed-requires : goal.closed-requires
 closed-requires c =
-    let all = (c.requires.known 0 c.requires.last_nonzero, c.requires.1.1.1) in record {
+    let all = (c.requires.known 0 c.requires.last_nonzero, c.requires) in record {
       last_lt_strands = all.0;
       first_lt_strands = all.1.0;
       strands_bound = all.1.1.0;
@@ -33,7 +33,7 @@ loop-k-init c =
 
 pub closed-requires-in-loop-k : goal.closed-requires-in-loop-k
 closed-requires-in-loop-k c =
-    let all = (c.requires.known c.loop-k.k c.loop-k-test.true, c.requires.1.1.1) in record {
+    let all = (c.requires.known c.loop-k.k c.loop-k-test.true, c.requires) in record {
       last_lt_strands = all.0;
       first_lt_strands = all.1.0;
       strands_bound = all.1.1.0;

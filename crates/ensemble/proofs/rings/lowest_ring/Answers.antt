@@ -28,7 +28,7 @@ pub loop-option-init : goal.loop-option-init
 loop-option-init c =
     let s = c.requires in
     let some = s.searchable.some 0 s.counts_nonzero in
-    (omega arith, some, c.ring_from-least.auto.1.1.1.1.1.1.1.0 ∙ s.configuration_len, λ m o b closing e. ring-first m (c.ring_from-least.ensures m o b closing e))
+    (omega arith, some, c.ring_from-least.auto.counts.1.1.1.1.1.1.0 ∙ s.configuration_len, λ m o b closing e. ring-first m (c.ring_from-least.ensures m o b closing e))
 
 pub bounds-counts-0 : goal.bounds-counts-0
 bounds-counts-0 c = let some = c.requires.counts_nonzero in omega arith
@@ -64,7 +64,7 @@ loop-option-preserved c =
     let found = c.ring_from-energy in (
       omega arith,
       elim c.if-energy-least.branch [ inl u ↦ rw u.2 inside | inr u ↦ rw u.2 l.invariant.1 ],
-      found.auto.1.1.1.1.1.1.1.0 ∙ l.invariant.2,
+      found.auto.counts.1.1.1.1.1.1.0 ∙ l.invariant.2,
       λ m o b closing e.
           let old = l.invariant.3 m o b closing e in
           let new = found.ensures m o b closing e in
@@ -88,7 +88,7 @@ ring_from-requires c =
     }
 
 pub shape_of-configuration : goal.shape_of-configuration
-shape_of-configuration c = c.ring_from.auto.1.1.1.1.1.1.1.0 ∙ c.loop-option.invariant.2 ∙ sym c.requires.configuration_len
+shape_of-configuration c = c.ring_from.auto.counts.1.1.1.1.1.1.0 ∙ c.loop-option.invariant.2 ∙ sym c.requires.configuration_len
 
 pub returns : goal.returns
 returns c = λ m o b closing e.

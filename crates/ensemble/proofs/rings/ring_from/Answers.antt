@@ -15,7 +15,7 @@ use Rattle.ensemble.proofs.Ringed.{ring-options, later-options, part-one, part-s
 use Rattle.ensemble.proofs.rings.ring_from.Goals as goal
 
 pub bounds-rows-option : goal.bounds-rows-option
-bounds-rows-option c = let s = c.requires in let few = s.searchable.readable.few 0 s.counts_nonzero in let sized = s.0.readable.sized in let some = s.1.1.1.1.0 in let h = s.1.1.1.1.1 in omega arith
+bounds-rows-option c = let s = c.requires in let few = s.searchable.readable.few 0 s.counts_nonzero in let sized = s.searchable.readable.sized in let some = s.counts_nonzero in let h = s.option_bound in omega arith
 
 pub first_entry-requires : goal.first_entry-requires
 first_entry-requires c =
@@ -29,16 +29,16 @@ pub bounds-energies-0 : goal.bounds-energies-0
 bounds-energies-0 c = omega arith
 
 pub overflow_add-end : goal.overflow_add-end
-overflow_add-end c = let s = c.requires in let few = s.searchable.readable.few 0 s.counts_nonzero in let h = s.1.1.1.1.1 in omega arith
+overflow_add-end c = let s = c.requires in let few = s.searchable.readable.few 0 s.counts_nonzero in let h = s.option_bound in omega arith
 
 pub loop-position-init : goal.loop-position-init
 loop-position-init c =
     let s = c.requires in
     let a = c.args in
-    let some = s.1.1.1.1.0 in
-    let h = s.1.1.1.1.1 in
+    let some = s.counts_nonzero in
+    let h = s.option_bound in
     let few = s.searchable.readable.few 0 some in
-    let sized = s.0.readable.sized in
+    let sized = s.searchable.readable.sized in
     let inside : a.option < length a.rows.now = omega arith in (
       omega arith,
       refl,
@@ -301,7 +301,7 @@ loop-position-preserved c =
     let count = c.wide.result in
     let is = c.wide.ensures in
     let friends = part a.rows.now (64 * i) (64 * i + count - 1) in
-    let sites = part a.scaffold-bonds.now (i * length a.potentials.now) (i * length a.potentials.now + length a.potentials.now) in
+    let sites = part a.scaffold_bonds.now (i * length a.potentials.now) (i * length a.potentials.now + length a.potentials.now) in
     let att = c.best_energies.ensures in
     let best = c.best_energies.new.energies.1.1.1.1.0 in
     let row = c.best_energies.new.energies.1.1.1.1.1.0 in
@@ -322,7 +322,7 @@ loop-position-preserved c =
       omega arith,
       omega arith,
       known-options z i here count is,
-      table-low i row none.result.strand l.choice l.empty in-choice in-empty inv.9 att.low none.ensures.1,
+      table-low i row none.result.strand l.choice l.empty in-choice in-empty inv.9 att.low none.ensures.strand_bound,
       wide-more l.choice i row att.sized in-choice inv.10,
       λ m o b.
           let old = inv.11 m o b in
@@ -331,10 +331,10 @@ loop-position-preserved c =
           let in-model : i < positions m = rw (sym o.positions) here in
           let are = friends-part z i here count is o in-model in
           let known = known-friends z i here count is in (
-            left-more (ring-options m f option) b i in-model friends are (later-options m f i inv.12) known (part a.rows.now l.start l.end) l.energies old.0 best row att none.result none.ensures.0 sites
-                (row_at (length a.potentials.now) (length a.counts.now) a.scaffold-bonds.now i here c.requires.potentials_in_bounds_2) next in-next c.mfe_next_vector.ensures.energies
+            left-more (ring-options m f option) b i in-model friends are (later-options m f i inv.12) known (part a.rows.now l.start l.end) l.energies old.0 best row att none.result none.ensures.by_index sites
+                (row_at (length a.potentials.now) (length a.counts.now) a.scaffold_bonds.now i here c.requires.potentials_in_bounds_2) next in-next c.mfe_next_vector.ensures.energies
                 (part a.rows.now (64 * i) (64 * i + count - 1 + 1)) (64 * i + count - 1 - 64 * i) (options-part z i here count is o in-model) number,
-            table_more (ring-options m f option) b i in-model friends are (later-options m f i inv.12) known (part a.rows.now l.start l.end) l.energies old.0 best row att none.result none.ensures.0 l.choice l.empty in-choice in-empty old.1,
+            table_more (ring-options m f option) b i in-model friends are (later-options m f i inv.12) known (part a.rows.now l.start l.end) l.energies old.0 best row att none.result none.ensures.by_index l.choice l.empty in-choice in-empty old.1,
           ),
       omega arith,
     )
@@ -376,7 +376,7 @@ lowest_closed-last-requires c =
 pub trace-requires : goal.trace-requires
 trace-requires c =
     let short = c.requires.searchable.short in
-    let size = c.requires.1.1.1 in
+    let size = c.requires in
     let low = c.lowest_closed-last.ensures.strand_bound in
     record {
       configuration_len_bound = omega arith;
@@ -397,7 +397,7 @@ returns c = λ m o b closing e.
     let kept = l.invariant.11 m o b in
     let low = c.lowest_closed-last in
     subst (λ (x : ℕ). FoundFrom m x c.trace.new.1.1.1.0 low.result.energy) (first-option o in-model s.option_bound)
-    (found_first m f (first_member o in-model s.option_bound) (length a.potentials.now) a.strand-bonds.now closing a.rt.0 e
-    l.choice l.empty (part a.rows.now l.start l.end) l.energies low.result c.trace.new.1.1.1.0 low.ensures.0
+    (found_first m f (first_member o in-model s.option_bound) (length a.potentials.now) a.strand_bonds.now closing a.rt.0 e
+    l.choice l.empty (part a.rows.now l.start l.end) l.energies low.result c.trace.new.1.1.1.0 low.ensures.by_index
     l.position l.invariant.12 (all ∙ o.positions) kept.0 kept.1
     (c.trace.ensures ∙ ap (λ (n : ℕ). traced_back (choice_in l.choice l.empty) n low.result.strand) (s.configuration_len ∙ sym all)))

@@ -22,7 +22,7 @@ least_sums-requires c = let p = c.requires in record {
     }
 
 pub loop-k-init : goal.loop-k-init
-loop-k-init c = let p = c.requires.1.1.1.1.1 in (omega arith, attach-none _ _ _ _ _ _ c.least_sums.ensures.best_len_2 p.1.0 p.1.1.0)
+loop-k-init c = let p = c.requires in (omega arith, attach-none _ _ _ _ _ _ c.least_sums.ensures.best_len_2 p.choice_len p.low)
 
 pub offset_bounds-best-tile : goal.offset_bounds-best-tile
 offset_bounds-best-tile c =
@@ -74,13 +74,13 @@ loop-k-preserved c =
     let few = c.requires.strands_bound in
     let sized = l.invariant.1.sized in
     let r = c.last_least in
-    let below = r.ensures.1 in
+    let below = r.ensures.upper_bound in
     let in-choice : x < length l.choice = omega arith in (
       omega (arith, c.loop-k-test.true),
-      attach-choice (table_bond a.strands a.strand-bonds.now) left a.energies.now a.friends.now _ l.choice x r.result in-choice
+      attach-choice (table_bond a.strands a.strand_bonds.now) left a.energies.now a.friends.now _ l.choice x r.result in-choice
           (λ key keys.
           let least = c.least_sums.ensures.least_sums x low key keys ∙ ap (λ (xs : List ℕ). key (last_least key xs)) (take-length left) in
-          record { strand = r.ensures.0 key keys least; energy = least ∙ sym (some_key key left (last_least key left) c.requires.left_nonzero) })
+          record { strand = r.ensures.by_index key keys least; energy = least ∙ sym (some_key key left (last_least key left) c.requires.left_nonzero) })
           l.k c.wide-tile.ensures (omega arith) l.invariant.1,
     )
 

@@ -14,7 +14,7 @@ returns c =
     
     let a = c.args in
     let d : Design = lent a.scaffold a.marks a.glues a.dg a.ds a.potentials c.ambient.result in
-    let w : Weights = weights (length a.potentials.now) a.place-digits.now a.place-powers.now a.pair-digits.now a.pair-powers.now in
+    let w : Weights = weights (length a.potentials.now) a.place_digits.now a.place_powers.now a.pair_digits.now a.pair_powers.now in
     let l : Lists = record { numbers = a.numbers.now; starts = a.starts.now; lengths = a.lengths.now } in
     let ambient = c.ambient.ensures in
     let ensured = c.constrained_sum.ensures in

@@ -13,7 +13,7 @@ returns c =
     
     let a = c.args in
     let d : Design = lent a.scaffold a.marks a.glues a.dg a.ds a.potentials c.ambient.result in
-    let w : Weights = weights (length a.potentials.now) a.place-digits.now a.place-powers.now a.pair-digits.now a.pair-powers.now in
+    let w : Weights = weights (length a.potentials.now) a.place_digits.now a.place_powers.now a.pair_digits.now a.pair_powers.now in
     let ambient = c.ambient.ensures in
     let ensured = c.free_sum.ensures in
     let told = c.tell_sum.ensures in

@@ -12,5 +12,5 @@ returns c =
     let told = rw ensured.result_value at c.tell_energy.ensures in record {
       told = rw ambient at told;
       configuration_after = rw ambient at ensured.configuration_after;
-      lowest_told_over = rw ambient at (lowest-told-over _ a.strand-bonds.now a.scaffold-bonds.now a.configuration.now ensured.lowest_over told.number c.tell_energy.ensures.figure);
+      lowest_told_over = rw ambient at (lowest-told-over _ a.strand_bonds.now a.scaffold_bonds.now a.configuration.now ensured.lowest_over told.number c.tell_energy.ensures.figure);
     }

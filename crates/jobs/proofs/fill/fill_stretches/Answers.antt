@@ -28,7 +28,7 @@ overflow_mul-start c =
     let room = row-end (length a.configuration.now) here in
     let most = mul-le-mul p.jobs_len_bound p.configuration_len_bound in
     let sized = c.loop-k.invariant.1.sized in
-    let size = p.1.1 in
+    let size = p.stretches_len in
     omega arith
 
 -- src/fill.rt:157:19
@@ -40,7 +40,7 @@ overflow_add-end c =
     let room = row-end (length a.configuration.now) here in
     let most = mul-le-mul p.jobs_len_bound p.configuration_len_bound in
     let sized = c.loop-k.invariant.1.sized in
-    let size = p.1.1 in
+    let size = p.stretches_len in
     omega arith
 
 -- src/fill.rt:158:52
@@ -56,7 +56,7 @@ slice_bounds-fill_stretch-end c =
     let room = row-end (length a.configuration.now) here in
     let most = mul-le-mul p.jobs_len_bound p.configuration_len_bound in
     let sized = c.loop-k.invariant.1.sized in
-    let size = p.1.1 in
+    let size = p.stretches_len in
     omega arith
 
 -- src/fill.rt:158:9
@@ -68,7 +68,7 @@ fill_stretch-requires c =
     let room = row-end (length a.configuration.now) here in
     let most = mul-le-mul p.jobs_len_bound p.configuration_len_bound in
     let sized = c.loop-k.invariant.1.sized in
-    let size = p.1.1 in
+    let size = p.stretches_len in
     simp (length-take, length-drop) (omega arith)
 
 -- src/fill.rt:155:5
@@ -80,14 +80,14 @@ loop-k-preserved c =
     let room = row-end (length a.configuration.now) here in
     let most = mul-le-mul p.jobs_len_bound p.configuration_len_bound in
     let sized = c.loop-k.invariant.1.sized in
-    let size = p.1.1 in
+    let size = p.stretches_len in
     let n = length a.configuration.now in
     let at = c.loop-k.k * n in
     let st = c.loop-k.stretches in
     let last = c.fill_stretch.new.stretch.1.0 in
     let width : at + n - at ≡ n = omega arith in
     let lent : length (take (at + n - at) (drop at st)) ≡ n = simp (length-take, length-drop) (omega arith) in
-    let kept : length last ≡ length (take (at + n - at) (drop at st)) = c.fill_stretch.auto.1.1.0 in
+    let kept : length last ≡ length (take (at + n - at) (drop at st)) = c.fill_stretch.auto.stretch.1.0 in
     let is : last ≡ stretch_in a.configuration.now c.read.result (take (at + n - at) (drop at st)) = c.fill_stretch.ensures in
     let filled : last ≡ stretch_in a.configuration.now c.read.result (take n (drop at st)) = is ∙ ap (λ (w : ℕ). stretch_in a.configuration.now c.read.result (take w (drop at st))) width in
     (omega arith, rw width (filled_more a.configuration.now a.jobs.now a.stretches.now c.loop-k.k c.loop-k.invariant.1 here size (kept ∙ lent) (filled ∙ ap (λ (j : Job). stretch_in a.configuration.now j (take n (drop at st))) c.read.ensures)))

@@ -62,7 +62,7 @@ returns-in-Admitted c =
     let d : Design = lent a.scaffold a.marks a.glues a.dg a.ds a.potentials a.ambient in
     let told = sym c.requires.tables_value ∙ c.in-Admitted.is in
     let short = (sized d (tabled false d told).tables.sizes).short in
-    let kept : length c.count_options-states.new.marks.1.1.1.1.1.1.1.0 ≡ positions d = c.count_options-states.auto.1.1.1.1.1.1.1.1.0 ∙ (omega (arith, length-take (positions d - 0) a.options.now)) in record {
+    let kept : length c.count_options-states.new.marks.1.1.1.1.1.1.1.0 ≡ positions d = c.count_options-states.auto.marks.1.1.1.1.1.1.1.0 ∙ (omega (arith, length-take (positions d - 0) a.options.now)) in record {
       judged_right = record { tables = sym (ap reply_number told); states = λ _. c.count_options-states.ensures.value; numbers = λ _. c.number-in-Admitted.ensures ∙ ap reply_number c.numbers_reply-numbers.ensures };
       option_rows = λ _. (front-options c.count_options-states.new.marks.1.1.1.1.1.1.1.0 _ (positions d) kept c.count_options-states.ensures.option_rows, front-searchable c.count_options-states.new.marks.1.1.1.1.1.1.1.0 _ (positions d) kept c.count_options-states.ensures.searchable);
     }

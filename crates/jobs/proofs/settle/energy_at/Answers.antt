@@ -19,7 +19,7 @@ pub write_state-requires : goal.write_state-requires
 write_state-requires c =
     let a = c.args in
     let p = c.requires in
-    let short = p.0.short in
+    let short = p.searchable.short in
     record {
       readable = p.searchable.readable;
       states_value = p.states_value;
@@ -32,10 +32,10 @@ pub slice_bounds-state_energy-end : goal.slice_bounds-state_energy-end
 slice_bounds-state_energy-end c =
     let a = c.args in
     let p = c.requires in
-    let short = p.0.short in
+    let short = p.searchable.short in
     let n = length a.options.now in
     let written = c.write_state.new.counts.1.1.1.0 in
-    let number : length written ≡ n = c.write_state.auto.1.1.1.1.0 ∙ (omega (arith, length-take (n - 0) (replicate {A = ℕ} 128 0))) in
+    let number : length written ≡ n = c.write_state.auto.counts.1.1.1.0 ∙ (omega (arith, length-take (n - 0) (replicate {A = ℕ} 128 0))) in
     simp length-append (omega arith)
 
 -- src/settle.rt:103:9
@@ -43,14 +43,14 @@ pub state_energy-energy-requires : goal.state_energy-energy-requires
 state_energy-energy-requires c =
     let all = let a = c.args in
     let p = c.requires in
-    let short = p.0.short in
+    let short = p.searchable.short in
     let n = length a.options.now in
     let written = c.write_state.new.counts.1.1.1.0 in
-    let number : length written ≡ n = c.write_state.auto.1.1.1.1.0 ∙ (omega (arith, length-take (n - 0) (replicate {A = ℕ} 128 0))) in
+    let number : length written ≡ n = c.write_state.auto.counts.1.1.1.0 ∙ (omega (arith, length-take (n - 0) (replicate {A = ℕ} 128 0))) in
     let full : length written ≡ n - 0 = omega (arith, number) in
     let again = take_at written (drop (n - 0) (replicate {A = ℕ} 128 0)) (n - 0) full in
-    let m = p.1.1.0.0 in
-    let o = p.1.1.0.1 in
+    let m = p.option_rows.0 in
+    let o = p.option_rows.1 in
     let below : a.rank < count m = omega (arith, p.states_value, p.rank_lt_states, product_is o) in
     let state = ranked-state m a.rank below in
     let is = c.write_state.ensures m o in
@@ -69,10 +69,10 @@ returns c =
     λ m o w e.
     let a = c.args in
     let p = c.requires in
-    let short = p.0.short in
+    let short = p.searchable.short in
     let n = length a.options.now in
     let written = c.write_state.new.counts.1.1.1.0 in
-    let number : length written ≡ n = c.write_state.auto.1.1.1.1.0 ∙ (omega (arith, length-take (n - 0) (replicate {A = ℕ} 128 0))) in
+    let number : length written ≡ n = c.write_state.auto.counts.1.1.1.0 ∙ (omega (arith, length-take (n - 0) (replicate {A = ℕ} 128 0))) in
     let full : length written ≡ n - 0 = omega (arith, number) in
     let again = take_at written (drop (n - 0) (replicate {A = ℕ} 128 0)) (n - 0) full in
     let below : a.rank < count m = omega (arith, p.states_value, p.rank_lt_states, product_is o) in

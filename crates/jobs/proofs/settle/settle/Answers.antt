@@ -22,8 +22,8 @@ fill_bonds-requires c = record {
 pub lowest-requires : goal.lowest-requires
 lowest-requires c =
     let a = c.args in
-    let strand-cells : length c.fill_bonds.new.counts.1.1.1.1.1.1.1.0 ≡ length a.strand-bonds.now = c.fill_bonds.auto.1.1.1.1.1.1.1.1.0 in
-    let scaffold-cells : length c.fill_bonds.new.counts.1.1.1.1.1.1.1.1.0 ≡ length a.scaffold-bonds.now = c.fill_bonds.auto.1.1.1.1.1.1.1.1.1.0 in
+    let strand-cells : length c.fill_bonds.new.counts.1.1.1.1.1.1.1.0 ≡ length a.strand_bonds.now = c.fill_bonds.auto.counts.1.1.1.1.1.1.1.0 in
+    let scaffold-cells : length c.fill_bonds.new.counts.1.1.1.1.1.1.1.1.0 ≡ length a.scaffold_bonds.now = c.fill_bonds.auto.counts.1.1.1.1.1.1.1.1.0 in
     record {
       searchable = c.requires.searchable;
       potentials_in_bounds = omega (arith, c.requires.potentials_in_bounds);

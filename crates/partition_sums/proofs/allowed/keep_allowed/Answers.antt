@@ -17,7 +17,7 @@ pub overflow_add-end : goal.overflow_add-end
 overflow_add-end c =
     let r = c.requires in
     let few = r.readable.few c.loop-position.position c.loop-position-test.true in
-    let sized = r.0.sized in
+    let sized = r.readable.sized in
     let e = c.wide.ensures in
     omega arith
 
@@ -54,7 +54,7 @@ pub slice_bounds-keep_row-end-in-loop-position : goal.slice_bounds-keep_row-end-
 slice_bounds-keep_row-end-in-loop-position c =
     let r = c.requires in
     let few = r.readable.few c.loop-position.position c.loop-position-test.true in
-    let sized = r.0.sized in
+    let sized = r.readable.sized in
     let e = c.wide.ensures in
     let h = c.loop-position-test.true in
     omega arith
@@ -73,7 +73,7 @@ keep_row-requires c =
     let l = c.loop-position in
     let i = l.position in
     let h = c.loop-position-test.true in
-    let room = r.1.1.1.0 in
+    let room = r.counts_in_bounds in
     let size = l.invariant.1 in
     let here = part-is a.rows.now a.counts.now i (64 * i) (64 * i + c.wide.result) refl (ap (λ (z : ℕ). 64 * i + z) c.wide.ensures) in
     record {
@@ -95,21 +95,21 @@ loop-position-preserved c =
     let l = c.loop-position in
     let i = l.position in
     let h = c.loop-position-test.true in
-    let places = r.1.1.1.1 in
-    let rooms = r.1.1.1.0 in
+    let places = r.kept_counts_len in
+    let rooms = r.counts_in_bounds in
     let size = l.invariant.1 in
     let number = l.invariant.2 in
     let row = c.keep_row.new.options.1.0 in
-    let room : 64 * i + 64 ≤ length l.kept-rows = omega arith in
+    let room : 64 * i + 64 ≤ length l.kept_rows = omega arith in
     let full : length row ≡ 64 = let sized = c.keep_row in omega arith in
     let wide64 : 64 * i + 64 - 64 * i ≡ 64 = omega arith in
     let here = part-is a.rows.now a.counts.now i (64 * i) (64 * i + c.wide.result) refl (ap (λ (z : ℕ). 64 * i + z) c.wide.ensures) in
     let kept = rw (here, list-part a.numbers.now a.starts.now a.lengths.now i) at c.keep_row.ensures in
     rw wide64 (
       omega arith,
-      part_length l.kept-rows (64 * i) 64 row room full ∙ size,
-      length-set l.kept-counts i c.keep_row.result ∙ number,
-      kept_more (list_at a.numbers.now a.starts.now a.lengths.now) (options_at a.rows.now a.counts.now) l.kept-rows l.kept-counts i row c.keep_row.result room (omega arith) full l.invariant.3 kept,
+      part_length l.kept_rows (64 * i) 64 row room full ∙ size,
+      length-set l.kept_counts i c.keep_row.result ∙ number,
+      kept_more (list_at a.numbers.now a.starts.now a.lengths.now) (options_at a.rows.now a.counts.now) l.kept_rows l.kept_counts i row c.keep_row.result room (omega arith) full l.invariant.3 kept,
     )
 
 pub shape_of-kept_rows : goal.shape_of-kept_rows
@@ -123,8 +123,8 @@ returns c =
     let r = c.requires in
     let l = c.loop-position in
     let past = c.loop-position-test.false in
-    let places = r.1.1.1.1 in
-    let rooms = r.1.1.1.0 in
+    let places = r.kept_counts_len in
+    let rooms = r.counts_in_bounds in
     let size = l.invariant.1 in
     record {
       positions = l.invariant.2 ∙ places;

@@ -22,8 +22,8 @@ bounds-row-count c =
     let g = c.loop-k-test.true in
     let n = l.invariant.0 in
     let m = l.invariant.1 in
-    let few = r.0 in
-    let size = r.1 in
+    let few = r.options_len_bound in
+    let size = r.row_len in
     let e : length l.row ≡ length c.args.row.now = front_length l.invariant.2 (omega arith) in
     omega arith
 
@@ -34,8 +34,8 @@ loop-k-preserved c =
     let l = c.loop-k in
     let p = allows a.list.now in
     let g = c.loop-k-test.true in
-    let few = r.0 in
-    let size = r.1 in
+    let few = r.options_len_bound in
+    let size = r.row_len in
     let m = l.invariant.1 in
     elim c.if-list_allows.branch [
       | inl w ↦ (

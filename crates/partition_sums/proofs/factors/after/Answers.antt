@@ -38,7 +38,7 @@ slice_bounds-following-end-2 c =
 pub following-requires : goal.following-requires
 following-requires c =
     let all = let a = c.args in
-    rw (c.wide.ensures, add-sub_cancel_left (a.left * a.strands) a.strands) c.requires.1 in record {
+    rw (c.wide.ensures, add-sub_cancel_left (a.left * a.strands) a.strands) c.requires in record {
       options_nonzero = all.0;
       by_index = all.1;
     }

@@ -18,7 +18,7 @@ pub loop-k-init : goal.loop-k-init
 loop-k-init c =
     let a = c.args in
     let r = c.requires in
-    let f = joined-fit (r.by_index 0 r.options_nonzero.0) in (r.options_nonzero.0, rw c.join-sum.ensures (record { form = f.form; low = omega (arith, f.low) }), rw c.join-sum.ensures (sum_first (joined a.digits.now a.powers.now a.beside-empty a.row-digits.now a.row-powers.now) a.options.now r.options_nonzero.0))
+    let f = joined-fit (r.by_index 0 r.options_nonzero.0) in (r.options_nonzero.0, rw c.join-sum.ensures (record { form = f.form; low = omega (arith, f.low) }), rw c.join-sum.ensures (sum_first (joined a.digits.now a.powers.now a.beside_empty a.row_digits.now a.row_powers.now) a.options.now r.options_nonzero.0))
 
 pub join-requires : goal.join-requires
 join-requires c = c.requires.by_index c.loop-k.k c.loop-k-test.true
@@ -43,10 +43,10 @@ pub loop-k-preserved : goal.loop-k-preserved
 loop-k-preserved c =
     let a = c.args in
     let l = c.loop-k in
-    let f = joined-fit (c.requires.by_index l.k c.loop-k-test.true) in let i = l.invariant.1 in let p = plus-cut l.sum ((joined a.digits.now a.powers.now a.beside-empty a.row-digits.now a.row-powers.now) (get_or a.options.now l.k 0)) (2 ^ 31 + l.k) i.form f.form i.low (omega (arith, f.low)) in (omega (arith, c.loop-k-test.true), rw (c.term_plus-sum.ensures, c.join.ensures) (record { form = p.form; low = omega (arith, p.low) }), rw (c.term_plus-sum.ensures, c.join.ensures) (l.invariant.2 ∙ sum_more (joined a.digits.now a.powers.now a.beside-empty a.row-digits.now a.row-powers.now) a.options.now l.sum l.k c.loop-k-test.true))
+    let f = joined-fit (c.requires.by_index l.k c.loop-k-test.true) in let i = l.invariant.1 in let p = plus-cut l.sum ((joined a.digits.now a.powers.now a.beside_empty a.row_digits.now a.row_powers.now) (get_or a.options.now l.k 0)) (2 ^ 31 + l.k) i.form f.form i.low (omega (arith, f.low)) in (omega (arith, c.loop-k-test.true), rw (c.term_plus-sum.ensures, c.join.ensures) (record { form = p.form; low = omega (arith, p.low) }), rw (c.term_plus-sum.ensures, c.join.ensures) (l.invariant.2 ∙ sum_more (joined a.digits.now a.powers.now a.beside_empty a.row_digits.now a.row_powers.now) a.options.now l.sum l.k c.loop-k-test.true))
 
 pub returns : goal.returns
 returns c =
     let a = c.args in
     let l = c.loop-k in
-    sym (l.invariant.2 ∙ sum_done (joined a.digits.now a.powers.now a.beside-empty a.row-digits.now a.row-powers.now) a.options.now l.sum l.k c.loop-k-test.false)
+    sym (l.invariant.2 ∙ sum_done (joined a.digits.now a.powers.now a.beside_empty a.row_digits.now a.row_powers.now) a.options.now l.sum l.k c.loop-k-test.false)

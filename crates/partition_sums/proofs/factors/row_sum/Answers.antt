@@ -18,7 +18,7 @@ loop-k-init c =
     let a = c.args in
     let r = c.requires in
     let f = (r.by_index 0 r.options_nonzero.0).row in
-    (r.options_nonzero.0, rw c.term_at-sum.ensures (record { form = f.form; low = omega (arith, f.low) }), rw c.term_at-sum.ensures (sum_first (row_term a.row-digits.now a.row-powers.now) a.options.now r.options_nonzero.0))
+    (r.options_nonzero.0, rw c.term_at-sum.ensures (record { form = f.form; low = omega (arith, f.low) }), rw c.term_at-sum.ensures (sum_first (row_term a.row_digits.now a.row_powers.now) a.options.now r.options_nonzero.0))
 
 pub term_at-requires : goal.term_at-requires
 term_at-requires c = c.requires.by_index c.loop-k.k c.loop-k-test.true
@@ -38,7 +38,7 @@ pub loop-k-preserved : goal.loop-k-preserved
 loop-k-preserved c =
     let a = c.args in
     let l = c.loop-k in
-    let t = row_term a.row-digits.now a.row-powers.now in
+    let t = row_term a.row_digits.now a.row_powers.now in
     let f = (c.requires.by_index l.k c.loop-k-test.true).row in
     let i = l.invariant.1 in
     let p = plus-cut l.sum (t (get_or a.options.now l.k 0)) (2 ^ 30 + l.k) i.form f.form i.low (omega (arith, f.low)) in (
@@ -50,4 +50,4 @@ loop-k-preserved c =
 pub returns : goal.returns
 returns c =
     let a = c.args in
-    sym (c.loop-k.invariant.2 ∙ sum_done (row_term a.row-digits.now a.row-powers.now) a.options.now c.loop-k.sum c.loop-k.k c.loop-k-test.false)
+    sym (c.loop-k.invariant.2 ∙ sum_done (row_term a.row_digits.now a.row_powers.now) a.options.now c.loop-k.sum c.loop-k.k c.loop-k-test.false)

@@ -27,8 +27,8 @@ overflow_mul-cell c =
     let e = c.wide.ensures in
     let h : x < a.strands = omega arith in
     let v = ends x a.strands h r.strands_bound in
-    let ends-digits = r.1.0 in
-    let ends-powers = r.1.1.0 in
+    let ends-digits = r.strands_in_bounds in
+    let ends-powers = r.strands_in_bounds_2 in
     omega arith
 
 pub overflow_add-next_cell : goal.overflow_add-next_cell
@@ -40,8 +40,8 @@ overflow_add-next_cell c =
     let e = c.wide.ensures in
     let h : x < a.strands = omega arith in
     let v = ends x a.strands h r.strands_bound in
-    let ends-digits = r.1.0 in
-    let ends-powers = r.1.1.0 in
+    let ends-digits = r.strands_in_bounds in
+    let ends-powers = r.strands_in_bounds_2 in
     omega arith
 
 pub offset_bounds-pair_digits-cell : goal.offset_bounds-pair_digits-cell
@@ -53,8 +53,8 @@ offset_bounds-pair_digits-cell c =
     let e = c.wide.ensures in
     let h : x < a.strands = omega arith in
     let v = ends x a.strands h r.strands_bound in
-    let ends-digits = r.1.0 in
-    let ends-powers = r.1.1.0 in
+    let ends-digits = r.strands_in_bounds in
+    let ends-powers = r.strands_in_bounds_2 in
     omega arith
 
 pub slice_bounds-row_out-end : goal.slice_bounds-row_out-end
@@ -66,8 +66,8 @@ slice_bounds-row_out-end c =
     let e = c.wide.ensures in
     let h : x < a.strands = omega arith in
     let v = ends x a.strands h r.strands_bound in
-    let ends-digits = r.1.0 in
-    let ends-powers = r.1.1.0 in
+    let ends-digits = r.strands_in_bounds in
+    let ends-powers = r.strands_in_bounds_2 in
     omega arith
 
 pub offset_bounds-pair_powers-cell : goal.offset_bounds-pair_powers-cell
@@ -79,8 +79,8 @@ offset_bounds-pair_powers-cell c =
     let e = c.wide.ensures in
     let h : x < a.strands = omega arith in
     let v = ends x a.strands h r.strands_bound in
-    let ends-digits = r.1.0 in
-    let ends-powers = r.1.1.0 in
+    let ends-digits = r.strands_in_bounds in
+    let ends-powers = r.strands_in_bounds_2 in
     omega arith
 
 pub slice_bounds-row_out-end-in-loop-k : goal.slice_bounds-row_out-end-in-loop-k
@@ -92,8 +92,8 @@ slice_bounds-row_out-end-in-loop-k c =
     let e = c.wide.ensures in
     let h : x < a.strands = omega arith in
     let v = ends x a.strands h r.strands_bound in
-    let ends-digits = r.1.0 in
-    let ends-powers = r.1.1.0 in
+    let ends-digits = r.strands_in_bounds in
+    let ends-powers = r.strands_in_bounds_2 in
     omega arith
 
 pub row_out-requires : goal.row_out-requires
@@ -104,7 +104,7 @@ row_out-requires c =
     let known = r.below c.loop-k.k c.loop-k-test.true in
     let e = c.wide.ensures in
     let h : x < a.strands = omega arith in
-    rw (cells_are a.pair-digits.now a.strands x, cells_are a.pair-powers.now a.strands x, row-length a.strands x a.strands a.pair-digits.now h r.strands_in_bounds, row-length a.strands x a.strands a.pair-powers.now h r.strands_in_bounds_2)
+    rw (cells_are a.pair_digits.now a.strands x, cells_are a.pair_powers.now a.strands x, row-length a.strands x a.strands a.pair_digits.now h r.strands_in_bounds, row-length a.strands x a.strands a.pair_powers.now h r.strands_in_bounds_2)
     (r.below_2, r.below_2) in record {
       below = all.0;
       below_2 = all.1;
@@ -114,22 +114,22 @@ pub returns-then-row_out : goal.returns-then-row_out
 returns-then-row_out c =
     let a = c.args in
     let l = c.loop-k in
-    let p = pairs_out_in a.strands a.pair-digits.now a.pair-powers.now a.right.now in
+    let p = pairs_out_in a.strands a.pair_digits.now a.pair_powers.now a.right.now in
     let x = c.wide.result in
-    let found = rw (cells_are a.pair-digits.now a.strands x, cells_are a.pair-powers.now a.strands x) at c.row_out.ensures in
+    let found = rw (cells_are a.pair_digits.now a.strands x, cells_are a.pair_powers.now a.strands x) at c.row_out.ensures in
     sym (l.invariant.1 ∙ any_here p a.left.now l.k 0 c.loop-k-test.true (sym (ap p c.wide.ensures) ∙ sym found ∙ c.if-row_out.true))
 
 pub loop-k-preserved : goal.loop-k-preserved
 loop-k-preserved c =
     let a = c.args in
     let l = c.loop-k in
-    let p = pairs_out_in a.strands a.pair-digits.now a.pair-powers.now a.right.now in
+    let p = pairs_out_in a.strands a.pair_digits.now a.pair_powers.now a.right.now in
     let x = c.wide.result in
-    let found = rw (cells_are a.pair-digits.now a.strands x, cells_are a.pair-powers.now a.strands x) at c.row_out.ensures in
+    let found = rw (cells_are a.pair_digits.now a.strands x, cells_are a.pair_powers.now a.strands x) at c.row_out.ensures in
     (omega (arith, c.loop-k-test.true), l.invariant.1 ∙ any-later p a.left.now l.k 0 c.loop-k-test.true (sym (ap p c.wide.ensures) ∙ sym found ∙ c.if-row_out.false))
 
 pub returns : goal.returns
 returns c =
     let a = c.args in
     let l = c.loop-k in
-    sym (l.invariant.1 ∙ any-past (pairs_out_in a.strands a.pair-digits.now a.pair-powers.now a.right.now) a.left.now l.k c.loop-k-test.false)
+    sym (l.invariant.1 ∙ any-past (pairs_out_in a.strands a.pair_digits.now a.pair_powers.now a.right.now) a.left.now l.k c.loop-k-test.false)

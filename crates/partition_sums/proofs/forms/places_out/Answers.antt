@@ -24,7 +24,7 @@ overflow_add-end c =
     let r = c.requires in
     let i = c.loop-position.position in
     let h = c.loop-position-test.true in
-    let v = inside (lent a.place-digits.now a.place-powers.now a.pair-digits.now a.pair-powers.now a.strands) a.rows.now a.counts.now r.searchable r.celled i h in
+    let v = inside (lent a.place_digits.now a.place_powers.now a.pair_digits.now a.pair_powers.now a.strands) a.rows.now a.counts.now r.searchable r.celled i h in
     let some = r.searchable.some i h in
     let e = c.wide.ensures in
     omega arith
@@ -35,7 +35,7 @@ overflow_sub-end c =
     let r = c.requires in
     let i = c.loop-position.position in
     let h = c.loop-position-test.true in
-    let v = inside (lent a.place-digits.now a.place-powers.now a.pair-digits.now a.pair-powers.now a.strands) a.rows.now a.counts.now r.searchable r.celled i h in
+    let v = inside (lent a.place_digits.now a.place_powers.now a.pair_digits.now a.pair_powers.now a.strands) a.rows.now a.counts.now r.searchable r.celled i h in
     let some = r.searchable.some i h in
     let e = c.wide.ensures in
     omega arith
@@ -46,7 +46,7 @@ overflow_mul-cell c =
     let r = c.requires in
     let i = c.loop-position.position in
     let h = c.loop-position-test.true in
-    let v = inside (lent a.place-digits.now a.place-powers.now a.pair-digits.now a.pair-powers.now a.strands) a.rows.now a.counts.now r.searchable r.celled i h in
+    let v = inside (lent a.place_digits.now a.place_powers.now a.pair_digits.now a.pair_powers.now a.strands) a.rows.now a.counts.now r.searchable r.celled i h in
     let some = r.searchable.some i h in
     let e = c.wide.ensures in
     omega arith
@@ -57,7 +57,7 @@ overflow_add-next_cell c =
     let r = c.requires in
     let i = c.loop-position.position in
     let h = c.loop-position-test.true in
-    let v = inside (lent a.place-digits.now a.place-powers.now a.pair-digits.now a.pair-powers.now a.strands) a.rows.now a.counts.now r.searchable r.celled i h in
+    let v = inside (lent a.place_digits.now a.place_powers.now a.pair_digits.now a.pair_powers.now a.strands) a.rows.now a.counts.now r.searchable r.celled i h in
     let some = r.searchable.some i h in
     let e = c.wide.ensures in
     omega arith
@@ -68,7 +68,7 @@ offset_bounds-place_digits-cell c =
     let r = c.requires in
     let i = c.loop-position.position in
     let h = c.loop-position-test.true in
-    let v = inside (lent a.place-digits.now a.place-powers.now a.pair-digits.now a.pair-powers.now a.strands) a.rows.now a.counts.now r.searchable r.celled i h in
+    let v = inside (lent a.place_digits.now a.place_powers.now a.pair_digits.now a.pair_powers.now a.strands) a.rows.now a.counts.now r.searchable r.celled i h in
     let some = r.searchable.some i h in
     let e = c.wide.ensures in
     omega arith
@@ -79,7 +79,7 @@ slice_bounds-row_out-end c =
     let r = c.requires in
     let i = c.loop-position.position in
     let h = c.loop-position-test.true in
-    let v = inside (lent a.place-digits.now a.place-powers.now a.pair-digits.now a.pair-powers.now a.strands) a.rows.now a.counts.now r.searchable r.celled i h in
+    let v = inside (lent a.place_digits.now a.place_powers.now a.pair_digits.now a.pair_powers.now a.strands) a.rows.now a.counts.now r.searchable r.celled i h in
     let some = r.searchable.some i h in
     let e = c.wide.ensures in
     omega arith
@@ -90,7 +90,7 @@ offset_bounds-place_powers-cell c =
     let r = c.requires in
     let i = c.loop-position.position in
     let h = c.loop-position-test.true in
-    let v = inside (lent a.place-digits.now a.place-powers.now a.pair-digits.now a.pair-powers.now a.strands) a.rows.now a.counts.now r.searchable r.celled i h in
+    let v = inside (lent a.place_digits.now a.place_powers.now a.pair_digits.now a.pair_powers.now a.strands) a.rows.now a.counts.now r.searchable r.celled i h in
     let some = r.searchable.some i h in
     let e = c.wide.ensures in
     omega arith
@@ -101,7 +101,7 @@ slice_bounds-row_out-end-in-loop-position c =
     let r = c.requires in
     let i = c.loop-position.position in
     let h = c.loop-position-test.true in
-    let v = inside (lent a.place-digits.now a.place-powers.now a.pair-digits.now a.pair-powers.now a.strands) a.rows.now a.counts.now r.searchable r.celled i h in
+    let v = inside (lent a.place_digits.now a.place_powers.now a.pair_digits.now a.pair_powers.now a.strands) a.rows.now a.counts.now r.searchable r.celled i h in
     let some = r.searchable.some i h in
     let e = c.wide.ensures in
     omega arith
@@ -112,7 +112,7 @@ slice_bounds-row_out-count-in-loop-position-2 c =
     let r = c.requires in
     let i = c.loop-position.position in
     let h = c.loop-position-test.true in
-    let v = inside (lent a.place-digits.now a.place-powers.now a.pair-digits.now a.pair-powers.now a.strands) a.rows.now a.counts.now r.searchable r.celled i h in
+    let v = inside (lent a.place_digits.now a.place_powers.now a.pair_digits.now a.pair_powers.now a.strands) a.rows.now a.counts.now r.searchable r.celled i h in
     let some = r.searchable.some i h in
     let e = c.wide.ensures in
     omega arith
@@ -123,7 +123,7 @@ slice_bounds-row_out-start-in-loop-position-2 c =
     let r = c.requires in
     let i = c.loop-position.position in
     let h = c.loop-position-test.true in
-    let v = inside (lent a.place-digits.now a.place-powers.now a.pair-digits.now a.pair-powers.now a.strands) a.rows.now a.counts.now r.searchable r.celled i h in
+    let v = inside (lent a.place_digits.now a.place_powers.now a.pair_digits.now a.pair_powers.now a.strands) a.rows.now a.counts.now r.searchable r.celled i h in
     let some = r.searchable.some i h in
     let e = c.wide.ensures in
     omega arith
@@ -134,7 +134,7 @@ slice_bounds-row_out-end-in-loop-position-2 c =
     let r = c.requires in
     let i = c.loop-position.position in
     let h = c.loop-position-test.true in
-    let v = inside (lent a.place-digits.now a.place-powers.now a.pair-digits.now a.pair-powers.now a.strands) a.rows.now a.counts.now r.searchable r.celled i h in
+    let v = inside (lent a.place_digits.now a.place_powers.now a.pair_digits.now a.pair_powers.now a.strands) a.rows.now a.counts.now r.searchable r.celled i h in
     let some = r.searchable.some i h in
     let e = c.wide.ensures in
     omega arith
@@ -143,13 +143,13 @@ pub row_out-requires : goal.row_out-requires
 row_out-requires c =
     let all = let a = c.args in
     let r = c.requires in
-    let w = (lent a.place-digits.now a.place-powers.now a.pair-digits.now a.pair-powers.now a.strands) in
+    let w = (lent a.place_digits.now a.place_powers.now a.pair_digits.now a.pair_powers.now a.strands) in
     let l = c.loop-position in
     let i = l.position in
     let h = c.loop-position-test.true in
     let friends = friends-part w a.rows.now a.counts.now r.searchable i (64 * i + c.wide.result - 1) (ap (λ (z : ℕ). 64 * i + z - 1) c.wide.ensures) h in
     let below = friends-below w a.rows.now a.counts.now r.searchable i h in
-    rw (friends, cells_are a.place-digits.now a.strands i, cells_are a.place-powers.now a.strands i, row-length a.strands i (length a.counts.now) a.place-digits.now h r.celled.place-digits, row-length a.strands i (length a.counts.now) a.place-powers.now h r.celled.place-powers)
+    rw (friends, cells_are a.place_digits.now a.strands i, cells_are a.place_powers.now a.strands i, row-length a.strands i (length a.counts.now) a.place_digits.now h r.celled.place-digits, row-length a.strands i (length a.counts.now) a.place_powers.now h r.celled.place-powers)
     (below, below) in record {
       below = all.0;
       below_2 = all.1;
@@ -159,30 +159,30 @@ pub returns-then-row_out : goal.returns-then-row_out
 returns-then-row_out c =
     let a = c.args in
     let r = c.requires in
-    let w = (lent a.place-digits.now a.place-powers.now a.pair-digits.now a.pair-powers.now a.strands) in
+    let w = (lent a.place_digits.now a.place_powers.now a.pair_digits.now a.pair_powers.now a.strands) in
     let l = c.loop-position in
     let i = l.position in
     let h = c.loop-position-test.true in
     let friends = friends-part w a.rows.now a.counts.now r.searchable i (64 * i + c.wide.result - 1) (ap (λ (z : ℕ). 64 * i + z - 1) c.wide.ensures) h in
     let p = places_out_at (friends_in a.rows.now a.counts.now) w in
-    let found = rw (friends, cells_are a.place-digits.now a.strands i, cells_are a.place-powers.now a.strands i) at c.row_out.ensures in
+    let found = rw (friends, cells_are a.place_digits.now a.strands i, cells_are a.place_powers.now a.strands i) at c.row_out.ensures in
     sym (l.invariant.1 ∙ any_here p (length a.counts.now) i h (sym (places-at w a.rows.now a.counts.now r.searchable i h) ∙ sym found ∙ c.if-row_out.true))
 
 pub loop-position-preserved : goal.loop-position-preserved
 loop-position-preserved c =
     let a = c.args in
     let r = c.requires in
-    let w = (lent a.place-digits.now a.place-powers.now a.pair-digits.now a.pair-powers.now a.strands) in
+    let w = (lent a.place_digits.now a.place_powers.now a.pair_digits.now a.pair_powers.now a.strands) in
     let l = c.loop-position in
     let i = l.position in
     let h = c.loop-position-test.true in
     let friends = friends-part w a.rows.now a.counts.now r.searchable i (64 * i + c.wide.result - 1) (ap (λ (z : ℕ). 64 * i + z - 1) c.wide.ensures) h in
     let p = places_out_at (friends_in a.rows.now a.counts.now) w in
-    let found = rw (friends, cells_are a.place-digits.now a.strands i, cells_are a.place-powers.now a.strands i) at c.row_out.ensures in
+    let found = rw (friends, cells_are a.place_digits.now a.strands i, cells_are a.place_powers.now a.strands i) at c.row_out.ensures in
     (omega arith, l.invariant.1 ∙ any-later p (length a.counts.now) i h (sym (places-at w a.rows.now a.counts.now r.searchable i h) ∙ sym found ∙ c.if-row_out.false))
 
 pub returns : goal.returns
 returns c =
     let a = c.args in
     let l = c.loop-position in
-    sym (l.invariant.1 ∙ any-past (places_out_at (friends_in a.rows.now a.counts.now) (lent a.place-digits.now a.place-powers.now a.pair-digits.now a.pair-powers.now a.strands)) (length a.counts.now) l.position c.loop-position-test.false)
+    sym (l.invariant.1 ∙ any-past (places_out_at (friends_in a.rows.now a.counts.now) (lent a.place_digits.now a.place_powers.now a.pair_digits.now a.pair_powers.now a.strands)) (length a.counts.now) l.position c.loop-position-test.false)

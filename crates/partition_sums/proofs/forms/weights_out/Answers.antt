@@ -15,9 +15,9 @@ lent place-digits place-powers pair-digits pair-powers strands =
 pub returns-then-places_out : goal.returns-then-places_out
 returns-then-places_out c =
     let a = c.args in
-    place-decides (lent a.place-digits.now a.place-powers.now a.pair-digits.now a.pair-powers.now a.strands) a.rows.now a.counts.now (sym c.places_out.ensures ∙ c.if-places_out.true)
+    place-decides (lent a.place_digits.now a.place_powers.now a.pair_digits.now a.pair_powers.now a.strands) a.rows.now a.counts.now (sym c.places_out.ensures ∙ c.if-places_out.true)
 
 pub returns : goal.returns
 returns c =
     let a = c.args in
-    pairs_decide (lent a.place-digits.now a.place-powers.now a.pair-digits.now a.pair-powers.now a.strands) a.rows.now a.counts.now (sym c.places_out.ensures ∙ c.if-places_out.false) c.neighbours_out.ensures
+    pairs_decide (lent a.place_digits.now a.place_powers.now a.pair_digits.now a.pair_powers.now a.strands) a.rows.now a.counts.now (sym c.places_out.ensures ∙ c.if-places_out.false) c.neighbours_out.ensures

@@ -12,7 +12,7 @@ pub loop-k-init : goal.loop-k-init
 loop-k-init c =
     let a = c.args in
     let r = c.requires in
-    (zero-le, written_none (factor_of a.place-digits.now a.place-powers.now false) a.here.now a.out-digits.now a.out-powers.now r.out_digits_len.0 r.out_digits_len.1)
+    (zero-le, written_none (factor_of a.place_digits.now a.place_powers.now false) a.here.now a.out_digits.now a.out_powers.now r.out_digits_len.0 r.out_digits_len.1)
 
 pub factor_term-place-requires : goal.factor_term-place-requires
 factor_term-place-requires c =
@@ -43,7 +43,7 @@ loop-k-preserved c =
     let l = c.loop-k in
     let few = (c.requires.by_index l.k c.loop-k-test.true).few in (
       omega (arith, c.loop-k-test.true),
-      written-more (factor_of a.place-digits.now a.place-powers.now false) a.here.now l.out-digits l.out-powers l.k c.wide-at.result c.factor_term-place.result
+      written-more (factor_of a.place_digits.now a.place_powers.now false) a.here.now l.out_digits l.out_powers l.k c.wide-at.result c.factor_term-place.result
           (omega (arith, c.wide-at.ensures, few)) c.wide-at.ensures (rw (c.factor_term-place.ensures, c.wide-at.ensures) refl) l.invariant.1,
     )
 
@@ -58,4 +58,4 @@ returns c =
     let a = c.args in
     let l = c.loop-k in
     let e : l.k ≡ length a.here.now = omega (arith, l.invariant.0, c.loop-k-test.false) in
-    subst (λ (z : ℕ). Written (factor_of a.place-digits.now a.place-powers.now false) a.here.now z l.out-digits l.out-powers) e l.invariant.1
+    subst (λ (z : ℕ). Written (factor_of a.place_digits.now a.place_powers.now false) a.here.now z l.out_digits l.out_powers) e l.invariant.1

@@ -14,7 +14,7 @@ pub loop-k-init : goal.loop-k-init
 loop-k-init c =
     let a = c.args in
     let r = c.requires in
-    (zero-le, written_none (step_of a.place-digits.now a.place-powers.now a.pair-digits.now a.pair-powers.now a.strands a.row-digits.now a.row-powers.now a.next.now) a.here.now a.out-digits.now a.out-powers.now r.out_digits_len.0 r.out_digits_len.1)
+    (zero-le, written_none (step_of a.place_digits.now a.place_powers.now a.pair_digits.now a.pair_powers.now a.strands a.row_digits.now a.row_powers.now a.next.now) a.here.now a.out_digits.now a.out_powers.now r.out_digits_len.0 r.out_digits_len.1)
 
 pub after-sum-requires : goal.after-sum-requires
 after-sum-requires c =
@@ -36,7 +36,7 @@ term_times-t-requires c =
     let all = let a = c.args in
     let r = c.requires in
     let l = c.loop-k in
-    let s = (r.by_index l.k c.loop-k-test.true) in let p = factor-fit a.place-digits.now a.place-powers.now false (get_or a.here.now l.k 0) s.place.form in let f = sum-fit (joined (row_of a.strands (get_or a.here.now l.k 0) a.pair-digits.now) (row_of a.strands (get_or a.here.now l.k 0) a.pair-powers.now) (eqb (get_or a.here.now l.k 0) 0) a.row-digits.now a.row-powers.now) a.next.now r.next_nonzero.0 r.next_nonzero.1 (λ k l. joined-fit (s.joins k l)) in rw (c.factor_term-place.ensures, c.after-sum.ensures) (p.form, (f.form, (omega (arith, p.low), omega (arith, f.low)))) in record {
+    let s = (r.by_index l.k c.loop-k-test.true) in let p = factor-fit a.place_digits.now a.place_powers.now false (get_or a.here.now l.k 0) s.place.form in let f = sum-fit (joined (row_of a.strands (get_or a.here.now l.k 0) a.pair_digits.now) (row_of a.strands (get_or a.here.now l.k 0) a.pair_powers.now) (eqb (get_or a.here.now l.k 0) 0) a.row_digits.now a.row_powers.now) a.next.now r.next_nonzero.0 r.next_nonzero.1 (λ k l. joined-fit (s.joins k l)) in rw (c.factor_term-place.ensures, c.after-sum.ensures) (p.form, (f.form, (omega (arith, p.low), omega (arith, f.low)))) in record {
       normal = all.0;
       normal_2 = all.1.0;
       power_bound = all.1.1;
@@ -69,7 +69,7 @@ unfolding step_of
 loop-k-preserved c =
     let a = c.args in
     let l = c.loop-k in
-    let s = (c.requires.by_index l.k c.loop-k-test.true) in (omega (arith, c.loop-k-test.true), written-more (step_of a.place-digits.now a.place-powers.now a.pair-digits.now a.pair-powers.now a.strands a.row-digits.now a.row-powers.now a.next.now) a.here.now l.out-digits l.out-powers l.k c.wide-at.result c.term_times-t.result (omega (arith, c.wide-at.ensures, s.place.few)) c.wide-at.ensures (rw (c.term_times-t.ensures, c.factor_term-place.ensures, c.after-sum.ensures, c.wide-at.ensures) refl) l.invariant.1)
+    let s = (c.requires.by_index l.k c.loop-k-test.true) in (omega (arith, c.loop-k-test.true), written-more (step_of a.place_digits.now a.place_powers.now a.pair_digits.now a.pair_powers.now a.strands a.row_digits.now a.row_powers.now a.next.now) a.here.now l.out_digits l.out_powers l.k c.wide-at.result c.term_times-t.result (omega (arith, c.wide-at.ensures, s.place.few)) c.wide-at.ensures (rw (c.term_times-t.ensures, c.factor_term-place.ensures, c.after-sum.ensures, c.wide-at.ensures) refl) l.invariant.1)
 
 pub shape_of-out_digits : goal.shape_of-out_digits
 shape_of-out_digits c = c.loop-k.invariant.1.sized.0 ∙ sym c.requires.out_digits_len.0
@@ -81,4 +81,4 @@ pub returns : goal.returns
 returns c =
     let a = c.args in
     let l = c.loop-k in
-    let e : l.k ≡ length a.here.now = omega (arith, l.invariant.0, c.loop-k-test.false) in subst (λ (z : ℕ). Written (step_of a.place-digits.now a.place-powers.now a.pair-digits.now a.pair-powers.now a.strands a.row-digits.now a.row-powers.now a.next.now) a.here.now z l.out-digits l.out-powers) e l.invariant.1
+    let e : l.k ≡ length a.here.now = omega (arith, l.invariant.0, c.loop-k-test.false) in subst (λ (z : ℕ). Written (step_of a.place_digits.now a.place_powers.now a.pair_digits.now a.pair_powers.now a.strands a.row_digits.now a.row_powers.now a.next.now) a.here.now z l.out_digits l.out_powers) e l.invariant.1

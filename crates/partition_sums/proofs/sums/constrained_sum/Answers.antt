@@ -27,7 +27,7 @@ slice_bounds-kept_counts-end c = let short = c.requires.searchable.short in omeg
 pub keep_allowed-requires : goal.keep_allowed-requires
 keep_allowed-requires c =
     let r = c.requires in
-    let s = r.1.0 in
+    let s = r.searchable in
     let short = s.short in
     let n = length c.args.counts.now in
     record {
@@ -48,7 +48,7 @@ pub returns-then-none_left : goal.returns-then-none_left
 returns-then-none_left c =
     let a = c.args in
     let r = c.requires in
-    let w = lent a.place-digits.now a.place-powers.now a.pair-digits.now a.pair-powers.now a.strands in
+    let w = lent a.place_digits.now a.place_powers.now a.pair_digits.now a.pair_powers.now a.strands in
     let n = length a.counts.now in
     let k = c.keep_allowed.ensures in
     let kept = c.keep_allowed.new.counts.1.1.1.1.1.0 in
@@ -67,7 +67,7 @@ pub free_sum-requires : goal.free_sum-requires
 free_sum-requires c =
     let all = let a = c.args in
     let r = c.requires in
-    let w = lent a.place-digits.now a.place-powers.now a.pair-digits.now a.pair-powers.now a.strands in
+    let w = lent a.place_digits.now a.place_powers.now a.pair_digits.now a.pair_powers.now a.strands in
     let n = length a.counts.now in
     let k = c.keep_allowed.ensures in
     let kept = c.keep_allowed.new.counts.1.1.1.1.1.0 in
@@ -89,7 +89,7 @@ pub returns : goal.returns
 returns c =
     let a = c.args in
     let r = c.requires in
-    let w = lent a.place-digits.now a.place-powers.now a.pair-digits.now a.pair-powers.now a.strands in
+    let w = lent a.place_digits.now a.place_powers.now a.pair_digits.now a.pair_powers.now a.strands in
     let n = length a.counts.now in
     let k = c.keep_allowed.ensures in
     let kept = c.keep_allowed.new.counts.1.1.1.1.1.0 in

@@ -32,28 +32,28 @@ pub overflow_mul-start : goal.overflow_mul-start
 overflow_mul-start c =
     let a = c.args in
     let some = c.requires.counts_nonzero in
-    let v = inside (lent a.place-digits.now a.place-powers.now a.pair-digits.now a.pair-powers.now a.strands) a.rows.now a.counts.now c.requires.searchable c.requires.celled (length a.counts.now - 1) (omega arith) in
+    let v = inside (lent a.place_digits.now a.place_powers.now a.pair_digits.now a.pair_powers.now a.strands) a.rows.now a.counts.now c.requires.searchable c.requires.celled (length a.counts.now - 1) (omega arith) in
     omega arith
 
 pub bounds-counts-position : goal.bounds-counts-position
 bounds-counts-position c =
     let a = c.args in
     let some = c.requires.counts_nonzero in
-    let v = inside (lent a.place-digits.now a.place-powers.now a.pair-digits.now a.pair-powers.now a.strands) a.rows.now a.counts.now c.requires.searchable c.requires.celled (length a.counts.now - 1) (omega arith) in
+    let v = inside (lent a.place_digits.now a.place_powers.now a.pair_digits.now a.pair_powers.now a.strands) a.rows.now a.counts.now c.requires.searchable c.requires.celled (length a.counts.now - 1) (omega arith) in
     omega arith
 
 pub wide-requires : goal.wide-requires
 wide-requires c =
     let a = c.args in
     let some = c.requires.counts_nonzero in
-    let v = inside (lent a.place-digits.now a.place-powers.now a.pair-digits.now a.pair-powers.now a.strands) a.rows.now a.counts.now c.requires.searchable c.requires.celled (length a.counts.now - 1) (omega arith) in
+    let v = inside (lent a.place_digits.now a.place_powers.now a.pair_digits.now a.pair_powers.now a.strands) a.rows.now a.counts.now c.requires.searchable c.requires.celled (length a.counts.now - 1) (omega arith) in
     search rules
 
 pub overflow_add-end : goal.overflow_add-end
 overflow_add-end c =
     let a = c.args in
     let some = c.requires.counts_nonzero in
-    let v = inside (lent a.place-digits.now a.place-powers.now a.pair-digits.now a.pair-powers.now a.strands) a.rows.now a.counts.now c.requires.searchable c.requires.celled (length a.counts.now - 1) (omega arith) in
+    let v = inside (lent a.place_digits.now a.place_powers.now a.pair_digits.now a.pair_powers.now a.strands) a.rows.now a.counts.now c.requires.searchable c.requires.celled (length a.counts.now - 1) (omega arith) in
     let e = c.wide.ensures in
     omega arith
 
@@ -61,7 +61,7 @@ pub overflow_mul-cell : goal.overflow_mul-cell
 overflow_mul-cell c =
     let a = c.args in
     let some = c.requires.counts_nonzero in
-    let v = inside (lent a.place-digits.now a.place-powers.now a.pair-digits.now a.pair-powers.now a.strands) a.rows.now a.counts.now c.requires.searchable c.requires.celled (length a.counts.now - 1) (omega arith) in
+    let v = inside (lent a.place_digits.now a.place_powers.now a.pair_digits.now a.pair_powers.now a.strands) a.rows.now a.counts.now c.requires.searchable c.requires.celled (length a.counts.now - 1) (omega arith) in
     let e = c.wide.ensures in
     omega arith
 
@@ -69,7 +69,7 @@ pub overflow_add-next_cell : goal.overflow_add-next_cell
 overflow_add-next_cell c =
     let a = c.args in
     let some = c.requires.counts_nonzero in
-    let v = inside (lent a.place-digits.now a.place-powers.now a.pair-digits.now a.pair-powers.now a.strands) a.rows.now a.counts.now c.requires.searchable c.requires.celled (length a.counts.now - 1) (omega arith) in
+    let v = inside (lent a.place_digits.now a.place_powers.now a.pair_digits.now a.pair_powers.now a.strands) a.rows.now a.counts.now c.requires.searchable c.requires.celled (length a.counts.now - 1) (omega arith) in
     let e = c.wide.ensures in
     omega arith
 
@@ -77,7 +77,7 @@ pub offset_bounds-place_digits-cell : goal.offset_bounds-place_digits-cell
 offset_bounds-place_digits-cell c =
     let a = c.args in
     let some = c.requires.counts_nonzero in
-    let v = inside (lent a.place-digits.now a.place-powers.now a.pair-digits.now a.pair-powers.now a.strands) a.rows.now a.counts.now c.requires.searchable c.requires.celled (length a.counts.now - 1) (omega arith) in
+    let v = inside (lent a.place_digits.now a.place_powers.now a.pair_digits.now a.pair_powers.now a.strands) a.rows.now a.counts.now c.requires.searchable c.requires.celled (length a.counts.now - 1) (omega arith) in
     let e = c.wide.ensures in
     omega arith
 
@@ -85,7 +85,7 @@ pub slice_bounds-last_row-count : goal.slice_bounds-last_row-count
 slice_bounds-last_row-count c =
     let a = c.args in
     let some = c.requires.counts_nonzero in
-    let v = inside (lent a.place-digits.now a.place-powers.now a.pair-digits.now a.pair-powers.now a.strands) a.rows.now a.counts.now c.requires.searchable c.requires.celled (length a.counts.now - 1) (omega arith) in
+    let v = inside (lent a.place_digits.now a.place_powers.now a.pair_digits.now a.pair_powers.now a.strands) a.rows.now a.counts.now c.requires.searchable c.requires.celled (length a.counts.now - 1) (omega arith) in
     let e = c.wide.ensures in
     omega arith
 
@@ -93,7 +93,7 @@ pub slice_bounds-last_row-start : goal.slice_bounds-last_row-start
 slice_bounds-last_row-start c =
     let a = c.args in
     let some = c.requires.counts_nonzero in
-    let v = inside (lent a.place-digits.now a.place-powers.now a.pair-digits.now a.pair-powers.now a.strands) a.rows.now a.counts.now c.requires.searchable c.requires.celled (length a.counts.now - 1) (omega arith) in
+    let v = inside (lent a.place_digits.now a.place_powers.now a.pair_digits.now a.pair_powers.now a.strands) a.rows.now a.counts.now c.requires.searchable c.requires.celled (length a.counts.now - 1) (omega arith) in
     let e = c.wide.ensures in
     omega arith
 
@@ -101,7 +101,7 @@ pub slice_bounds-last_row-end : goal.slice_bounds-last_row-end
 slice_bounds-last_row-end c =
     let a = c.args in
     let some = c.requires.counts_nonzero in
-    let v = inside (lent a.place-digits.now a.place-powers.now a.pair-digits.now a.pair-powers.now a.strands) a.rows.now a.counts.now c.requires.searchable c.requires.celled (length a.counts.now - 1) (omega arith) in
+    let v = inside (lent a.place_digits.now a.place_powers.now a.pair_digits.now a.pair_powers.now a.strands) a.rows.now a.counts.now c.requires.searchable c.requires.celled (length a.counts.now - 1) (omega arith) in
     let e = c.wide.ensures in
     omega arith
 
@@ -109,7 +109,7 @@ pub offset_bounds-place_powers-cell : goal.offset_bounds-place_powers-cell
 offset_bounds-place_powers-cell c =
     let a = c.args in
     let some = c.requires.counts_nonzero in
-    let v = inside (lent a.place-digits.now a.place-powers.now a.pair-digits.now a.pair-powers.now a.strands) a.rows.now a.counts.now c.requires.searchable c.requires.celled (length a.counts.now - 1) (omega arith) in
+    let v = inside (lent a.place_digits.now a.place_powers.now a.pair_digits.now a.pair_powers.now a.strands) a.rows.now a.counts.now c.requires.searchable c.requires.celled (length a.counts.now - 1) (omega arith) in
     let e = c.wide.ensures in
     omega arith
 
@@ -117,7 +117,7 @@ pub slice_bounds-last_row-count-2 : goal.slice_bounds-last_row-count-2
 slice_bounds-last_row-count-2 c =
     let a = c.args in
     let some = c.requires.counts_nonzero in
-    let v = inside (lent a.place-digits.now a.place-powers.now a.pair-digits.now a.pair-powers.now a.strands) a.rows.now a.counts.now c.requires.searchable c.requires.celled (length a.counts.now - 1) (omega arith) in
+    let v = inside (lent a.place_digits.now a.place_powers.now a.pair_digits.now a.pair_powers.now a.strands) a.rows.now a.counts.now c.requires.searchable c.requires.celled (length a.counts.now - 1) (omega arith) in
     let e = c.wide.ensures in
     omega arith
 
@@ -125,7 +125,7 @@ pub slice_bounds-last_row-start-2 : goal.slice_bounds-last_row-start-2
 slice_bounds-last_row-start-2 c =
     let a = c.args in
     let some = c.requires.counts_nonzero in
-    let v = inside (lent a.place-digits.now a.place-powers.now a.pair-digits.now a.pair-powers.now a.strands) a.rows.now a.counts.now c.requires.searchable c.requires.celled (length a.counts.now - 1) (omega arith) in
+    let v = inside (lent a.place_digits.now a.place_powers.now a.pair_digits.now a.pair_powers.now a.strands) a.rows.now a.counts.now c.requires.searchable c.requires.celled (length a.counts.now - 1) (omega arith) in
     let e = c.wide.ensures in
     omega arith
 
@@ -133,7 +133,7 @@ pub slice_bounds-last_row-end-2 : goal.slice_bounds-last_row-end-2
 slice_bounds-last_row-end-2 c =
     let a = c.args in
     let some = c.requires.counts_nonzero in
-    let v = inside (lent a.place-digits.now a.place-powers.now a.pair-digits.now a.pair-powers.now a.strands) a.rows.now a.counts.now c.requires.searchable c.requires.celled (length a.counts.now - 1) (omega arith) in
+    let v = inside (lent a.place_digits.now a.place_powers.now a.pair_digits.now a.pair_powers.now a.strands) a.rows.now a.counts.now c.requires.searchable c.requires.celled (length a.counts.now - 1) (omega arith) in
     let e = c.wide.ensures in
     omega arith
 
@@ -141,7 +141,7 @@ pub slice_bounds-last_row-count-3 : goal.slice_bounds-last_row-count-3
 slice_bounds-last_row-count-3 c =
     let a = c.args in
     let some = c.requires.counts_nonzero in
-    let v = inside (lent a.place-digits.now a.place-powers.now a.pair-digits.now a.pair-powers.now a.strands) a.rows.now a.counts.now c.requires.searchable c.requires.celled (length a.counts.now - 1) (omega arith) in
+    let v = inside (lent a.place_digits.now a.place_powers.now a.pair_digits.now a.pair_powers.now a.strands) a.rows.now a.counts.now c.requires.searchable c.requires.celled (length a.counts.now - 1) (omega arith) in
     let e = c.wide.ensures in
     omega arith
 
@@ -149,7 +149,7 @@ pub slice_bounds-last_row-start-3 : goal.slice_bounds-last_row-start-3
 slice_bounds-last_row-start-3 c =
     let a = c.args in
     let some = c.requires.counts_nonzero in
-    let v = inside (lent a.place-digits.now a.place-powers.now a.pair-digits.now a.pair-powers.now a.strands) a.rows.now a.counts.now c.requires.searchable c.requires.celled (length a.counts.now - 1) (omega arith) in
+    let v = inside (lent a.place_digits.now a.place_powers.now a.pair_digits.now a.pair_powers.now a.strands) a.rows.now a.counts.now c.requires.searchable c.requires.celled (length a.counts.now - 1) (omega arith) in
     let e = c.wide.ensures in
     omega arith
 
@@ -157,7 +157,7 @@ pub slice_bounds-last_row-end-3 : goal.slice_bounds-last_row-end-3
 slice_bounds-last_row-end-3 c =
     let a = c.args in
     let some = c.requires.counts_nonzero in
-    let v = inside (lent a.place-digits.now a.place-powers.now a.pair-digits.now a.pair-powers.now a.strands) a.rows.now a.counts.now c.requires.searchable c.requires.celled (length a.counts.now - 1) (omega arith) in
+    let v = inside (lent a.place_digits.now a.place_powers.now a.pair_digits.now a.pair_powers.now a.strands) a.rows.now a.counts.now c.requires.searchable c.requires.celled (length a.counts.now - 1) (omega arith) in
     let e = c.wide.ensures in
     omega arith
 
@@ -165,11 +165,11 @@ pub last_row-requires : goal.last_row-requires
 last_row-requires c =
     let all = let a = c.args in
     let r = c.requires in
-    let w = (lent a.place-digits.now a.place-powers.now a.pair-digits.now a.pair-powers.now a.strands) in
+    let w = (lent a.place_digits.now a.place_powers.now a.pair_digits.now a.pair_powers.now a.strands) in
     let n = length a.counts.now - 1 in
     let h : n < length a.counts.now = omega (arith, r.counts_nonzero) in
     let part = part-is a.rows.now a.counts.now n (64 * n) (64 * n + c.wide.result) refl (ap (λ (z : ℕ). 64 * n + z) c.wide.ensures) in
-    rw (part, cells_are a.place-digits.now a.strands n, cells_are a.place-powers.now a.strands n)
+    rw (part, cells_are a.place_digits.now a.strands n, cells_are a.place_powers.now a.strands n)
     (few-at r.searchable n h, (place_at w a.rows.now a.counts.now r.counts_nonzero r.searchable r.celled r.in_use n h, search rules)) in record {
       here_len_bound = all.0;
       by_index = all.1.0;
@@ -180,11 +180,11 @@ pub loop-position-init : goal.loop-position-init
 loop-position-init c =
     let a = c.args in
     let r = c.requires in
-    let w = (lent a.place-digits.now a.place-powers.now a.pair-digits.now a.pair-powers.now a.strands) in
+    let w = (lent a.place_digits.now a.place_powers.now a.pair_digits.now a.pair_powers.now a.strands) in
     let n = length a.counts.now - 1 in
     let h : n < length a.counts.now = omega (arith, r.counts_nonzero) in
     let part = part-is a.rows.now a.counts.now n (64 * n) (64 * n + c.wide.result) refl (ap (λ (z : ℕ). 64 * n + z) c.wide.ensures) in
-    let written = rw (part, cells_are a.place-digits.now a.strands n, cells_are a.place-powers.now a.strands n) at c.last_row.ensures in
+    let written = rw (part, cells_are a.place_digits.now a.strands n, cells_are a.place_powers.now a.strands n) at c.last_row.ensures in
     (h, refl, ap (λ (z : ℕ). 64 * n + z) c.wide.ensures, row_last w a.rows.now a.counts.now r.counts_nonzero r.searchable r.celled r.in_use n _ _ (omega arith) written)
 
 pub overflow_sub-position-in-loop-position : goal.overflow_sub-position-in-loop-position
@@ -193,7 +193,7 @@ overflow_sub-position-in-loop-position c =
     let l = c.loop-position in
     let g = l.invariant.0 in
     let t = c.loop-position-test.true in
-    let v = inside (lent a.place-digits.now a.place-powers.now a.pair-digits.now a.pair-powers.now a.strands) a.rows.now a.counts.now c.requires.searchable c.requires.celled (l.position - 1) (omega arith) in
+    let v = inside (lent a.place_digits.now a.place_powers.now a.pair_digits.now a.pair_powers.now a.strands) a.rows.now a.counts.now c.requires.searchable c.requires.celled (l.position - 1) (omega arith) in
     omega arith
 
 pub overflow_mul-here : goal.overflow_mul-here
@@ -202,7 +202,7 @@ overflow_mul-here c =
     let l = c.loop-position in
     let g = l.invariant.0 in
     let t = c.loop-position-test.true in
-    let v = inside (lent a.place-digits.now a.place-powers.now a.pair-digits.now a.pair-powers.now a.strands) a.rows.now a.counts.now c.requires.searchable c.requires.celled (l.position - 1) (omega arith) in
+    let v = inside (lent a.place_digits.now a.place_powers.now a.pair_digits.now a.pair_powers.now a.strands) a.rows.now a.counts.now c.requires.searchable c.requires.celled (l.position - 1) (omega arith) in
     omega arith
 
 pub bounds-counts-position-in-loop-position : goal.bounds-counts-position-in-loop-position
@@ -211,7 +211,7 @@ bounds-counts-position-in-loop-position c =
     let l = c.loop-position in
     let g = l.invariant.0 in
     let t = c.loop-position-test.true in
-    let v = inside (lent a.place-digits.now a.place-powers.now a.pair-digits.now a.pair-powers.now a.strands) a.rows.now a.counts.now c.requires.searchable c.requires.celled (l.position - 1) (omega arith) in
+    let v = inside (lent a.place_digits.now a.place_powers.now a.pair_digits.now a.pair_powers.now a.strands) a.rows.now a.counts.now c.requires.searchable c.requires.celled (l.position - 1) (omega arith) in
     omega arith
 
 pub wide-requires-in-loop-position : goal.wide-requires-in-loop-position
@@ -220,7 +220,7 @@ wide-requires-in-loop-position c =
     let l = c.loop-position in
     let g = l.invariant.0 in
     let t = c.loop-position-test.true in
-    let v = inside (lent a.place-digits.now a.place-powers.now a.pair-digits.now a.pair-powers.now a.strands) a.rows.now a.counts.now c.requires.searchable c.requires.celled (l.position - 1) (omega arith) in
+    let v = inside (lent a.place_digits.now a.place_powers.now a.pair_digits.now a.pair_powers.now a.strands) a.rows.now a.counts.now c.requires.searchable c.requires.celled (l.position - 1) (omega arith) in
     search rules
 
 pub overflow_add-here_end : goal.overflow_add-here_end
@@ -229,7 +229,7 @@ overflow_add-here_end c =
     let l = c.loop-position in
     let g = l.invariant.0 in
     let t = c.loop-position-test.true in
-    let v = inside (lent a.place-digits.now a.place-powers.now a.pair-digits.now a.pair-powers.now a.strands) a.rows.now a.counts.now c.requires.searchable c.requires.celled (l.position - 1) (omega arith) in
+    let v = inside (lent a.place_digits.now a.place_powers.now a.pair_digits.now a.pair_powers.now a.strands) a.rows.now a.counts.now c.requires.searchable c.requires.celled (l.position - 1) (omega arith) in
     let e = c.wide-in-loop-position.ensures in
     omega arith
 
@@ -239,7 +239,7 @@ overflow_mul-cell-in-loop-position c =
     let l = c.loop-position in
     let g = l.invariant.0 in
     let t = c.loop-position-test.true in
-    let v = inside (lent a.place-digits.now a.place-powers.now a.pair-digits.now a.pair-powers.now a.strands) a.rows.now a.counts.now c.requires.searchable c.requires.celled (l.position - 1) (omega arith) in
+    let v = inside (lent a.place_digits.now a.place_powers.now a.pair_digits.now a.pair_powers.now a.strands) a.rows.now a.counts.now c.requires.searchable c.requires.celled (l.position - 1) (omega arith) in
     let e = c.wide-in-loop-position.ensures in
     omega arith
 
@@ -249,7 +249,7 @@ overflow_add-next_cell-in-loop-position c =
     let l = c.loop-position in
     let g = l.invariant.0 in
     let t = c.loop-position-test.true in
-    let v = inside (lent a.place-digits.now a.place-powers.now a.pair-digits.now a.pair-powers.now a.strands) a.rows.now a.counts.now c.requires.searchable c.requires.celled (l.position - 1) (omega arith) in
+    let v = inside (lent a.place_digits.now a.place_powers.now a.pair_digits.now a.pair_powers.now a.strands) a.rows.now a.counts.now c.requires.searchable c.requires.celled (l.position - 1) (omega arith) in
     let e = c.wide-in-loop-position.ensures in
     omega arith
 
@@ -259,7 +259,7 @@ offset_bounds-place_digits-cell-in-loop-position c =
     let l = c.loop-position in
     let g = l.invariant.0 in
     let t = c.loop-position-test.true in
-    let v = inside (lent a.place-digits.now a.place-powers.now a.pair-digits.now a.pair-powers.now a.strands) a.rows.now a.counts.now c.requires.searchable c.requires.celled (l.position - 1) (omega arith) in
+    let v = inside (lent a.place_digits.now a.place_powers.now a.pair_digits.now a.pair_powers.now a.strands) a.rows.now a.counts.now c.requires.searchable c.requires.celled (l.position - 1) (omega arith) in
     let e = c.wide-in-loop-position.ensures in
     omega arith
 
@@ -269,7 +269,7 @@ slice_bounds-next_row-count c =
     let l = c.loop-position in
     let g = l.invariant.0 in
     let t = c.loop-position-test.true in
-    let v = inside (lent a.place-digits.now a.place-powers.now a.pair-digits.now a.pair-powers.now a.strands) a.rows.now a.counts.now c.requires.searchable c.requires.celled (l.position - 1) (omega arith) in
+    let v = inside (lent a.place_digits.now a.place_powers.now a.pair_digits.now a.pair_powers.now a.strands) a.rows.now a.counts.now c.requires.searchable c.requires.celled (l.position - 1) (omega arith) in
     let e = c.wide-in-loop-position.ensures in
     omega arith
 
@@ -279,7 +279,7 @@ slice_bounds-next_row-start c =
     let l = c.loop-position in
     let g = l.invariant.0 in
     let t = c.loop-position-test.true in
-    let v = inside (lent a.place-digits.now a.place-powers.now a.pair-digits.now a.pair-powers.now a.strands) a.rows.now a.counts.now c.requires.searchable c.requires.celled (l.position - 1) (omega arith) in
+    let v = inside (lent a.place_digits.now a.place_powers.now a.pair_digits.now a.pair_powers.now a.strands) a.rows.now a.counts.now c.requires.searchable c.requires.celled (l.position - 1) (omega arith) in
     let e = c.wide-in-loop-position.ensures in
     omega arith
 
@@ -289,7 +289,7 @@ slice_bounds-next_row-end c =
     let l = c.loop-position in
     let g = l.invariant.0 in
     let t = c.loop-position-test.true in
-    let v = inside (lent a.place-digits.now a.place-powers.now a.pair-digits.now a.pair-powers.now a.strands) a.rows.now a.counts.now c.requires.searchable c.requires.celled (l.position - 1) (omega arith) in
+    let v = inside (lent a.place_digits.now a.place_powers.now a.pair_digits.now a.pair_powers.now a.strands) a.rows.now a.counts.now c.requires.searchable c.requires.celled (l.position - 1) (omega arith) in
     let e = c.wide-in-loop-position.ensures in
     omega arith
 
@@ -299,7 +299,7 @@ offset_bounds-place_powers-cell-in-loop-position c =
     let l = c.loop-position in
     let g = l.invariant.0 in
     let t = c.loop-position-test.true in
-    let v = inside (lent a.place-digits.now a.place-powers.now a.pair-digits.now a.pair-powers.now a.strands) a.rows.now a.counts.now c.requires.searchable c.requires.celled (l.position - 1) (omega arith) in
+    let v = inside (lent a.place_digits.now a.place_powers.now a.pair_digits.now a.pair_powers.now a.strands) a.rows.now a.counts.now c.requires.searchable c.requires.celled (l.position - 1) (omega arith) in
     let e = c.wide-in-loop-position.ensures in
     omega arith
 
@@ -309,7 +309,7 @@ slice_bounds-next_row-count-in-loop-position c =
     let l = c.loop-position in
     let g = l.invariant.0 in
     let t = c.loop-position-test.true in
-    let v = inside (lent a.place-digits.now a.place-powers.now a.pair-digits.now a.pair-powers.now a.strands) a.rows.now a.counts.now c.requires.searchable c.requires.celled (l.position - 1) (omega arith) in
+    let v = inside (lent a.place_digits.now a.place_powers.now a.pair_digits.now a.pair_powers.now a.strands) a.rows.now a.counts.now c.requires.searchable c.requires.celled (l.position - 1) (omega arith) in
     let e = c.wide-in-loop-position.ensures in
     omega arith
 
@@ -319,7 +319,7 @@ slice_bounds-next_row-start-in-loop-position c =
     let l = c.loop-position in
     let g = l.invariant.0 in
     let t = c.loop-position-test.true in
-    let v = inside (lent a.place-digits.now a.place-powers.now a.pair-digits.now a.pair-powers.now a.strands) a.rows.now a.counts.now c.requires.searchable c.requires.celled (l.position - 1) (omega arith) in
+    let v = inside (lent a.place_digits.now a.place_powers.now a.pair_digits.now a.pair_powers.now a.strands) a.rows.now a.counts.now c.requires.searchable c.requires.celled (l.position - 1) (omega arith) in
     let e = c.wide-in-loop-position.ensures in
     omega arith
 
@@ -329,7 +329,7 @@ slice_bounds-next_row-end-in-loop-position c =
     let l = c.loop-position in
     let g = l.invariant.0 in
     let t = c.loop-position-test.true in
-    let v = inside (lent a.place-digits.now a.place-powers.now a.pair-digits.now a.pair-powers.now a.strands) a.rows.now a.counts.now c.requires.searchable c.requires.celled (l.position - 1) (omega arith) in
+    let v = inside (lent a.place_digits.now a.place_powers.now a.pair_digits.now a.pair_powers.now a.strands) a.rows.now a.counts.now c.requires.searchable c.requires.celled (l.position - 1) (omega arith) in
     let e = c.wide-in-loop-position.ensures in
     omega arith
 
@@ -339,7 +339,7 @@ slice_bounds-next_row-count-in-loop-position-2 c =
     let l = c.loop-position in
     let g = l.invariant.0 in
     let t = c.loop-position-test.true in
-    let v = inside (lent a.place-digits.now a.place-powers.now a.pair-digits.now a.pair-powers.now a.strands) a.rows.now a.counts.now c.requires.searchable c.requires.celled (l.position - 1) (omega arith) in
+    let v = inside (lent a.place_digits.now a.place_powers.now a.pair_digits.now a.pair_powers.now a.strands) a.rows.now a.counts.now c.requires.searchable c.requires.celled (l.position - 1) (omega arith) in
     let e = c.wide-in-loop-position.ensures in
     omega arith
 
@@ -349,7 +349,7 @@ slice_bounds-next_row-start-in-loop-position-2 c =
     let l = c.loop-position in
     let g = l.invariant.0 in
     let t = c.loop-position-test.true in
-    let v = inside (lent a.place-digits.now a.place-powers.now a.pair-digits.now a.pair-powers.now a.strands) a.rows.now a.counts.now c.requires.searchable c.requires.celled (l.position - 1) (omega arith) in
+    let v = inside (lent a.place_digits.now a.place_powers.now a.pair_digits.now a.pair_powers.now a.strands) a.rows.now a.counts.now c.requires.searchable c.requires.celled (l.position - 1) (omega arith) in
     let e = c.wide-in-loop-position.ensures in
     omega arith
 
@@ -359,7 +359,7 @@ slice_bounds-next_row-end-in-loop-position-2 c =
     let l = c.loop-position in
     let g = l.invariant.0 in
     let t = c.loop-position-test.true in
-    let v = inside (lent a.place-digits.now a.place-powers.now a.pair-digits.now a.pair-powers.now a.strands) a.rows.now a.counts.now c.requires.searchable c.requires.celled (l.position - 1) (omega arith) in
+    let v = inside (lent a.place_digits.now a.place_powers.now a.pair_digits.now a.pair_powers.now a.strands) a.rows.now a.counts.now c.requires.searchable c.requires.celled (l.position - 1) (omega arith) in
     let e = c.wide-in-loop-position.ensures in
     omega arith
 
@@ -369,7 +369,7 @@ slice_bounds-next_row-count-in-loop-position-3 c =
     let l = c.loop-position in
     let g = l.invariant.0 in
     let t = c.loop-position-test.true in
-    let v = inside (lent a.place-digits.now a.place-powers.now a.pair-digits.now a.pair-powers.now a.strands) a.rows.now a.counts.now c.requires.searchable c.requires.celled l.position g in
+    let v = inside (lent a.place_digits.now a.place_powers.now a.pair_digits.now a.pair_powers.now a.strands) a.rows.now a.counts.now c.requires.searchable c.requires.celled l.position g in
     let s = l.invariant.1 in
     let e = l.invariant.2 in
     omega arith
@@ -380,7 +380,7 @@ slice_bounds-next_row-start-in-loop-position-3 c =
     let l = c.loop-position in
     let g = l.invariant.0 in
     let t = c.loop-position-test.true in
-    let v = inside (lent a.place-digits.now a.place-powers.now a.pair-digits.now a.pair-powers.now a.strands) a.rows.now a.counts.now c.requires.searchable c.requires.celled l.position g in
+    let v = inside (lent a.place_digits.now a.place_powers.now a.pair_digits.now a.pair_powers.now a.strands) a.rows.now a.counts.now c.requires.searchable c.requires.celled l.position g in
     let s = l.invariant.1 in
     let e = l.invariant.2 in
     omega arith
@@ -391,7 +391,7 @@ slice_bounds-next_row-end-in-loop-position-3 c =
     let l = c.loop-position in
     let g = l.invariant.0 in
     let t = c.loop-position-test.true in
-    let v = inside (lent a.place-digits.now a.place-powers.now a.pair-digits.now a.pair-powers.now a.strands) a.rows.now a.counts.now c.requires.searchable c.requires.celled l.position g in
+    let v = inside (lent a.place_digits.now a.place_powers.now a.pair_digits.now a.pair_powers.now a.strands) a.rows.now a.counts.now c.requires.searchable c.requires.celled l.position g in
     let s = l.invariant.1 in
     let e = l.invariant.2 in
     omega arith
@@ -401,7 +401,7 @@ next_row-requires c =
     let all = let a = c.args in
     let r = c.requires in
     let l = c.loop-position in
-    let w = (lent a.place-digits.now a.place-powers.now a.pair-digits.now a.pair-powers.now a.strands) in
+    let w = (lent a.place_digits.now a.place_powers.now a.pair_digits.now a.pair_powers.now a.strands) in
     let i = l.position - 1 in
     let t = c.loop-position-test.true in
     let g = l.invariant.0 in
@@ -411,7 +411,7 @@ next_row-requires c =
     let here = part-is a.rows.now a.counts.now i (64 * i) (64 * i + c.wide-in-loop-position.result) refl (ap (λ (z : ℕ). 64 * i + z) c.wide-in-loop-position.ensures) in
     let next : take (l.end - l.start) (drop l.start a.rows.now) ≡ options_at a.rows.now a.counts.now (i + 1) = part-is a.rows.now a.counts.now l.position l.start l.end l.invariant.1 l.invariant.2 ∙ ap (options_at a.rows.now a.counts.now) e in
     let row : Row w a.rows.now a.counts.now (i + 1) l.digits l.powers = subst (λ (z : ℕ). Row w a.rows.now a.counts.now z l.digits l.powers) e l.invariant.3 in
-    rw (here, next, cells_are a.place-digits.now a.strands i, cells_are a.place-powers.now a.strands i)
+    rw (here, next, cells_are a.place_digits.now a.strands i, cells_are a.place_powers.now a.strands i)
     ((some_at r.searchable (i + 1) h', few-at r.searchable (i + 1) h', few-at r.searchable i h), (step-at w a.rows.now a.counts.now r.counts_nonzero r.searchable r.celled r.in_use i l.digits l.powers h' row, search rules)) in record {
       next_nonzero = all.0;
       by_index = all.1.0;
@@ -426,7 +426,7 @@ loop-position-preserved c =
     let a = c.args in
     let r = c.requires in
     let l = c.loop-position in
-    let w = (lent a.place-digits.now a.place-powers.now a.pair-digits.now a.pair-powers.now a.strands) in
+    let w = (lent a.place_digits.now a.place_powers.now a.pair_digits.now a.pair_powers.now a.strands) in
     let i = l.position - 1 in
     let t = c.loop-position-test.true in
     let g = l.invariant.0 in
@@ -436,14 +436,14 @@ loop-position-preserved c =
     let here = part-is a.rows.now a.counts.now i (64 * i) (64 * i + c.wide-in-loop-position.result) refl (ap (λ (z : ℕ). 64 * i + z) c.wide-in-loop-position.ensures) in
     let next : take (l.end - l.start) (drop l.start a.rows.now) ≡ options_at a.rows.now a.counts.now (i + 1) = part-is a.rows.now a.counts.now l.position l.start l.end l.invariant.1 l.invariant.2 ∙ ap (options_at a.rows.now a.counts.now) e in
     let row : Row w a.rows.now a.counts.now (i + 1) l.digits l.powers = subst (λ (z : ℕ). Row w a.rows.now a.counts.now z l.digits l.powers) e l.invariant.3 in
-    let written = rw (here, next, cells_are a.place-digits.now a.strands i, cells_are a.place-powers.now a.strands i) at c.next_row.ensures in
+    let written = rw (here, next, cells_are a.place_digits.now a.strands i, cells_are a.place_powers.now a.strands i) at c.next_row.ensures in
     (h, refl, ap (λ (z : ℕ). 64 * i + z) c.wide-in-loop-position.ensures, row_next w a.rows.now a.counts.now r.counts_nonzero r.searchable r.celled r.in_use i l.digits l.powers _ _ h' row written)
 
 pub slice_bounds-row_sum-count : goal.slice_bounds-row_sum-count
 slice_bounds-row_sum-count c =
     let a = c.args in
     let l = c.loop-position in
-    let v = inside (lent a.place-digits.now a.place-powers.now a.pair-digits.now a.pair-powers.now a.strands) a.rows.now a.counts.now c.requires.searchable c.requires.celled l.position l.invariant.0 in
+    let v = inside (lent a.place_digits.now a.place_powers.now a.pair_digits.now a.pair_powers.now a.strands) a.rows.now a.counts.now c.requires.searchable c.requires.celled l.position l.invariant.0 in
     let s = l.invariant.1 in
     let e = l.invariant.2 in
     omega arith
@@ -452,7 +452,7 @@ pub slice_bounds-row_sum-start : goal.slice_bounds-row_sum-start
 slice_bounds-row_sum-start c =
     let a = c.args in
     let l = c.loop-position in
-    let v = inside (lent a.place-digits.now a.place-powers.now a.pair-digits.now a.pair-powers.now a.strands) a.rows.now a.counts.now c.requires.searchable c.requires.celled l.position l.invariant.0 in
+    let v = inside (lent a.place_digits.now a.place_powers.now a.pair_digits.now a.pair_powers.now a.strands) a.rows.now a.counts.now c.requires.searchable c.requires.celled l.position l.invariant.0 in
     let s = l.invariant.1 in
     let e = l.invariant.2 in
     omega arith
@@ -461,7 +461,7 @@ pub slice_bounds-row_sum-end-3 : goal.slice_bounds-row_sum-end-3
 slice_bounds-row_sum-end-3 c =
     let a = c.args in
     let l = c.loop-position in
-    let v = inside (lent a.place-digits.now a.place-powers.now a.pair-digits.now a.pair-powers.now a.strands) a.rows.now a.counts.now c.requires.searchable c.requires.celled l.position l.invariant.0 in
+    let v = inside (lent a.place_digits.now a.place_powers.now a.pair_digits.now a.pair_powers.now a.strands) a.rows.now a.counts.now c.requires.searchable c.requires.celled l.position l.invariant.0 in
     let s = l.invariant.1 in
     let e = l.invariant.2 in
     omega arith
@@ -471,7 +471,7 @@ row_sum-requires c =
     let all = let a = c.args in
     let r = c.requires in
     let l = c.loop-position in
-    let w = (lent a.place-digits.now a.place-powers.now a.pair-digits.now a.pair-powers.now a.strands) in
+    let w = (lent a.place_digits.now a.place_powers.now a.pair_digits.now a.pair_powers.now a.strands) in
     let past = c.loop-position-test.false in
     let e : l.position ≡ 0 = omega arith in
     let part = part-is a.rows.now a.counts.now l.position l.start l.end l.invariant.1 l.invariant.2 in
@@ -486,7 +486,7 @@ lowered-requires c =
     let all = let a = c.args in
     let r = c.requires in
     let l = c.loop-position in
-    let w = (lent a.place-digits.now a.place-powers.now a.pair-digits.now a.pair-powers.now a.strands) in
+    let w = (lent a.place_digits.now a.place_powers.now a.pair_digits.now a.pair_powers.now a.strands) in
     let past = c.loop-position-test.false in
     let e : l.position ≡ 0 = omega arith in
     let whole = total w a.rows.now a.counts.now r.counts_nonzero r.searchable r.celled r.in_use l.position l.start l.end l.digits l.powers e l.invariant.1 l.invariant.2 l.invariant.3 in
@@ -502,7 +502,7 @@ returns c =
     let a = c.args in
     let r = c.requires in
     let l = c.loop-position in
-    let w = (lent a.place-digits.now a.place-powers.now a.pair-digits.now a.pair-powers.now a.strands) in
+    let w = (lent a.place_digits.now a.place_powers.now a.pair_digits.now a.pair_powers.now a.strands) in
     let past = c.loop-position-test.false in
     let e : l.position ≡ 0 = omega arith in
     let whole = total w a.rows.now a.counts.now r.counts_nonzero r.searchable r.celled r.in_use l.position l.start l.end l.digits l.powers e l.invariant.1 l.invariant.2 l.invariant.3 in

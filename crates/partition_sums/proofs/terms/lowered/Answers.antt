@@ -18,6 +18,6 @@ returns c =
     let a = c.args in
     let r = c.requires in
     let n = twice a.positions r.positions_nonzero.0 in
-    let short = r.1.1.1 in
+    let short = r.positions_nonzero.1 in
     let moved : 400000 * factors a.positions ≤ 2 ^ 30 = omega arith in
     rw (c.lower.ensures, n, to_z-of_z (back-narrow a.t.power (400000 * factors a.positions) r.power_bound moved)) refl

@@ -24,7 +24,7 @@ begin-begun-requires c =
     let l = c.loop-position in
     let here : l.position < length a.state.now = c.loop-position-test.true in
     let room = row-end (length a.potentials.now) here in
-    let most = p.1.1.1.1.1 in
+    let most = p.potentials_in_bounds_2 in
     record {
       strand_in_bounds = l.invariant.1;
       strand_in_bounds_2 = p.by_index l.position here;

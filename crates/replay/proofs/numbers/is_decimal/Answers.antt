@@ -5,4 +5,4 @@ use Rattle.replay.proofs.numbers.is_decimal.Goals as goal
 pub returns : goal.returns
 returns c = λ e.
     let d = c.decimal-n in
-    record { places = d.result; fewest = d.ensures.1.0; written = c.same.ensures.0 e ∙ d.ensures.1.1 }
+    record { places = d.result; fewest = d.ensures.len; written = c.same.ensures.0 e ∙ d.ensures }

@@ -20,4 +20,4 @@ returns c = λ e.
     
     let x = c.args.x in
     let sixteen : c.hex-n.result ≡ 16 = sixteen-places x c.hex-n.result c.ranges.x.fits c.hex-n.ensures.len in
-    c.same.ensures.0 e ∙ c.hex-n.ensures.1.1 ∙ ap (λ (k : ℕ). last_digits 16 k x) sixteen
+    c.same.ensures.0 e ∙ c.hex-n.ensures ∙ ap (λ (k : ℕ). last_digits 16 k x) sixteen

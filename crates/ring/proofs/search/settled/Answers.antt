@@ -47,8 +47,8 @@ slice_bounds-fill_read_strand_bonds-end-2 c =
     
     let d : Design = lent c.args.scaffold c.args.marks c.args.glues c.args.dg c.args.ds c.args.potentials c.args.ambient in
     let filled = c.fill_options in
-    let row = filled.new.1.1.1.1.1.1.1.0 in
-    let number : length row ≡ positions d = placed d (filled.ensures.1 (model_of d) refl) in
+    let row = filled.new.marks.1.1.1.1.1.1.0 in
+    let number : length row ≡ positions d = placed d (filled.ensures.option_rows (model_of d) refl) in
     simp length-append (omega arith)
 
 pub fill_read_strand_bonds-requires : goal.fill_read_strand_bonds-requires
@@ -57,12 +57,12 @@ fill_read_strand_bonds-requires c =
     
     let d : Design = lent c.args.scaffold c.args.marks c.args.glues c.args.dg c.args.ds c.args.potentials c.args.ambient in
     let filled = c.fill_options in
-    let row = filled.new.1.1.1.1.1.1.1.0 in
-    let number : length row ≡ positions d = placed d (filled.ensures.1 (model_of d) refl) in
+    let row = filled.new.marks.1.1.1.1.1.1.0 in
+    let number : length row ≡ positions d = placed d (filled.ensures.option_rows (model_of d) refl) in
     let full : length row ≡ positions d - 0 = omega (arith, number) in
     let again = take_at row (drop (positions d - 0) (replicate {A = ℕ} 128 0)) (positions d - 0) full in
     record {
-      searchable = rw again filled.ensures.0;
+      searchable = rw again filled.ensures.searchable;
       strands_in_bounds = c.requires.potentials_in_bounds;
     }
 
@@ -72,8 +72,8 @@ slice_bounds-fill_closing_bonds-end-2 c =
     
     let d : Design = lent c.args.scaffold c.args.marks c.args.glues c.args.dg c.args.ds c.args.potentials c.args.ambient in
     let filled = c.fill_options in
-    let row = filled.new.1.1.1.1.1.1.1.0 in
-    let number : length row ≡ positions d = placed d (filled.ensures.1 (model_of d) refl) in
+    let row = filled.new.marks.1.1.1.1.1.1.0 in
+    let number : length row ≡ positions d = placed d (filled.ensures.option_rows (model_of d) refl) in
     simp length-append (omega arith)
 
 pub fill_closing_bonds-requires : goal.fill_closing_bonds-requires
@@ -82,13 +82,13 @@ fill_closing_bonds-requires c =
     
     let d : Design = lent c.args.scaffold c.args.marks c.args.glues c.args.dg c.args.ds c.args.potentials c.args.ambient in
     let filled = c.fill_options in
-    let row = filled.new.1.1.1.1.1.1.1.0 in
-    let number : length row ≡ positions d = placed d (filled.ensures.1 (model_of d) refl) in
+    let row = filled.new.marks.1.1.1.1.1.1.0 in
+    let number : length row ≡ positions d = placed d (filled.ensures.option_rows (model_of d) refl) in
     let full : length row ≡ positions d - 0 = omega (arith, number) in
     let again = take_at row (drop (positions d - 0) (replicate {A = ℕ} 128 0)) (positions d - 0) full in
     let bonds = c.fill_read_strand_bonds in
     record {
-      searchable = rw again filled.ensures.0;
+      searchable = rw again filled.ensures.searchable;
       counts_nonzero = rw (again, number) c.requires.scaffold_nonzero;
       strands_in_bounds = omega (arith, c.requires.potentials_in_bounds);
     }
@@ -99,8 +99,8 @@ slice_bounds-fill_needed_scaffold_bonds-end-2 c =
     
     let d : Design = lent c.args.scaffold c.args.marks c.args.glues c.args.dg c.args.ds c.args.potentials c.args.ambient in
     let filled = c.fill_options in
-    let row = filled.new.1.1.1.1.1.1.1.0 in
-    let number : length row ≡ positions d = placed d (filled.ensures.1 (model_of d) refl) in
+    let row = filled.new.marks.1.1.1.1.1.1.0 in
+    let number : length row ≡ positions d = placed d (filled.ensures.option_rows (model_of d) refl) in
     simp length-append (omega arith)
 
 pub fill_needed_scaffold_bonds-requires : goal.fill_needed_scaffold_bonds-requires
@@ -109,12 +109,12 @@ fill_needed_scaffold_bonds-requires c =
     
     let d : Design = lent c.args.scaffold c.args.marks c.args.glues c.args.dg c.args.ds c.args.potentials c.args.ambient in
     let filled = c.fill_options in
-    let row = filled.new.1.1.1.1.1.1.1.0 in
-    let number : length row ≡ positions d = placed d (filled.ensures.1 (model_of d) refl) in
+    let row = filled.new.marks.1.1.1.1.1.1.0 in
+    let number : length row ≡ positions d = placed d (filled.ensures.option_rows (model_of d) refl) in
     let full : length row ≡ positions d - 0 = omega (arith, number) in
     let again = take_at row (drop (positions d - 0) (replicate {A = ℕ} 128 0)) (positions d - 0) full in
     record {
-      searchable = rw again filled.ensures.0;
+      searchable = rw again filled.ensures.searchable;
       strands_in_bounds = rw (again, number) c.requires.potentials_in_bounds_2;
     }
 
@@ -124,8 +124,8 @@ slice_bounds-lowest_ring-end-2 c =
     
     let d : Design = lent c.args.scaffold c.args.marks c.args.glues c.args.dg c.args.ds c.args.potentials c.args.ambient in
     let filled = c.fill_options in
-    let row = filled.new.1.1.1.1.1.1.1.0 in
-    let number : length row ≡ positions d = placed d (filled.ensures.1 (model_of d) refl) in
+    let row = filled.new.marks.1.1.1.1.1.1.0 in
+    let number : length row ≡ positions d = placed d (filled.ensures.option_rows (model_of d) refl) in
     simp length-append (omega arith)
 
 pub lowest_ring-requires : goal.lowest_ring-requires
@@ -134,17 +134,17 @@ lowest_ring-requires c =
     
     let d : Design = lent c.args.scaffold c.args.marks c.args.glues c.args.dg c.args.ds c.args.potentials c.args.ambient in
     let filled = c.fill_options in
-    let row = filled.new.1.1.1.1.1.1.1.0 in
-    let number : length row ≡ positions d = placed d (filled.ensures.1 (model_of d) refl) in
+    let row = filled.new.marks.1.1.1.1.1.1.0 in
+    let number : length row ≡ positions d = placed d (filled.ensures.option_rows (model_of d) refl) in
     let full : length row ≡ positions d - 0 = omega (arith, number) in
     let again = take_at row (drop (positions d - 0) (replicate {A = ℕ} 128 0)) (positions d - 0) full in
     let bonds = c.fill_read_strand_bonds in
     let closing = c.fill_closing_bonds in
     let sites = c.fill_needed_scaffold_bonds in
     record {
-      searchable = rw again filled.ensures.0;
-      potentials_in_bounds = omega (arith, c.requires.potentials_in_bounds, bonds.auto.1.1.1.1.1.1.1.0, closing.auto.1.1.1.1.1.1.1.0);
-      potentials_in_bounds_2 = rw (again, number) (omega (arith, c.requires.potentials_in_bounds_2, sites.auto.1.1.1.1.1.1.1.1.0));
+      searchable = rw again filled.ensures.searchable;
+      potentials_in_bounds = omega (arith, c.requires.potentials_in_bounds, bonds.auto.counts.1.1.1.1.1.1.0, closing.auto.counts.1.1.1.1.1.1.0);
+      potentials_in_bounds_2 = rw (again, number) (omega (arith, c.requires.potentials_in_bounds_2, sites.auto.counts.1.1.1.1.1.1.1.0));
       configuration_len = rw (again, number) c.requires.configuration_len;
       counts_nonzero = rw (again, number) c.requires.scaffold_nonzero;
     }
@@ -155,12 +155,12 @@ returns c =
     
     let d : Design = lent c.args.scaffold c.args.marks c.args.glues c.args.dg c.args.ds c.args.potentials c.args.ambient in
     let filled = c.fill_options in
-    let row = filled.new.1.1.1.1.1.1.1.0 in
-    let number : length row ≡ positions d = placed d (filled.ensures.1 (model_of d) refl) in
+    let row = filled.new.marks.1.1.1.1.1.1.0 in
+    let number : length row ≡ positions d = placed d (filled.ensures.option_rows (model_of d) refl) in
     let full : length row ≡ positions d - 0 = omega (arith, number) in
     let again = take_at row (drop (positions d - 0) (replicate {A = ℕ} 128 0)) (positions d - 0) full in
-    let options = filled.ensures.1 (model_of d) refl in
+    let options = filled.ensures.option_rows (model_of d) refl in
     let read = c.fill_read_strand_bonds in
     let closing = c.fill_closing_bonds in
-    let pairs = pairs-kept (strand_bond_in d) filled.ensures.0 read.new.1.1.1.1.1.1.1.0 closing.new.1.1.1.1.1.1.1.0 closing.ensures.0 (rw again at read.ensures) in
-    c.lowest_ring.ensures (model_of d) (rw again options) (bond-cells d c.requires.admitted options pairs (rw again at c.fill_needed_scaffold_bonds.ensures)) (closing-cells d closing.new.1.1.1.1.1.1.1.0 options (rw again at closing.ensures.1)) refl
+    let pairs = pairs-kept (strand_bond_in d) filled.ensures.searchable read.new.counts.1.1.1.1.1.1.0 closing.new.counts.1.1.1.1.1.1.0 closing.ensures.kept (rw again at read.ensures) in
+    c.lowest_ring.ensures (model_of d) (rw again options) (bond-cells d c.requires.admitted options pairs (rw again at c.fill_needed_scaffold_bonds.ensures)) (closing-cells d closing.new.counts.1.1.1.1.1.1.0 options (rw again at closing.ensures.closing_held)) refl

@@ -15,7 +15,7 @@ overflow_mul-cells c =
 pub settled-requires : goal.settled-requires
 settled-requires c =
     let all = let fits = c.if-cells-le256.true in
-    (c.requires.admitted, (c.requires.potentials_in_bounds, (omega arith, c.requires.1.1))) in record {
+    (c.requires.admitted, (c.requires.potentials_in_bounds, (omega arith, c.requires))) in record {
       admitted = all.0;
       potentials_in_bounds = all.1.0;
       potentials_in_bounds_2 = all.1.1.0;
@@ -26,7 +26,7 @@ settled-requires c =
 pub settled-requires-then-cells-le2048 : goal.settled-requires-then-cells-le2048
 settled-requires-then-cells-le2048 c =
     let all = let fits = c.if-cells-le2048.true in
-    (c.requires.admitted, (c.requires.potentials_in_bounds, (omega arith, c.requires.1.1))) in record {
+    (c.requires.admitted, (c.requires.potentials_in_bounds, (omega arith, c.requires))) in record {
       admitted = all.0;
       potentials_in_bounds = all.1.0;
       potentials_in_bounds_2 = all.1.1.0;
@@ -38,7 +38,7 @@ pub settled-requires-2 : goal.settled-requires-2
 settled-requires-2 c =
     let all = let z = sized (lent c.args.scaffold c.args.marks c.args.glues c.args.dg c.args.ds c.args.potentials c.args.ambient) c.requires.admitted.sizes in
     let room = mul-le-mul z.short z.few in
-    (c.requires.admitted, (c.requires.potentials_in_bounds, (omega arith, c.requires.1.1))) in record {
+    (c.requires.admitted, (c.requires.potentials_in_bounds, (omega arith, c.requires))) in record {
       admitted = all.0;
       potentials_in_bounds = all.1.0;
       potentials_in_bounds_2 = all.1.1.0;

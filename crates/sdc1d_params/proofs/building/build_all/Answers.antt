@@ -17,7 +17,7 @@ pub refuses_names-requires : goal.refuses_names-requires
 refuses_names-requires c =
     let a = c.args in
     let p : Params = params_of a.text.now a.users a.strands.now a.scaffold.now a.entries.now a.energies.now a.penalty a.copies in
-    let lent : Outcome = lent_of a.strand-glues.now a.scaffold-glues.now a.dg.now a.ds.now in
+    let lent : Outcome = lent_of a.strand_glues.now a.scaffold_glues.now a.dg.now a.ds.now in
     let fit : Sized p lent = fits-sizes p lent (sym c.check.ensures.value ∙ c.in-Admitted.is) in
     record {
       fit_names = fit-names (3 * p.users) p.text a.strands.now (fit-glues p.users p.text p.strands fit.strands);
@@ -28,7 +28,7 @@ pub returns-then-refuses_names : goal.returns-then-refuses_names
 returns-then-refuses_names c =
     let a = c.args in
     let p : Params = params_of a.text.now a.users a.strands.now a.scaffold.now a.entries.now a.energies.now a.penalty a.copies in
-    let lent : Outcome = lent_of a.strand-glues.now a.scaffold-glues.now a.dg.now a.ds.now in
+    let lent : Outcome = lent_of a.strand_glues.now a.scaffold_glues.now a.dg.now a.ds.now in
     let passed : Admitted ≡ first_of (param_checks p lent) = sym c.in-Admitted.is ∙ c.check.ensures.value in
     kept p lent a.build TwoStars (sym (build-stars a.build p lent passed (stars-said p a.build c.refuses_names.ensures c.if-refuses_names.true)))
 
@@ -36,7 +36,7 @@ pub write_strands-requires : goal.write_strands-requires
 write_strands-requires c =
     let a = c.args in
     let p : Params = params_of a.text.now a.users a.strands.now a.scaffold.now a.entries.now a.energies.now a.penalty a.copies in
-    let lent : Outcome = lent_of a.strand-glues.now a.scaffold-glues.now a.dg.now a.ds.now in
+    let lent : Outcome = lent_of a.strand_glues.now a.scaffold_glues.now a.dg.now a.ds.now in
     let reply : first_of (param_checks p lent) ≡ Admitted = sym c.check.ensures.value ∙ c.in-Admitted.is in
     let fit : Sized p lent = fits-sizes p lent reply in
     record {
@@ -49,7 +49,7 @@ pub write_scaffold-requires : goal.write_scaffold-requires
 write_scaffold-requires c =
     let a = c.args in
     let p : Params = params_of a.text.now a.users a.strands.now a.scaffold.now a.entries.now a.energies.now a.penalty a.copies in
-    let lent : Outcome = lent_of a.strand-glues.now a.scaffold-glues.now a.dg.now a.ds.now in
+    let lent : Outcome = lent_of a.strand_glues.now a.scaffold_glues.now a.dg.now a.ds.now in
     let reply : first_of (param_checks p lent) ≡ Admitted = sym c.check.ensures.value ∙ c.in-Admitted.is in
     let fit : Sized p lent = fits-sizes p lent reply in
     record {
@@ -61,7 +61,7 @@ pub fill_tables-requires : goal.fill_tables-requires
 fill_tables-requires c =
     let a = c.args in
     let p : Params = params_of a.text.now a.users a.strands.now a.scaffold.now a.entries.now a.energies.now a.penalty a.copies in
-    let lent : Outcome = lent_of a.strand-glues.now a.scaffold-glues.now a.dg.now a.ds.now in
+    let lent : Outcome = lent_of a.strand_glues.now a.scaffold_glues.now a.dg.now a.ds.now in
     let reply : first_of (param_checks p lent) ≡ Admitted = sym c.check.ensures.value ∙ c.in-Admitted.is in
     let fit : Sized p lent = fits-sizes p lent reply in
     record {
@@ -74,7 +74,7 @@ pub returns-in-Refused : goal.returns-in-Refused
 returns-in-Refused c =
     let a = c.args in
     let p : Params = params_of a.text.now a.users a.strands.now a.scaffold.now a.entries.now a.energies.now a.penalty a.copies in
-    let lent : Outcome = lent_of a.strand-glues.now a.scaffold-glues.now a.dg.now a.ds.now in
+    let lent : Outcome = lent_of a.strand_glues.now a.scaffold_glues.now a.dg.now a.ds.now in
     kept p lent a.build _ (sym (build-refused a.build p lent _ (sym c.in-Refused.is ∙ c.check.ensures.value)))
 
 pub shape_of-numbers-else-refuses_names : goal.shape_of-numbers-else-refuses_names
@@ -87,7 +87,7 @@ pub returns-else-refuses_names : goal.returns-else-refuses_names
 returns-else-refuses_names c =
     let a = c.args in
     let p : Params = params_of a.text.now a.users a.strands.now a.scaffold.now a.entries.now a.energies.now a.penalty a.copies in
-    let lent : Outcome = lent_of a.strand-glues.now a.scaffold-glues.now a.dg.now a.ds.now in
+    let lent : Outcome = lent_of a.strand_glues.now a.scaffold_glues.now a.dg.now a.ds.now in
     let passed : Admitted ≡ first_of (param_checks p lent) = sym c.in-Admitted.is ∙ c.check.ensures.value in
     let built : first_of (build_checks a.build p lent) ≡ Admitted = sym (build-none a.build p lent passed (stars-said p a.build c.refuses_names.ensures c.if-refuses_names.false)) in
     all-written p lent a.entries.now a.energies.now refl _ _ _ (c.check.ensures.checked c.in-Admitted.is) a.build _ _ _ _ _ _ built c.write_strands.ensures c.write_scaffold.ensures c.clear.ensures c.clear-in-Admitted.ensures c.fill_tables.ensures.dg_after c.fill_tables.ensures.ds_after

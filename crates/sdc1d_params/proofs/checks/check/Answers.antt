@@ -25,7 +25,7 @@ pub returns-then-wrong_size : goal.returns-then-wrong_size
 returns-then-wrong_size c =
     let a = c.args in
     let p : Params = params_of a.text.now a.users a.strands.now a.scaffold.now a.entries.now a.energies.now a.penalty a.copies in
-    let lent : Outcome = lent_of a.strand-glues.now a.scaffold-glues.now a.dg.now a.ds.now in
+    let lent : Outcome = lent_of a.strand_glues.now a.scaffold_glues.now a.dg.now a.ds.now in
     record {
       value = reply-size p lent (sym (c.wrong_size.ensures a.penalty) ∙ c.if-wrong_size.true);
       checked = never WrongSize;
@@ -38,7 +38,7 @@ pub any_bad_base-requires : goal.any_bad_base-requires
 any_bad_base-requires c =
     let a = c.args in
     let p : Params = params_of a.text.now a.users a.strands.now a.scaffold.now a.entries.now a.energies.now a.penalty a.copies in
-    let lent : Outcome = lent_of a.strand-glues.now a.scaffold-glues.now a.dg.now a.ds.now in
+    let lent : Outcome = lent_of a.strand_glues.now a.scaffold_glues.now a.dg.now a.ds.now in
     let size : wrong_size p lent ≡ false = sym (c.wrong_size.ensures a.penalty) ∙ c.if-wrong_size.false in
     fit-entries a.text.now a.entries.now a.energies.now (sized p lent size).entries
 
@@ -46,7 +46,7 @@ pub returns-then-any_bad_base : goal.returns-then-any_bad_base
 returns-then-any_bad_base c =
     let a = c.args in
     let p : Params = params_of a.text.now a.users a.strands.now a.scaffold.now a.entries.now a.energies.now a.penalty a.copies in
-    let lent : Outcome = lent_of a.strand-glues.now a.scaffold-glues.now a.dg.now a.ds.now in
+    let lent : Outcome = lent_of a.strand_glues.now a.scaffold_glues.now a.dg.now a.ds.now in
     let size : wrong_size p lent ≡ false = sym (c.wrong_size.ensures a.penalty) ∙ c.if-wrong_size.false in
     record {
       value = reply-base p lent size (sym c.any_bad_base.ensures ∙ c.if-any_bad_base.true);
@@ -57,7 +57,7 @@ pub any_short-requires : goal.any_short-requires
 any_short-requires c =
     let a = c.args in
     let p : Params = params_of a.text.now a.users a.strands.now a.scaffold.now a.entries.now a.energies.now a.penalty a.copies in
-    let lent : Outcome = lent_of a.strand-glues.now a.scaffold-glues.now a.dg.now a.ds.now in
+    let lent : Outcome = lent_of a.strand_glues.now a.scaffold_glues.now a.dg.now a.ds.now in
     let size : wrong_size p lent ≡ false = sym (c.wrong_size.ensures a.penalty) ∙ c.if-wrong_size.false in
     fit-entries a.text.now a.entries.now a.energies.now (sized p lent size).entries
 
@@ -65,7 +65,7 @@ pub returns-then-any_short : goal.returns-then-any_short
 returns-then-any_short c =
     let a = c.args in
     let p : Params = params_of a.text.now a.users a.strands.now a.scaffold.now a.entries.now a.energies.now a.penalty a.copies in
-    let lent : Outcome = lent_of a.strand-glues.now a.scaffold-glues.now a.dg.now a.ds.now in
+    let lent : Outcome = lent_of a.strand_glues.now a.scaffold_glues.now a.dg.now a.ds.now in
     let size : wrong_size p lent ≡ false = sym (c.wrong_size.ensures a.penalty) ∙ c.if-wrong_size.false in
     let base : any (has_bad_base p.text) (energies_of p) ≡ false = sym c.any_bad_base.ensures ∙ c.if-any_bad_base.false in
     record {
@@ -77,7 +77,7 @@ pub base_names-bases-requires : goal.base_names-bases-requires
 base_names-bases-requires c =
     let a = c.args in
     let p : Params = params_of a.text.now a.users a.strands.now a.scaffold.now a.entries.now a.energies.now a.penalty a.copies in
-    let lent : Outcome = lent_of a.strand-glues.now a.scaffold-glues.now a.dg.now a.ds.now in
+    let lent : Outcome = lent_of a.strand_glues.now a.scaffold_glues.now a.dg.now a.ds.now in
     let size : wrong_size p lent ≡ false = sym (c.wrong_size.ensures a.penalty) ∙ c.if-wrong_size.false in
     let strands = (sized p lent size).strands in
     let few = few-strands p.users p.text p.strands strands in
@@ -92,7 +92,7 @@ pub fill_numbers-requires : goal.fill_numbers-requires
 fill_numbers-requires c =
     let a = c.args in
     let p : Params = params_of a.text.now a.users a.strands.now a.scaffold.now a.entries.now a.energies.now a.penalty a.copies in
-    let lent : Outcome = lent_of a.strand-glues.now a.scaffold-glues.now a.dg.now a.ds.now in
+    let lent : Outcome = lent_of a.strand_glues.now a.scaffold_glues.now a.dg.now a.ds.now in
     let size : wrong_size p lent ≡ false = sym (c.wrong_size.ensures a.penalty) ∙ c.if-wrong_size.false in
     let fit = (sized p lent size).scaffold in
     record {
@@ -105,7 +105,7 @@ pub any_unknown-requires : goal.any_unknown-requires
 any_unknown-requires c =
     let a = c.args in
     let p : Params = params_of a.text.now a.users a.strands.now a.scaffold.now a.entries.now a.energies.now a.penalty a.copies in
-    let lent : Outcome = lent_of a.strand-glues.now a.scaffold-glues.now a.dg.now a.ds.now in
+    let lent : Outcome = lent_of a.strand_glues.now a.scaffold_glues.now a.dg.now a.ds.now in
     let size : wrong_size p lent ≡ false = sym (c.wrong_size.ensures a.penalty) ∙ c.if-wrong_size.false in
     let numbers = numbers-among (strand_names p) (glues_of p.text p.scaffold) _ _ c.base_names-bases.ensures.result_after c.fill_numbers.ensures in
     record {
@@ -117,7 +117,7 @@ pub returns-then-any_unknown : goal.returns-then-any_unknown
 returns-then-any_unknown c =
     let a = c.args in
     let p : Params = params_of a.text.now a.users a.strands.now a.scaffold.now a.entries.now a.energies.now a.penalty a.copies in
-    let lent : Outcome = lent_of a.strand-glues.now a.scaffold-glues.now a.dg.now a.ds.now in
+    let lent : Outcome = lent_of a.strand_glues.now a.scaffold_glues.now a.dg.now a.ds.now in
     let size : wrong_size p lent ≡ false = sym (c.wrong_size.ensures a.penalty) ∙ c.if-wrong_size.false in
     let base : any (has_bad_base p.text) (energies_of p) ≡ false = sym c.any_bad_base.ensures ∙ c.if-any_bad_base.false in
     let short : any (is_short p.text) (energies_of p) ≡ false = sym c.any_short.ensures ∙ c.if-any_short.false in
@@ -131,7 +131,7 @@ pub returns-then-bases-gt-MOST_BASES : goal.returns-then-bases-gt-MOST_BASES
 returns-then-bases-gt-MOST_BASES c =
     let a = c.args in
     let p : Params = params_of a.text.now a.users a.strands.now a.scaffold.now a.entries.now a.energies.now a.penalty a.copies in
-    let lent : Outcome = lent_of a.strand-glues.now a.scaffold-glues.now a.dg.now a.ds.now in
+    let lent : Outcome = lent_of a.strand_glues.now a.scaffold_glues.now a.dg.now a.ds.now in
     let size : wrong_size p lent ≡ false = sym (c.wrong_size.ensures a.penalty) ∙ c.if-wrong_size.false in
     let base : any (has_bad_base p.text) (energies_of p) ≡ false = sym c.any_bad_base.ensures ∙ c.if-any_bad_base.false in
     let short : any (is_short p.text) (energies_of p) ≡ false = sym c.any_short.ensures ∙ c.if-any_short.false in
@@ -146,7 +146,7 @@ pub fill_cells-requires : goal.fill_cells-requires
 fill_cells-requires c =
     let a = c.args in
     let p : Params = params_of a.text.now a.users a.strands.now a.scaffold.now a.entries.now a.energies.now a.penalty a.copies in
-    let lent : Outcome = lent_of a.strand-glues.now a.scaffold-glues.now a.dg.now a.ds.now in
+    let lent : Outcome = lent_of a.strand_glues.now a.scaffold_glues.now a.dg.now a.ds.now in
     let size : wrong_size p lent ≡ false = sym (c.wrong_size.ensures a.penalty) ∙ c.if-wrong_size.false in
     record {
       table = (c.base_names-bases.ensures.table, c.if-bases-gt-MOST_BASES.false);
@@ -158,7 +158,7 @@ pub any_repeated-requires : goal.any_repeated-requires
 any_repeated-requires c =
     let a = c.args in
     let p : Params = params_of a.text.now a.users a.strands.now a.scaffold.now a.entries.now a.energies.now a.penalty a.copies in
-    let lent : Outcome = lent_of a.strand-glues.now a.scaffold-glues.now a.dg.now a.ds.now in
+    let lent : Outcome = lent_of a.strand_glues.now a.scaffold_glues.now a.dg.now a.ds.now in
     let few : too_many_bases (strand_names p) ≡ false = few-bases p _ c.base_names-bases.result (held-length p.text _ _ c.base_names-bases.result) c.base_names-bases.ensures.result_after c.if-bases-gt-MOST_BASES.false in
     cells-within a.text.now a.users a.strands.now a.scaffold.now a.entries.now a.energies.now a.penalty a.copies _ _ _ c.base_names-bases.ensures.result_after c.fill_cells.ensures.rows_after c.fill_cells.ensures.columns_after few
 
@@ -166,7 +166,7 @@ pub returns-then-any_repeated : goal.returns-then-any_repeated
 returns-then-any_repeated c =
     let a = c.args in
     let p : Params = params_of a.text.now a.users a.strands.now a.scaffold.now a.entries.now a.energies.now a.penalty a.copies in
-    let lent : Outcome = lent_of a.strand-glues.now a.scaffold-glues.now a.dg.now a.ds.now in
+    let lent : Outcome = lent_of a.strand_glues.now a.scaffold_glues.now a.dg.now a.ds.now in
     let size : wrong_size p lent ≡ false = sym (c.wrong_size.ensures a.penalty) ∙ c.if-wrong_size.false in
     let base : any (has_bad_base p.text) (energies_of p) ≡ false = sym c.any_bad_base.ensures ∙ c.if-any_bad_base.false in
     let short : any (is_short p.text) (energies_of p) ≡ false = sym c.any_short.ensures ∙ c.if-any_short.false in
@@ -182,7 +182,7 @@ pub any_out-requires : goal.any_out-requires
 any_out-requires c =
     let a = c.args in
     let p : Params = params_of a.text.now a.users a.strands.now a.scaffold.now a.entries.now a.energies.now a.penalty a.copies in
-    let lent : Outcome = lent_of a.strand-glues.now a.scaffold-glues.now a.dg.now a.ds.now in
+    let lent : Outcome = lent_of a.strand_glues.now a.scaffold_glues.now a.dg.now a.ds.now in
     let size : wrong_size p lent ≡ false = sym (c.wrong_size.ensures a.penalty) ∙ c.if-wrong_size.false in
     record {
       fit_entries = fit-entries a.text.now a.entries.now a.energies.now (sized p lent size).entries;
@@ -193,7 +193,7 @@ pub returns-then-any_out : goal.returns-then-any_out
 returns-then-any_out c =
     let a = c.args in
     let p : Params = params_of a.text.now a.users a.strands.now a.scaffold.now a.entries.now a.energies.now a.penalty a.copies in
-    let lent : Outcome = lent_of a.strand-glues.now a.scaffold-glues.now a.dg.now a.ds.now in
+    let lent : Outcome = lent_of a.strand_glues.now a.scaffold_glues.now a.dg.now a.ds.now in
     let size : wrong_size p lent ≡ false = sym (c.wrong_size.ensures a.penalty) ∙ c.if-wrong_size.false in
     let base : any (has_bad_base p.text) (energies_of p) ≡ false = sym c.any_bad_base.ensures ∙ c.if-any_bad_base.false in
     let short : any (is_short p.text) (energies_of p) ≡ false = sym c.any_short.ensures ∙ c.if-any_short.false in
@@ -210,7 +210,7 @@ pub returns : goal.returns
 returns c =
     let a = c.args in
     let p : Params = params_of a.text.now a.users a.strands.now a.scaffold.now a.entries.now a.energies.now a.penalty a.copies in
-    let lent : Outcome = lent_of a.strand-glues.now a.scaffold-glues.now a.dg.now a.ds.now in
+    let lent : Outcome = lent_of a.strand_glues.now a.scaffold_glues.now a.dg.now a.ds.now in
     let size : wrong_size p lent ≡ false = sym (c.wrong_size.ensures a.penalty) ∙ c.if-wrong_size.false in
     let base : any (has_bad_base p.text) (energies_of p) ≡ false = sym c.any_bad_base.ensures ∙ c.if-any_bad_base.false in
     let short : any (is_short p.text) (energies_of p) ≡ false = sym c.any_short.ensures ∙ c.if-any_short.false in

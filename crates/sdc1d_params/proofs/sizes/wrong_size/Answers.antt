@@ -15,33 +15,33 @@ use Rattle.sdc1d_params.proofs.sizes.wrong_size.Goals as goal
 pub returns-then-unfit_strands : goal.returns-then-unfit_strands
 returns-then-unfit_strands c =
     let a = c.args in
-    let lent : Outcome = lent_of a.strand-glues.now a.scaffold-glues.now a.dg.now a.ds.now in
+    let lent : Outcome = lent_of a.strand_glues.now a.scaffold_glues.now a.dg.now a.ds.now in
     let e0 : unfit_strands a.users a.text.now (names_of a.strands.now) ≡ true = sym c.unfit_strands.ensures ∙ c.if-unfit_strands.true in
     λ (penalty : Penalty). rw (size-looked (params_of a.text.now a.users a.strands.now a.scaffold.now a.entries.now a.energies.now penalty a.copies) lent c.requires, e0)
 
 pub returns-then-unfit_names : goal.returns-then-unfit_names
 returns-then-unfit_names c =
     let a = c.args in
-    let lent : Outcome = lent_of a.strand-glues.now a.scaffold-glues.now a.dg.now a.ds.now in
+    let lent : Outcome = lent_of a.strand_glues.now a.scaffold_glues.now a.dg.now a.ds.now in
     let e0 : unfit_strands a.users a.text.now (names_of a.strands.now) ≡ false = sym c.unfit_strands.ensures ∙ c.if-unfit_strands.false in
-    let e1 : unfit_names (length a.scaffold-glues.now) a.text.now (names_of a.scaffold.now) ≡ true = sym c.unfit_names.ensures ∙ c.if-unfit_names.true in
+    let e1 : unfit_names (length a.scaffold_glues.now) a.text.now (names_of a.scaffold.now) ≡ true = sym c.unfit_names.ensures ∙ c.if-unfit_names.true in
     λ (penalty : Penalty). rw (size-looked (params_of a.text.now a.users a.strands.now a.scaffold.now a.entries.now a.energies.now penalty a.copies) lent c.requires, e0, e1)
 
 pub returns-then-unfit_entries : goal.returns-then-unfit_entries
 returns-then-unfit_entries c =
     let a = c.args in
-    let lent : Outcome = lent_of a.strand-glues.now a.scaffold-glues.now a.dg.now a.ds.now in
+    let lent : Outcome = lent_of a.strand_glues.now a.scaffold_glues.now a.dg.now a.ds.now in
     let e0 : unfit_strands a.users a.text.now (names_of a.strands.now) ≡ false = sym c.unfit_strands.ensures ∙ c.if-unfit_strands.false in
-    let e1 : unfit_names (length a.scaffold-glues.now) a.text.now (names_of a.scaffold.now) ≡ false = sym c.unfit_names.ensures ∙ c.if-unfit_names.false in
+    let e1 : unfit_names (length a.scaffold_glues.now) a.text.now (names_of a.scaffold.now) ≡ false = sym c.unfit_names.ensures ∙ c.if-unfit_names.false in
     let e2 : unfit_entries a.text.now (entries_of a.entries.now a.energies.now) ≡ true = sym c.unfit_entries.ensures ∙ c.if-unfit_entries.true in
     λ (penalty : Penalty). rw (size-looked (params_of a.text.now a.users a.strands.now a.scaffold.now a.entries.now a.energies.now penalty a.copies) lent c.requires, e0, e1, e2)
 
 pub returns-then-unfit_copied : goal.returns-then-unfit_copied
 returns-then-unfit_copied c =
     let a = c.args in
-    let lent : Outcome = lent_of a.strand-glues.now a.scaffold-glues.now a.dg.now a.ds.now in
+    let lent : Outcome = lent_of a.strand_glues.now a.scaffold_glues.now a.dg.now a.ds.now in
     let e0 : unfit_strands a.users a.text.now (names_of a.strands.now) ≡ false = sym c.unfit_strands.ensures ∙ c.if-unfit_strands.false in
-    let e1 : unfit_names (length a.scaffold-glues.now) a.text.now (names_of a.scaffold.now) ≡ false = sym c.unfit_names.ensures ∙ c.if-unfit_names.false in
+    let e1 : unfit_names (length a.scaffold_glues.now) a.text.now (names_of a.scaffold.now) ≡ false = sym c.unfit_names.ensures ∙ c.if-unfit_names.false in
     let e2 : unfit_entries a.text.now (entries_of a.entries.now a.energies.now) ≡ false = sym c.unfit_entries.ensures ∙ c.if-unfit_entries.false in
     let e3 : unfit_copied a.users a.copies.quencher ≡ true = sym c.unfit_copied.ensures ∙ c.if-unfit_copied.true in
     λ (penalty : Penalty). rw (size-looked (params_of a.text.now a.users a.strands.now a.scaffold.now a.entries.now a.energies.now penalty a.copies) lent c.requires, e0, e1, e2, e3)
@@ -49,9 +49,9 @@ returns-then-unfit_copied c =
 pub returns-then-unfit_copied-2 : goal.returns-then-unfit_copied-2
 returns-then-unfit_copied-2 c =
     let a = c.args in
-    let lent : Outcome = lent_of a.strand-glues.now a.scaffold-glues.now a.dg.now a.ds.now in
+    let lent : Outcome = lent_of a.strand_glues.now a.scaffold_glues.now a.dg.now a.ds.now in
     let e0 : unfit_strands a.users a.text.now (names_of a.strands.now) ≡ false = sym c.unfit_strands.ensures ∙ c.if-unfit_strands.false in
-    let e1 : unfit_names (length a.scaffold-glues.now) a.text.now (names_of a.scaffold.now) ≡ false = sym c.unfit_names.ensures ∙ c.if-unfit_names.false in
+    let e1 : unfit_names (length a.scaffold_glues.now) a.text.now (names_of a.scaffold.now) ≡ false = sym c.unfit_names.ensures ∙ c.if-unfit_names.false in
     let e2 : unfit_entries a.text.now (entries_of a.entries.now a.energies.now) ≡ false = sym c.unfit_entries.ensures ∙ c.if-unfit_entries.false in
     let e3 : unfit_copied a.users a.copies.quencher ≡ false = sym c.unfit_copied.ensures ∙ c.if-unfit_copied.false in
     let e4 : unfit_copied a.users a.copies.reporter ≡ true = sym c.unfit_copied-2.ensures ∙ c.if-unfit_copied-2.true in
@@ -65,9 +65,9 @@ unfit_lengths-requires c =
 pub returns : goal.returns
 returns c =
     let a = c.args in
-    let lent : Outcome = lent_of a.strand-glues.now a.scaffold-glues.now a.dg.now a.ds.now in
+    let lent : Outcome = lent_of a.strand_glues.now a.scaffold_glues.now a.dg.now a.ds.now in
     let e0 : unfit_strands a.users a.text.now (names_of a.strands.now) ≡ false = sym c.unfit_strands.ensures ∙ c.if-unfit_strands.false in
-    let e1 : unfit_names (length a.scaffold-glues.now) a.text.now (names_of a.scaffold.now) ≡ false = sym c.unfit_names.ensures ∙ c.if-unfit_names.false in
+    let e1 : unfit_names (length a.scaffold_glues.now) a.text.now (names_of a.scaffold.now) ≡ false = sym c.unfit_names.ensures ∙ c.if-unfit_names.false in
     let e2 : unfit_entries a.text.now (entries_of a.entries.now a.energies.now) ≡ false = sym c.unfit_entries.ensures ∙ c.if-unfit_entries.false in
     let e3 : unfit_copied a.users a.copies.quencher ≡ false = sym c.unfit_copied.ensures ∙ c.if-unfit_copied.false in
     let e4 : unfit_copied a.users a.copies.reporter ≡ false = sym c.unfit_copied-2.ensures ∙ c.if-unfit_copied-2.false in

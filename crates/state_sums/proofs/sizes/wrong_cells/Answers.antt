@@ -30,4 +30,4 @@ returns-then-pair_digits-pairs c = λ short few. simp (eq-eqb _ _ c.if-place_dig
 pub returns : goal.returns
 returns c = λ short few.
     let a = c.args in
-    cells_told a.positions (weights a.strands a.place-digits.now a.place-powers.now a.pair-digits.now a.pair-powers.now) c.if-place_digits-places.false c.if-place_powers-places.false c.if-pair_digits-pairs.false refl
+    cells_told a.positions (weights a.strands a.place_digits.now a.place_powers.now a.pair_digits.now a.pair_powers.now) c.if-place_digits-places.false c.if-place_powers-places.false c.if-pair_digits-pairs.false refl
