@@ -255,8 +255,12 @@ class Function:
             rest = [norm_field(rest[0])] + rest[1:]
         if len(rest) > 1 and rest[0] in ("new", "auto"):
             given = references(callee)
-            if rest[1].isdigit() and int(rest[1]) < len(given):
-                rest = [rest[0], given[int(rest[1])]] + rest[2:]
+            # nested pairs, one part for each reference
+            k = 0
+            while 1 + k < len(rest) and rest[1 + k] == "1" and k < len(given) - 1:
+                k += 1
+            if rest[1].isdigit() and given:
+                rest = [rest[0], given[k]] + rest[1 + k + (1 + k < len(rest) and rest[1 + k] == "0") :]
             rest = [rest[0], norm_field(rest[1])] + rest[2:]
         for old, now in self.v["places"][found][4]:
             if rest[0] == old:

@@ -19,8 +19,7 @@ pub(crate) fn ambient(rt: f64, strand_excess: f64, scaffold_excess: f64) -> Ambi
 }
 
 // The bond between strand x and strand y to the east of it.
-#[unsafe(no_mangle)]
-pub extern "C" fn mj_strand_bond(
+pub fn mj_strand_bond(
     scaffold: &[u8],
     marks: &[u8],
     glues: &[u8],
@@ -55,8 +54,7 @@ pub extern "C" fn mj_strand_bond(
 }
 
 // The bond between the scaffold at a position and a strand.
-#[unsafe(no_mangle)]
-pub extern "C" fn mj_scaffold_bond(
+pub fn mj_scaffold_bond(
     scaffold: &[u8],
     marks: &[u8],
     glues: &[u8],
@@ -91,8 +89,7 @@ pub extern "C" fn mj_scaffold_bond(
 }
 
 // The friends of a position, into 64 lent entries, and how many there are.
-#[unsafe(no_mangle)]
-pub extern "C" fn mj_friends(
+pub fn mj_friends(
     scaffold: &[u8],
     marks: &[u8],
     glues: &[u8],
@@ -128,8 +125,7 @@ pub extern "C" fn mj_friends(
 }
 
 // How many states there are.
-#[unsafe(no_mangle)]
-pub extern "C" fn mj_states(
+pub fn mj_states(
     scaffold: &[u8],
     marks: &[u8],
     glues: &[u8],
@@ -160,8 +156,7 @@ pub extern "C" fn mj_states(
 }
 
 // The state at a rank, into one lent entry for each position.
-#[unsafe(no_mangle)]
-pub extern "C" fn mj_state(
+pub fn mj_state(
     scaffold: &[u8],
     marks: &[u8],
     glues: &[u8],
@@ -195,8 +190,7 @@ pub extern "C" fn mj_state(
 }
 
 // The state energy of a configuration.
-#[unsafe(no_mangle)]
-pub extern "C" fn mj_state_energy(
+pub fn mj_state_energy(
     scaffold: &[u8],
     marks: &[u8],
     glues: &[u8],
@@ -229,8 +223,7 @@ pub extern "C" fn mj_state_energy(
 }
 
 // The chain energy of a configuration, as it is and times RT.
-#[unsafe(no_mangle)]
-pub extern "C" fn mj_chain_energy(
+pub fn mj_chain_energy(
     scaffold: &[u8],
     marks: &[u8],
     glues: &[u8],

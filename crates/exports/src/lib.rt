@@ -29,32 +29,28 @@ ghost use Rattle.utils.specs.Strength.{sequence_strength, pair_strength};
 use units::Kelvin;
 
 // One sequence.
-#[unsafe(no_mangle)]
-pub extern "C" fn mj_sequence_reply(s: &[u8]) -> u32
+pub fn mj_sequence_reply(s: &[u8]) -> u32
     ensures { result ≡ (string_dna_dg_ds s.now).number }
 {
     figures::dg_ds_reply(utils::string_dna_dg_ds(s))
 }
 
 // Its dG.
-#[unsafe(no_mangle)]
-pub extern "C" fn mj_sequence_dg(s: &[u8]) -> u64
+pub fn mj_sequence_dg(s: &[u8]) -> u64
     ensures { result ≡ Ieee.to_bits binary64 (string_dna_dg_ds s.now).dg }
 {
     figures::dg_ds_dg(utils::string_dna_dg_ds(s))
 }
 
 // Its dS.
-#[unsafe(no_mangle)]
-pub extern "C" fn mj_sequence_ds(s: &[u8]) -> u64
+pub fn mj_sequence_ds(s: &[u8]) -> u64
     ensures { result ≡ Ieee.to_bits binary64 (string_dna_dg_ds s.now).ds }
 {
     figures::dg_ds_ds(utils::string_dna_dg_ds(s))
 }
 
 // All three at once.
-#[unsafe(no_mangle)]
-pub extern "C" fn mj_sequence(s: &[u8], dg: &mut f64, ds: &mut f64) -> u32
+pub fn mj_sequence(s: &[u8], dg: &mut f64, ds: &mut f64) -> u32
     ensures value { result ≡ (string_dna_dg_ds s.now).number }
     ensures dg_after { dg.new ≡ (string_dna_dg_ds s.now).dg }
     ensures ds_after { ds.new ≡ (string_dna_dg_ds s.now).ds }
@@ -63,56 +59,49 @@ pub extern "C" fn mj_sequence(s: &[u8], dg: &mut f64, ds: &mut f64) -> u32
 }
 
 // One sequence in the published mode.
-#[unsafe(no_mangle)]
-pub extern "C" fn mj_published_reply(s: &[u8]) -> u32
+pub fn mj_published_reply(s: &[u8]) -> u32
     ensures { result ≡ (published_dna_dg_ds s.now).number }
 {
     figures::dg_ds_reply(utils::published_dna_dg_ds(s))
 }
 
 // Its dG.
-#[unsafe(no_mangle)]
-pub extern "C" fn mj_published_dg(s: &[u8]) -> u64
+pub fn mj_published_dg(s: &[u8]) -> u64
     ensures { result ≡ Ieee.to_bits binary64 (published_dna_dg_ds s.now).dg }
 {
     figures::dg_ds_dg(utils::published_dna_dg_ds(s))
 }
 
 // Its dS.
-#[unsafe(no_mangle)]
-pub extern "C" fn mj_published_ds(s: &[u8]) -> u64
+pub fn mj_published_ds(s: &[u8]) -> u64
     ensures { result ≡ Ieee.to_bits binary64 (published_dna_dg_ds s.now).ds }
 {
     figures::dg_ds_ds(utils::published_dna_dg_ds(s))
 }
 
 // Two sequences.
-#[unsafe(no_mangle)]
-pub extern "C" fn mj_pair_reply(a: &[u8], b: &[u8]) -> u32
+pub fn mj_pair_reply(a: &[u8], b: &[u8]) -> u32
     ensures { result ≡ (sequence_pair_dg_ds a.now b.now).number }
 {
     figures::dg_ds_reply(utils::sequence_pair_dg_ds(a, b))
 }
 
 // Their dG.
-#[unsafe(no_mangle)]
-pub extern "C" fn mj_pair_dg(a: &[u8], b: &[u8]) -> u64
+pub fn mj_pair_dg(a: &[u8], b: &[u8]) -> u64
     ensures { result ≡ Ieee.to_bits binary64 (sequence_pair_dg_ds a.now b.now).dg }
 {
     figures::dg_ds_dg(utils::sequence_pair_dg_ds(a, b))
 }
 
 // Their dS.
-#[unsafe(no_mangle)]
-pub extern "C" fn mj_pair_ds(a: &[u8], b: &[u8]) -> u64
+pub fn mj_pair_ds(a: &[u8], b: &[u8]) -> u64
     ensures { result ≡ Ieee.to_bits binary64 (sequence_pair_dg_ds a.now b.now).ds }
 {
     figures::dg_ds_ds(utils::sequence_pair_dg_ds(a, b))
 }
 
 // All three at once.
-#[unsafe(no_mangle)]
-pub extern "C" fn mj_pair(a: &[u8], b: &[u8], dg: &mut f64, ds: &mut f64) -> u32
+pub fn mj_pair(a: &[u8], b: &[u8], dg: &mut f64, ds: &mut f64) -> u32
     ensures value { result ≡ (sequence_pair_dg_ds a.now b.now).number }
     ensures dg_after { dg.new ≡ (sequence_pair_dg_ds a.now b.now).dg }
     ensures ds_after { ds.new ≡ (sequence_pair_dg_ds a.now b.now).ds }
@@ -121,8 +110,7 @@ pub extern "C" fn mj_pair(a: &[u8], b: &[u8], dg: &mut f64, ds: &mut f64) -> u32
 }
 
 // A loop.
-#[unsafe(no_mangle)]
-pub extern "C" fn mj_loop_penalty(length: usize, kind: u32, dg: &mut f64) -> u32
+pub fn mj_loop_penalty(length: usize, kind: u32, dg: &mut f64) -> u32
     ensures value { result ≡ (loop_penalty length kind).number }
     ensures dg_after { dg.new ≡ (loop_penalty length kind).dg }
 {
@@ -130,8 +118,7 @@ pub extern "C" fn mj_loop_penalty(length: usize, kind: u32, dg: &mut f64) -> u32
 }
 
 // The strength of one sequence.
-#[unsafe(no_mangle)]
-pub extern "C" fn mj_sequence_strength(s: &[u8], excess: f64, strength: &mut f64) -> u32
+pub fn mj_sequence_strength(s: &[u8], excess: f64, strength: &mut f64) -> u32
     ensures value { result ≡ (sequence_strength s.now excess).number }
     ensures strength_after { strength.new ≡ (sequence_strength s.now excess).dg }
 {
@@ -139,8 +126,7 @@ pub extern "C" fn mj_sequence_strength(s: &[u8], excess: f64, strength: &mut f64
 }
 
 // The strength of two sequences.
-#[unsafe(no_mangle)]
-pub extern "C" fn mj_pair_strength(a: &[u8], b: &[u8], excess: f64, strength: &mut f64) -> u32
+pub fn mj_pair_strength(a: &[u8], b: &[u8], excess: f64, strength: &mut f64) -> u32
     ensures value { result ≡ (pair_strength a.now b.now excess).number }
     ensures strength_after { strength.new ≡ (pair_strength a.now b.now excess).dg }
 {
@@ -148,8 +134,7 @@ pub extern "C" fn mj_pair_strength(a: &[u8], b: &[u8], excess: f64, strength: &m
 }
 
 // The ambient: RT and the two excesses.
-#[unsafe(no_mangle)]
-pub extern "C" fn mj_ambient(
+pub fn mj_ambient(
     kelvin: f64,
     rt: &mut f64,
     strand_excess: &mut f64,

@@ -36,8 +36,7 @@ fn tell_name(
 }
 
 // A name's base: where it starts, its length, and whether the name stands for it or for base*.
-#[unsafe(no_mangle)]
-pub extern "C" fn mj_name(
+pub fn mj_name(
     text: &[u8],
     start: usize,
     length: usize,
@@ -59,8 +58,7 @@ pub extern "C" fn mj_name(
 }
 
 // The numbers of all glues of the user strands, three for each.
-#[unsafe(no_mangle)]
-pub extern "C" fn mj_strand_glues(
+pub fn mj_strand_glues(
     text: &[u8],
     users: usize,
     strands: &[usize],

@@ -51,8 +51,7 @@ fn copies(quencher: usize, reporter: usize) -> Copies
 }
 
 // Strand glues, scaffold glues and both tables from names and energies.
-#[unsafe(no_mangle)]
-pub extern "C" fn mj_params(
+pub fn mj_params(
     build: u32,
     text: &[u8],
     users: usize,

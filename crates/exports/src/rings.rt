@@ -9,8 +9,7 @@ use super::answers;
 use super::designs::ambient;
 
 // The ring energy of a configuration.
-#[unsafe(no_mangle)]
-pub extern "C" fn mj_ring_energy(
+pub fn mj_ring_energy(
     scaffold: &[u8],
     marks: &[u8],
     glues: &[u8],
@@ -43,8 +42,7 @@ pub extern "C" fn mj_ring_energy(
 }
 
 // The lowest ring, into one lent entry for each position, and its energy.
-#[unsafe(no_mangle)]
-pub extern "C" fn mj_ring_search(
+pub fn mj_ring_search(
     scaffold: &[u8],
     marks: &[u8],
     glues: &[u8],

@@ -9,8 +9,7 @@ use super::answers;
 use super::designs::ambient;
 
 // The lowest configuration, into one lent entry for each position, and its energy.
-#[unsafe(no_mangle)]
-pub extern "C" fn mj_search(
+pub fn mj_search(
     scaffold: &[u8],
     marks: &[u8],
     glues: &[u8],

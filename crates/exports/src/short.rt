@@ -23,8 +23,7 @@ fn tell_sequence(answer: SequenceAnswer, bases: &mut u64) -> u32
 }
 
 // Writes the sequence at a rank from the start of 8 lent bytes, and tells how many bases it has. Replies 1, 13.
-#[unsafe(no_mangle)]
-pub extern "C" fn mj_short_sequence(rank: u64, bytes: &mut [u8], bases: &mut u64) -> u32
+pub fn mj_short_sequence(rank: u64, bytes: &mut [u8], bases: &mut u64) -> u32
     ensures value { result ≡ (sequence_answer rank bytes.old).number }
     ensures bases_after { bases.new ≡ (sequence_answer rank bytes.old).figure }
     ensures bytes_after { bytes.new ≡ sequence_bytes rank bytes.old }

@@ -89,8 +89,7 @@ fn tell_moved(answer: DeckMoved, place: &mut u64, count: &mut u64) -> u32
 }
 
 // Reads a deck into 128 lent entries, and tells how many positions it has. Replies 1, 14.
-#[unsafe(no_mangle)]
-pub extern "C" fn mj_deck_read(
+pub fn mj_deck_read(
     form: u32,
     words: &[u32],
     entries: &mut [u8],
@@ -113,8 +112,7 @@ pub extern "C" fn mj_deck_read(
 }
 
 // Writes the deck of a configuration into 129 lent words, and tells how many it has. Replies 1, 9.
-#[unsafe(no_mangle)]
-pub extern "C" fn mj_deck_write(
+pub fn mj_deck_write(
     form: u32,
     configuration: &[u8],
     words: &mut [u32],
@@ -131,8 +129,7 @@ pub extern "C" fn mj_deck_write(
 }
 
 // Moves a deck of a form into the other form, in 129 lent words, and tells how many it has. Replies 1, 14.
-#[unsafe(no_mangle)]
-pub extern "C" fn mj_deck_move(
+pub fn mj_deck_move(
     form: u32,
     words: &[u32],
     moved: &mut [u32],

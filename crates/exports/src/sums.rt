@@ -36,8 +36,7 @@ fn tell_sum(answer: SumAnswer, place: &mut u64, digits: &mut u32, power: &mut i3
 }
 
 // The sum over all states.
-#[unsafe(no_mangle)]
-pub extern "C" fn mj_free_sum(
+pub fn mj_free_sum(
     scaffold: &[u8],
     marks: &[u8],
     glues: &[u8],
@@ -79,8 +78,7 @@ pub extern "C" fn mj_free_sum(
 }
 
 // The sum over the states that lists of allowed occupants leave.
-#[unsafe(no_mangle)]
-pub extern "C" fn mj_constrained_sum(
+pub fn mj_constrained_sum(
     scaffold: &[u8],
     marks: &[u8],
     glues: &[u8],

@@ -9,8 +9,7 @@ use super::answers;
 use super::designs::ambient;
 
 // Fills both tables with the bonds of a design.
-#[unsafe(no_mangle)]
-pub extern "C" fn mj_bond_tables(
+pub fn mj_bond_tables(
     scaffold: &[u8],
     marks: &[u8],
     glues: &[u8],
@@ -45,8 +44,7 @@ pub extern "C" fn mj_bond_tables(
 }
 
 // The state energy of a configuration over lent bonds.
-#[unsafe(no_mangle)]
-pub extern "C" fn mj_state_energy_over(
+pub fn mj_state_energy_over(
     scaffold: &[u8],
     marks: &[u8],
     glues: &[u8],
@@ -83,8 +81,7 @@ pub extern "C" fn mj_state_energy_over(
 }
 
 // How many states there are.
-#[unsafe(no_mangle)]
-pub extern "C" fn mj_states_over(
+pub fn mj_states_over(
     scaffold: &[u8],
     marks: &[u8],
     glues: &[u8],
@@ -119,8 +116,7 @@ pub extern "C" fn mj_states_over(
 }
 
 // The state at a rank, into one lent entry for each position.
-#[unsafe(no_mangle)]
-pub extern "C" fn mj_state_over(
+pub fn mj_state_over(
     scaffold: &[u8],
     marks: &[u8],
     glues: &[u8],
@@ -158,8 +154,7 @@ pub extern "C" fn mj_state_over(
 }
 
 // The lowest configuration over lent bonds, into one lent entry for each position, and its energy.
-#[unsafe(no_mangle)]
-pub extern "C" fn mj_search_over(
+pub fn mj_search_over(
     scaffold: &[u8],
     marks: &[u8],
     glues: &[u8],

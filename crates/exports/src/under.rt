@@ -9,8 +9,7 @@ use super::designs::ambient;
 use units::KcalPerMol;
 
 // The first state in listing order whose state energy is at most the ceiling, into one lent entry for each position, and its energy.
-#[unsafe(no_mangle)]
-pub extern "C" fn mj_first_state_under(
+pub fn mj_first_state_under(
     scaffold: &[u8],
     marks: &[u8],
     glues: &[u8],

@@ -6,19 +6,19 @@ use Rattle.exports.proofs.figures.ambient_tell.Goals as goal
 
 pub returns-in-Given : goal.returns-in-Given
 returns-in-Given c =
-    let all = rw c.in-Given.is (c.number.ensures, (refl, (refl, refl))) in record {
-      value = all.0;
-      rt_after = all.1.0;
-      strand_excess_after = all.1.1.0;
-      scaffold_excess_after = all.1.1.1;
-    }
+    rw c.in-Given.is (record {
+      value = c.number.ensures;
+      rt_after = refl;
+      strand_excess_after = refl;
+      scaffold_excess_after = refl;
+    })
 
 pub returns-in-Refused : goal.returns-in-Refused
 unfolding of_bits
 returns-in-Refused c =
-    let all = rw c.in-Refused.is (c.number-in-Refused.ensures, (refl, (refl, refl))) in record {
-      value = all.0;
-      rt_after = all.1.0;
-      strand_excess_after = all.1.1.0;
-      scaffold_excess_after = all.1.1.1;
-    }
+    rw c.in-Refused.is (record {
+      value = c.number-in-Refused.ensures;
+      rt_after = refl;
+      strand_excess_after = refl;
+      scaffold_excess_after = refl;
+    })

@@ -6,17 +6,17 @@ use Rattle.exports.proofs.figures.dg_ds_tell.Goals as goal
 
 pub returns-in-Given : goal.returns-in-Given
 returns-in-Given c =
-    let all = rw c.in-Given.is (c.number.ensures, (refl, refl)) in record {
-      value = all.0;
-      dg_after = all.1.0;
-      ds_after = all.1.1;
-    }
+    rw c.in-Given.is (record {
+      value = c.number.ensures;
+      dg_after = refl;
+      ds_after = refl;
+    })
 
 pub returns-in-Refused : goal.returns-in-Refused
 unfolding of_bits
 returns-in-Refused c =
-    let all = rw c.in-Refused.is (c.number-in-Refused.ensures, (refl, refl)) in record {
-      value = all.0;
-      dg_after = all.1.0;
-      ds_after = all.1.1;
-    }
+    rw c.in-Refused.is (record {
+      value = c.number-in-Refused.ensures;
+      dg_after = refl;
+      ds_after = refl;
+    })

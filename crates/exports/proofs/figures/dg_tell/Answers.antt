@@ -7,7 +7,7 @@ use Rattle.exports.proofs.figures.dg_tell.Goals as goal
 pub returns-in-Refused : goal.returns-in-Refused
 unfolding of_bits
 returns-in-Refused c =
-    let all = rw c.in-Refused.is (c.number-in-Refused.ensures, refl) in record {
-      value = all.0;
-      dg_after = all.1;
-    }
+    rw c.in-Refused.is (record {
+      value = c.number-in-Refused.ensures;
+      dg_after = refl;
+    })

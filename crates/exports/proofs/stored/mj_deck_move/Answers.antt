@@ -6,26 +6,26 @@ use Rattle.exports.proofs.stored.mj_deck_move.Goals as goal
 
 pub returns-in-Known : goal.returns-in-Known
 returns-in-Known c =
-    let all = let form = sym c.of.ensures ∙ c.in-Known.is in
+    let form = sym c.of.ensures ∙ c.in-Known.is in
     let answer = c.move_deck.ensures in
     let told = rw answer.result_value at c.tell_moved.ensures in
     let moved = c.tell_moved.ensures in
-    rw form (told.0, (told.1.0, (told.1.1, (answer.moved_after, λ e. rw moved.count_after (answer.moves_to (sym moved.value ∙ e)))))) in record {
-      value = all.0;
-      place_after = all.1.0;
-      count_after = all.1.1.0;
-      moved_after = all.1.1.1.0;
-      moves_from = all.1.1.1.1;
-    }
+    rw form (record {
+      value = told.0;
+      place_after = told.1.0;
+      count_after = told.1.1;
+      moved_after = answer.moved_after;
+      moves_from = λ e. rw moved.count_after (answer.moves_to (sym moved.value ∙ e));
+    })
 
 pub returns-in-Unknown : goal.returns-in-Unknown
 returns-in-Unknown c =
-    let all = let form = sym c.of.ensures ∙ c.in-Unknown.is in
+    let form = sym c.of.ensures ∙ c.in-Unknown.is in
     let told = c.tell_moved-in-Unknown.ensures in
-    rw form (told.value, (told.place_after, (told.count_after, (refl, λ e. omega (arith, told.value))))) in record {
-      value = all.0;
-      place_after = all.1.0;
-      count_after = all.1.1.0;
-      moved_after = all.1.1.1.0;
-      moves_from = all.1.1.1.1;
-    }
+    rw form (record {
+      value = told.value;
+      place_after = told.place_after;
+      count_after = told.count_after;
+      moved_after = refl;
+      moves_from = λ e. omega (arith, told.value);
+    })

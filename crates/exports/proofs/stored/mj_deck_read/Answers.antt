@@ -5,23 +5,23 @@ use Rattle.exports.proofs.stored.mj_deck_read.Goals as goal
 
 pub returns-in-Known : goal.returns-in-Known
 returns-in-Known c =
-    let all = let form = sym c.of.ensures ∙ c.in-Known.is in
+    let form = sym c.of.ensures ∙ c.in-Known.is in
     let answer = c.read.ensures in
     let told = rw answer.0 at c.tell_read.ensures in
-    rw form (told.0, (told.1.0, (told.1.1, answer.1))) in record {
-      value = all.0;
-      place_after = all.1.0;
-      count_after = all.1.1.0;
-      entries_after = all.1.1.1;
-    }
+    rw form (record {
+      value = told.0;
+      place_after = told.1.0;
+      count_after = told.1.1;
+      entries_after = answer.1;
+    })
 
 pub returns-in-Unknown : goal.returns-in-Unknown
 returns-in-Unknown c =
-    let all = let form = sym c.of.ensures ∙ c.in-Unknown.is in
+    let form = sym c.of.ensures ∙ c.in-Unknown.is in
     let told = c.tell_read-in-Unknown.ensures in
-    rw form (told.value, (told.place_after, (told.count_after, refl))) in record {
-      value = all.0;
-      place_after = all.1.0;
-      count_after = all.1.1.0;
-      entries_after = all.1.1.1;
-    }
+    rw form (record {
+      value = told.value;
+      place_after = told.place_after;
+      count_after = told.count_after;
+      entries_after = refl;
+    })

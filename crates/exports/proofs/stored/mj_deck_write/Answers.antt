@@ -5,21 +5,21 @@ use Rattle.exports.proofs.stored.mj_deck_write.Goals as goal
 
 pub returns-in-Known : goal.returns-in-Known
 returns-in-Known c =
-    let all = let form = sym c.of.ensures ∙ c.in-Known.is in
+    let form = sym c.of.ensures ∙ c.in-Known.is in
     let answer = c.write.ensures in
     let told = rw answer.0 at c.tell_written.ensures in
-    rw form (told.0, (told.1, answer.1)) in record {
-      value = all.0;
-      count_after = all.1.0;
-      words_after = all.1.1;
-    }
+    rw form (record {
+      value = told.0;
+      count_after = told.1;
+      words_after = answer.1;
+    })
 
 pub returns-in-Unknown : goal.returns-in-Unknown
 returns-in-Unknown c =
-    let all = let form = sym c.of.ensures ∙ c.in-Unknown.is in
+    let form = sym c.of.ensures ∙ c.in-Unknown.is in
     let told = c.tell_written-in-Unknown.ensures in
-    rw form (told.value, (told.count_after, refl)) in record {
-      value = all.0;
-      count_after = all.1.0;
-      words_after = all.1.1;
-    }
+    rw form (record {
+      value = told.value;
+      count_after = told.count_after;
+      words_after = refl;
+    })

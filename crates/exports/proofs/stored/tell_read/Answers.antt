@@ -5,16 +5,16 @@ use Rattle.exports.proofs.stored.tell_read.Goals as goal
 
 pub returns-in-Positions : goal.returns-in-Positions
 returns-in-Positions c =
-    let all = rw c.in-Positions.is (c.number.ensures, (refl, refl)) in record {
-      value = all.0;
-      place_after = all.1.0;
-      count_after = all.1.1;
-    }
+    rw c.in-Positions.is (record {
+      value = c.number.ensures;
+      place_after = refl;
+      count_after = refl;
+    })
 
 pub returns-in-Refused : goal.returns-in-Refused
 returns-in-Refused c =
-    let all = rw c.in-Refused.is (c.number-in-Refused-2.ensures, (c.number-in-Refused.ensures, refl)) in record {
-      value = all.0;
-      place_after = all.1.0;
-      count_after = all.1.1;
-    }
+    rw c.in-Refused.is (record {
+      value = c.number-in-Refused-2.ensures;
+      place_after = c.number-in-Refused.ensures;
+      count_after = refl;
+    })

@@ -5,7 +5,7 @@ use Rattle.exports.proofs.stored.tell_written.Goals as goal
 
 pub returns-in-Refused : goal.returns-in-Refused
 returns-in-Refused c =
-    let all = rw c.in-Refused.is (c.number-in-Refused.ensures, refl) in record {
-      value = all.0;
-      count_after = all.1;
-    }
+    rw c.in-Refused.is (record {
+      value = c.number-in-Refused.ensures;
+      count_after = refl;
+    })

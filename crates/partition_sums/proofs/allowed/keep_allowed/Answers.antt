@@ -99,7 +99,7 @@ loop-position-preserved c =
     let rooms = r.counts_in_bounds in
     let size = l.invariant.1 in
     let number = l.invariant.2 in
-    let row = c.keep_row.new.options.1.0 in
+    let row = c.keep_row.new.row in
     let room : 64 * i + 64 ≤ length l.kept_rows = omega arith in
     let full : length row ≡ 64 = let sized = c.keep_row in omega arith in
     let wide64 : 64 * i + 64 - 64 * i ≡ 64 = omega arith in

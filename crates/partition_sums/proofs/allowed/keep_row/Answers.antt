@@ -38,15 +38,15 @@ loop-k-preserved c =
     let size = r.row_len in
     let m = l.invariant.1 in
     elim c.if-list_allows.branch [
-      | inl w ↦ (
+      | goal.then-list_allows w ↦ (
         omega arith,
-        omega (arith, w.3),
-        front-step l.invariant.2 (keep-here p a.options.now l.k 0 g (sym c.list_allows.ensures ∙ w.0.taken)) (omega arith) w.2 w.3,
+        omega (arith, w.count-is),
+        front-step l.invariant.2 (keep-here p a.options.now l.k 0 g (sym c.list_allows.ensures ∙ w.if-list_allows.true)) (omega arith) w.row-is w.count-is,
       )
-      | inr w ↦ (
+      | goal.else-list_allows w ↦ (
         omega arith,
-        omega (arith, w.2),
-        front_same l.invariant.2 (keep-later p a.options.now l.k 0 g (sym c.list_allows.ensures ∙ w.0.left)) w.1 w.2,
+        omega (arith, w.count-is),
+        front_same l.invariant.2 (keep-later p a.options.now l.k 0 g (sym c.list_allows.ensures ∙ w.if-list_allows.false)) w.row-is w.count-is,
       )
     ]
 

@@ -37,11 +37,12 @@ slice_bounds-following-end-2 c =
 
 pub following-requires : goal.following-requires
 following-requires c =
-    let all = let a = c.args in
-    rw (c.wide.ensures, add-sub_cancel_left (a.left * a.strands) a.strands) c.requires in record {
-      options_nonzero = all.0;
-      by_index = all.1;
-    }
+    let a = c.args in
+    let all = c.requires in
+    rw (c.wide.ensures, add-sub_cancel_left (a.left * a.strands) a.strands) (record {
+      options_nonzero = all.next_nonzero;
+      by_index = all.by_index;
+    })
 
 pub returns : goal.returns
 returns c =

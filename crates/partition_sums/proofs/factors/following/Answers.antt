@@ -25,13 +25,13 @@ join-requires c = c.requires.by_index c.loop-k.k c.loop-k-test.true
 
 pub term_plus-sum-requires : goal.term_plus-sum-requires
 term_plus-sum-requires c =
-    let all = let r = c.requires in
+    let r = c.requires in
     let l = c.loop-k in
-    let f = joined-fit (r.by_index l.k c.loop-k-test.true) in let i = l.invariant.1 in let l : l.k ≤ 64 = omega (arith, l.invariant.0, r.options_nonzero.1) in rw c.join.ensures (i.form, (f.form, (omega (arith, i.low), omega (arith, f.low)))) in record {
-      normal = all.0;
-      normal_2 = all.1.0;
-      power_bound = all.1.1;
-    }
+    let f = joined-fit (r.by_index l.k c.loop-k-test.true) in let i = l.invariant.1 in let l : l.k ≤ 64 = omega (arith, l.invariant.0, r.options_nonzero.1) in rw c.join.ensures (record {
+      normal = i.form;
+      normal_2 = f.form;
+      power_bound = (omega (arith, i.low), omega (arith, f.low));
+    })
 
 pub overflow_add-k : goal.overflow_add-k
 overflow_add-k c = omega arith

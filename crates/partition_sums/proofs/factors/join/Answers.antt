@@ -8,13 +8,13 @@ use Rattle.partition_sums.proofs.factors.join.Goals as goal
 
 pub term_times-requires : goal.term_times-requires
 term_times-requires c =
-    let all = let j = c.requires in
+    let j = c.requires in
     let p = factor-fit _ _ _ _ j.form in
-    rw (c.factor_term-pair.ensures, c.term_at.ensures) (p.form, (j.term.row.form, (omega (arith, p.low), omega (arith, j.term.row.low)))) in record {
-      normal = all.0;
-      normal_2 = all.1.0;
-      power_bound = all.1.1;
-    }
+    rw (c.factor_term-pair.ensures, c.term_at.ensures) (record {
+      normal = p.form;
+      normal_2 = j.term.row.form;
+      power_bound = (omega (arith, p.low), omega (arith, j.term.row.low));
+    })
 
 pub returns : goal.returns
 unfolding joined

@@ -25,14 +25,14 @@ term_at-requires c = c.requires.by_index c.loop-k.k c.loop-k-test.true
 
 pub term_plus-sum-requires : goal.term_plus-sum-requires
 term_plus-sum-requires c =
-    let all = let f = (c.requires.by_index c.loop-k.k c.loop-k-test.true).row in
+    let f = (c.requires.by_index c.loop-k.k c.loop-k-test.true).row in
     let i = c.loop-k.invariant.1 in
     let l : c.loop-k.k ≤ 64 = omega (arith, c.loop-k.invariant.0, c.requires.options_nonzero.1) in
-    rw c.term_at.ensures (i.form, (f.form, (omega (arith, i.low), omega (arith, f.low)))) in record {
-      normal = all.0;
-      normal_2 = all.1.0;
-      power_bound = all.1.1;
-    }
+    rw c.term_at.ensures (record {
+      normal = i.form;
+      normal_2 = f.form;
+      power_bound = (omega (arith, i.low), omega (arith, f.low));
+    })
 
 pub loop-k-preserved : goal.loop-k-preserved
 loop-k-preserved c =

@@ -98,17 +98,16 @@ slice_bounds-row_out-end-in-loop-k c =
 
 pub row_out-requires : goal.row_out-requires
 row_out-requires c =
-    let all = let a = c.args in
+    let a = c.args in
     let r = c.requires in
     let x = c.wide.result in
     let known = r.below c.loop-k.k c.loop-k-test.true in
     let e = c.wide.ensures in
     let h : x < a.strands = omega arith in
-    rw (cells_are a.pair_digits.now a.strands x, cells_are a.pair_powers.now a.strands x, row-length a.strands x a.strands a.pair_digits.now h r.strands_in_bounds, row-length a.strands x a.strands a.pair_powers.now h r.strands_in_bounds_2)
-    (r.below_2, r.below_2) in record {
-      below = all.0;
-      below_2 = all.1;
-    }
+    rw (cells_are a.pair_digits.now a.strands x, cells_are a.pair_powers.now a.strands x, row-length a.strands x a.strands a.pair_digits.now h r.strands_in_bounds, row-length a.strands x a.strands a.pair_powers.now h r.strands_in_bounds_2) (record {
+      below = r.below_2;
+      below_2 = r.below_2;
+    })
 
 pub returns-then-row_out : goal.returns-then-row_out
 returns-then-row_out c =

@@ -141,7 +141,7 @@ slice_bounds-row_out-end-in-loop-position-2 c =
 
 pub row_out-requires : goal.row_out-requires
 row_out-requires c =
-    let all = let a = c.args in
+    let a = c.args in
     let r = c.requires in
     let w = (lent a.place_digits.now a.place_powers.now a.pair_digits.now a.pair_powers.now a.strands) in
     let l = c.loop-position in
@@ -149,11 +149,10 @@ row_out-requires c =
     let h = c.loop-position-test.true in
     let friends = friends-part w a.rows.now a.counts.now r.searchable i (64 * i + c.wide.result - 1) (ap (λ (z : ℕ). 64 * i + z - 1) c.wide.ensures) h in
     let below = friends-below w a.rows.now a.counts.now r.searchable i h in
-    rw (friends, cells_are a.place_digits.now a.strands i, cells_are a.place_powers.now a.strands i, row-length a.strands i (length a.counts.now) a.place_digits.now h r.celled.place-digits, row-length a.strands i (length a.counts.now) a.place_powers.now h r.celled.place-powers)
-    (below, below) in record {
-      below = all.0;
-      below_2 = all.1;
-    }
+    rw (friends, cells_are a.place_digits.now a.strands i, cells_are a.place_powers.now a.strands i, row-length a.strands i (length a.counts.now) a.place_digits.now h r.celled.place-digits, row-length a.strands i (length a.counts.now) a.place_powers.now h r.celled.place-powers) (record {
+      below = below;
+      below_2 = below;
+    })
 
 pub returns-then-row_out : goal.returns-then-row_out
 returns-then-row_out c =

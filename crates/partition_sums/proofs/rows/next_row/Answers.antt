@@ -33,14 +33,14 @@ factor_term-place-requires c = let s = (c.requires.by_index c.loop-k.k c.loop-k-
 
 pub term_times-t-requires : goal.term_times-t-requires
 term_times-t-requires c =
-    let all = let a = c.args in
+    let a = c.args in
     let r = c.requires in
     let l = c.loop-k in
-    let s = (r.by_index l.k c.loop-k-test.true) in let p = factor-fit a.place_digits.now a.place_powers.now false (get_or a.here.now l.k 0) s.place.form in let f = sum-fit (joined (row_of a.strands (get_or a.here.now l.k 0) a.pair_digits.now) (row_of a.strands (get_or a.here.now l.k 0) a.pair_powers.now) (eqb (get_or a.here.now l.k 0) 0) a.row_digits.now a.row_powers.now) a.next.now r.next_nonzero.0 r.next_nonzero.1 (λ k l. joined-fit (s.joins k l)) in rw (c.factor_term-place.ensures, c.after-sum.ensures) (p.form, (f.form, (omega (arith, p.low), omega (arith, f.low)))) in record {
-      normal = all.0;
-      normal_2 = all.1.0;
-      power_bound = all.1.1;
-    }
+    let s = (r.by_index l.k c.loop-k-test.true) in let p = factor-fit a.place_digits.now a.place_powers.now false (get_or a.here.now l.k 0) s.place.form in let f = sum-fit (joined (row_of a.strands (get_or a.here.now l.k 0) a.pair_digits.now) (row_of a.strands (get_or a.here.now l.k 0) a.pair_powers.now) (eqb (get_or a.here.now l.k 0) 0) a.row_digits.now a.row_powers.now) a.next.now r.next_nonzero.0 r.next_nonzero.1 (λ k l. joined-fit (s.joins k l)) in rw (c.factor_term-place.ensures, c.after-sum.ensures) (record {
+      normal = p.form;
+      normal_2 = f.form;
+      power_bound = (omega (arith, p.low), omega (arith, f.low));
+    })
 
 pub offset_bounds-out_digits-at : goal.offset_bounds-out_digits-at
 offset_bounds-out_digits-at c = omega (arith, c.wide-at.ensures, (c.requires.by_index c.loop-k.k c.loop-k-test.true).place.few)

@@ -51,7 +51,7 @@ returns-then-none_left c =
     let w = lent a.place_digits.now a.place_powers.now a.pair_digits.now a.pair_powers.now a.strands in
     let n = length a.counts.now in
     let k = c.keep_allowed.ensures in
-    let kept = c.keep_allowed.new.counts.1.1.1.1.1.0 in
+    let kept = c.keep_allowed.new.kept_counts in
     let full : length kept ≡ n - 0 = omega (arith, k.positions) in
     let again = take_at kept (drop (n - 0) (replicate {A = ℕ} 128 0)) (n - 0) full in
     let none = none-left-is k ∙ sym (rw again at c.none_left.ensures) ∙ c.if-none_left.true in
@@ -65,25 +65,24 @@ slice_bounds-free_sum-end-2 c =
 
 pub free_sum-requires : goal.free_sum-requires
 free_sum-requires c =
-    let all = let a = c.args in
+    let a = c.args in
     let r = c.requires in
     let w = lent a.place_digits.now a.place_powers.now a.pair_digits.now a.pair_powers.now a.strands in
     let n = length a.counts.now in
     let k = c.keep_allowed.ensures in
-    let kept = c.keep_allowed.new.counts.1.1.1.1.1.0 in
+    let kept = c.keep_allowed.new.kept_counts in
     let number = k.positions in
     let full : length kept ≡ n - 0 = omega arith in
     let again = take_at kept (drop (n - 0) (replicate {A = ℕ} 128 0)) (n - 0) full in
     let some = sym (rw again at c.none_left.ensures) ∙ c.if-none_left.false in
     let lists = lists_of a.numbers.now a.starts.now a.lengths.now in
     let used : InUse w 0 (allowed lists (options_in a.rows.now a.counts.now)) = used-allowed (PlaceFit 400000 (place_weight w)) (PairFit 400000 (pair_weight w)) 0 lists (options_in a.rows.now a.counts.now) r.in_use in
-    rw again
-    (omega (arith, r.counts_nonzero), (kept-searchable k r.searchable some, (rw number r.celled, rw (kept-options k r.listed.starting) used))) in record {
-      counts_nonzero = all.0;
-      searchable = all.1.0;
-      celled = all.1.1.0;
-      in_use = all.1.1.1;
-    }
+    rw again (record {
+      counts_nonzero = omega (arith, r.counts_nonzero);
+      searchable = kept-searchable k r.searchable some;
+      celled = rw number r.celled;
+      in_use = rw (kept-options k r.listed.starting) used;
+    })
 
 pub returns : goal.returns
 returns c =
@@ -92,7 +91,7 @@ returns c =
     let w = lent a.place_digits.now a.place_powers.now a.pair_digits.now a.pair_powers.now a.strands in
     let n = length a.counts.now in
     let k = c.keep_allowed.ensures in
-    let kept = c.keep_allowed.new.counts.1.1.1.1.1.0 in
+    let kept = c.keep_allowed.new.kept_counts in
     let full : length kept ≡ n - 0 = omega (arith, k.positions) in
     let again = take_at kept (drop (n - 0) (replicate {A = ℕ} 128 0)) (n - 0) full in
     rw again at c.free_sum.ensures ∙ ap (sum_of_weights w) (kept-options k r.listed.starting)

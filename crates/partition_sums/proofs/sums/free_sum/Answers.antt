@@ -163,18 +163,17 @@ slice_bounds-last_row-end-3 c =
 
 pub last_row-requires : goal.last_row-requires
 last_row-requires c =
-    let all = let a = c.args in
+    let a = c.args in
     let r = c.requires in
     let w = (lent a.place_digits.now a.place_powers.now a.pair_digits.now a.pair_powers.now a.strands) in
     let n = length a.counts.now - 1 in
     let h : n < length a.counts.now = omega (arith, r.counts_nonzero) in
     let part = part-is a.rows.now a.counts.now n (64 * n) (64 * n + c.wide.result) refl (ap (λ (z : ℕ). 64 * n + z) c.wide.ensures) in
-    rw (part, cells_are a.place_digits.now a.strands n, cells_are a.place_powers.now a.strands n)
-    (few-at r.searchable n h, (place_at w a.rows.now a.counts.now r.counts_nonzero r.searchable r.celled r.in_use n h, search rules)) in record {
-      here_len_bound = all.0;
-      by_index = all.1.0;
-      out_digits_len = all.1.1;
-    }
+    rw (part, cells_are a.place_digits.now a.strands n, cells_are a.place_powers.now a.strands n) (record {
+      here_len_bound = few-at r.searchable n h;
+      by_index = place_at w a.rows.now a.counts.now r.counts_nonzero r.searchable r.celled r.in_use n h;
+      out_digits_len = search rules;
+    })
 
 pub loop-position-init : goal.loop-position-init
 loop-position-init c =
@@ -398,7 +397,7 @@ slice_bounds-next_row-end-in-loop-position-3 c =
 
 pub next_row-requires : goal.next_row-requires
 next_row-requires c =
-    let all = let a = c.args in
+    let a = c.args in
     let r = c.requires in
     let l = c.loop-position in
     let w = (lent a.place_digits.now a.place_powers.now a.pair_digits.now a.pair_powers.now a.strands) in
@@ -411,12 +410,11 @@ next_row-requires c =
     let here = part-is a.rows.now a.counts.now i (64 * i) (64 * i + c.wide-in-loop-position.result) refl (ap (λ (z : ℕ). 64 * i + z) c.wide-in-loop-position.ensures) in
     let next : take (l.end - l.start) (drop l.start a.rows.now) ≡ options_at a.rows.now a.counts.now (i + 1) = part-is a.rows.now a.counts.now l.position l.start l.end l.invariant.1 l.invariant.2 ∙ ap (options_at a.rows.now a.counts.now) e in
     let row : Row w a.rows.now a.counts.now (i + 1) l.digits l.powers = subst (λ (z : ℕ). Row w a.rows.now a.counts.now z l.digits l.powers) e l.invariant.3 in
-    rw (here, next, cells_are a.place_digits.now a.strands i, cells_are a.place_powers.now a.strands i)
-    ((some_at r.searchable (i + 1) h', few-at r.searchable (i + 1) h', few-at r.searchable i h), (step-at w a.rows.now a.counts.now r.counts_nonzero r.searchable r.celled r.in_use i l.digits l.powers h' row, search rules)) in record {
-      next_nonzero = all.0;
-      by_index = all.1.0;
-      out_digits_len = all.1.1;
-    }
+    rw (here, next, cells_are a.place_digits.now a.strands i, cells_are a.place_powers.now a.strands i) (record {
+      next_nonzero = (some_at r.searchable (i + 1) h', few-at r.searchable (i + 1) h', few-at r.searchable i h);
+      by_index = step-at w a.rows.now a.counts.now r.counts_nonzero r.searchable r.celled r.in_use i l.digits l.powers h' row;
+      out_digits_len = search rules;
+    })
 
 pub loop-position-smaller : goal.loop-position-smaller
 loop-position-smaller c = omega (arith, c.loop-position-test.true)
@@ -468,22 +466,21 @@ slice_bounds-row_sum-end-3 c =
 
 pub row_sum-requires : goal.row_sum-requires
 row_sum-requires c =
-    let all = let a = c.args in
+    let a = c.args in
     let r = c.requires in
     let l = c.loop-position in
     let w = (lent a.place_digits.now a.place_powers.now a.pair_digits.now a.pair_powers.now a.strands) in
     let past = c.loop-position-test.false in
     let e : l.position ≡ 0 = omega arith in
     let part = part-is a.rows.now a.counts.now l.position l.start l.end l.invariant.1 l.invariant.2 in
-    rw part
-    ((some_at r.searchable l.position l.invariant.0, few-at r.searchable l.position l.invariant.0), λ k m. row-terms w a.rows.now a.counts.now r.counts_nonzero r.searchable r.celled r.in_use l.position l.digits l.powers l.invariant.0 l.invariant.3 _ (mem-get_or 0 (options_at a.rows.now a.counts.now l.position) k m)) in record {
-      options_nonzero = all.0;
-      by_index = all.1;
-    }
+    rw part (record {
+      options_nonzero = (some_at r.searchable l.position l.invariant.0, few-at r.searchable l.position l.invariant.0);
+      by_index = λ k m. row-terms w a.rows.now a.counts.now r.counts_nonzero r.searchable r.celled r.in_use l.position l.digits l.powers l.invariant.0 l.invariant.3 _ (mem-get_or 0 (options_at a.rows.now a.counts.now l.position) k m);
+    })
 
 pub lowered-requires : goal.lowered-requires
 lowered-requires c =
-    let all = let a = c.args in
+    let a = c.args in
     let r = c.requires in
     let l = c.loop-position in
     let w = (lent a.place_digits.now a.place_powers.now a.pair_digits.now a.pair_powers.now a.strands) in
@@ -491,11 +488,11 @@ lowered-requires c =
     let e : l.position ≡ 0 = omega arith in
     let whole = total w a.rows.now a.counts.now r.counts_nonzero r.searchable r.celled r.in_use l.position l.start l.end l.digits l.powers e l.invariant.1 l.invariant.2 l.invariant.3 in
     let b = sum-bounded w a.rows.now a.counts.now r.counts_nonzero r.searchable r.celled r.in_use in
-    rw (c.row_sum.ensures ∙ whole) (b.0, (b.1, (r.counts_nonzero, r.searchable.short))) in record {
-      digits_bound = all.0;
-      power_bound = all.1.0;
-      positions_nonzero = all.1.1;
-    }
+    rw (c.row_sum.ensures ∙ whole) (record {
+      digits_bound = b.0;
+      power_bound = b.1;
+      positions_nonzero = (r.counts_nonzero, r.searchable.short);
+    })
 
 pub returns : goal.returns
 returns c =

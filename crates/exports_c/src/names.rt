@@ -1,0 +1,38 @@
+// Names and the numbers of strand glues as C functions.
+
+ghost use Rattle.std.specs.Prelude.{◌≡◌, length};
+ghost use Rattle.sdc_common.specs.Lent.{names_of};
+ghost use Rattle.sdc_common.specs.Calls.{self_and_inverse, strand_glues, glues_after};
+ghost use Rattle.exports.specs.Flag.{flag};
+
+// A name's base: where it starts, its length, and whether the name stands for it or for base*.
+#[unsafe(no_mangle)]
+pub extern "C" fn mj_name(
+    text: &[u8],
+    start: usize,
+    length: usize,
+    base_start: &mut u64,
+    base_length: &mut u64,
+    is_base: &mut u64,
+) -> u32
+    ensures value { result ≡ (self_and_inverse text.now start length).number }
+    ensures base_start_after { base_start.new ≡ (self_and_inverse text.now start length).start }
+    ensures base_length_after { base_length.new ≡ (self_and_inverse text.now start length).size }
+    ensures is_base_after { is_base.new ≡ flag (self_and_inverse text.now start length).from }
+{
+    exports::names::mj_name(text, start, length, base_start, base_length, is_base)
+}
+
+// The numbers of all glues of the user strands, three for each.
+#[unsafe(no_mangle)]
+pub extern "C" fn mj_strand_glues(
+    text: &[u8],
+    users: usize,
+    strands: &[usize],
+    glues: &mut [u8],
+) -> u32
+    ensures value { result ≡ strand_glues users text.now (names_of strands.now) (length glues.old) }
+    ensures glues_after { glues.new ≡ glues_after users text.now (names_of strands.now) glues.old }
+{
+    exports::names::mj_strand_glues(text, users, strands, glues)
+}

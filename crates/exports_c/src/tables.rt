@@ -1,0 +1,124 @@
+// Tables of bonds beside a design, and the calls over them, as C functions. The two tables are lent after the ambient.
+
+ghost use Rattle.std.specs.Prelude.{◌≡◌};
+ghost use Rattle.bond_tables.specs.Answers.{fill_answer, filled_strands, filled_scaffold, energy_over_answer, count_over_answer, rank_over_answer, rank_over_entries, search_over_answer, search_over_entries};
+ghost use Rattle.exports.specs.Lent.{lent_at};
+ghost use Rattle.exports.specs.Tables.{LowestToldOver};
+ghost use Rattle.exports.specs.Told.{Told};
+
+// Fills both tables with the bonds of a design.
+#[unsafe(no_mangle)]
+pub extern "C" fn mj_bond_tables(
+    scaffold: &[u8],
+    marks: &[u8],
+    glues: &[u8],
+    dg: &[f64],
+    ds: &[f64],
+    potentials: &[f64],
+    rt: f64,
+    strand_excess: f64,
+    scaffold_excess: f64,
+    strand_bonds: &mut [f64],
+    scaffold_bonds: &mut [f64],
+    place: &mut u64,
+) -> u32
+    ensures told { Told (fill_answer (lent_at scaffold.entry marks.entry glues.entry dg.entry ds.entry potentials.entry rt strand_excess scaffold_excess) strand_bonds.old scaffold_bonds.old) result place.new tt }
+    ensures strand_bonds_after { strand_bonds.new ≡ filled_strands (lent_at scaffold.entry marks.entry glues.entry dg.entry ds.entry potentials.entry rt strand_excess scaffold_excess) strand_bonds.old scaffold_bonds.old }
+    ensures scaffold_bonds_after { scaffold_bonds.new ≡ filled_scaffold (lent_at scaffold.entry marks.entry glues.entry dg.entry ds.entry potentials.entry rt strand_excess scaffold_excess) strand_bonds.old scaffold_bonds.old }
+{
+    exports::tables::mj_bond_tables(scaffold, marks, glues, dg, ds, potentials, rt, strand_excess, scaffold_excess, strand_bonds, scaffold_bonds, place)
+}
+
+// The state energy of a configuration over lent bonds.
+#[unsafe(no_mangle)]
+pub extern "C" fn mj_state_energy_over(
+    scaffold: &[u8],
+    marks: &[u8],
+    glues: &[u8],
+    dg: &[f64],
+    ds: &[f64],
+    potentials: &[f64],
+    rt: f64,
+    strand_excess: f64,
+    scaffold_excess: f64,
+    strand_bonds: &[f64],
+    scaffold_bonds: &[f64],
+    configuration: &[u8],
+    place: &mut u64,
+    energy: &mut f64,
+) -> u32
+    ensures { Told (energy_over_answer (lent_at scaffold.entry marks.entry glues.entry dg.entry ds.entry potentials.entry rt strand_excess scaffold_excess) strand_bonds.now scaffold_bonds.now configuration.now) result place.new energy.new }
+{
+    exports::tables::mj_state_energy_over(scaffold, marks, glues, dg, ds, potentials, rt, strand_excess, scaffold_excess, strand_bonds, scaffold_bonds, configuration, place, energy)
+}
+
+// How many states there are.
+#[unsafe(no_mangle)]
+pub extern "C" fn mj_states_over(
+    scaffold: &[u8],
+    marks: &[u8],
+    glues: &[u8],
+    dg: &[f64],
+    ds: &[f64],
+    potentials: &[f64],
+    rt: f64,
+    strand_excess: f64,
+    scaffold_excess: f64,
+    strand_bonds: &[f64],
+    scaffold_bonds: &[f64],
+    place: &mut u64,
+    count: &mut u64,
+) -> u32
+    ensures { Told (count_over_answer (lent_at scaffold.entry marks.entry glues.entry dg.entry ds.entry potentials.entry rt strand_excess scaffold_excess) strand_bonds.now scaffold_bonds.now) result place.new count.new }
+{
+    exports::tables::mj_states_over(scaffold, marks, glues, dg, ds, potentials, rt, strand_excess, scaffold_excess, strand_bonds, scaffold_bonds, place, count)
+}
+
+// The state at a rank, into one lent entry for each position.
+#[unsafe(no_mangle)]
+pub extern "C" fn mj_state_over(
+    scaffold: &[u8],
+    marks: &[u8],
+    glues: &[u8],
+    dg: &[f64],
+    ds: &[f64],
+    potentials: &[f64],
+    rt: f64,
+    strand_excess: f64,
+    scaffold_excess: f64,
+    strand_bonds: &[f64],
+    scaffold_bonds: &[f64],
+    rank: u64,
+    entries: &mut [u8],
+    place: &mut u64,
+) -> u32
+    ensures told { Told (rank_over_answer (lent_at scaffold.entry marks.entry glues.entry dg.entry ds.entry potentials.entry rt strand_excess scaffold_excess) strand_bonds.now scaffold_bonds.now rank entries.old) result place.new tt }
+    ensures entries_after { entries.new ≡ rank_over_entries (lent_at scaffold.entry marks.entry glues.entry dg.entry ds.entry potentials.entry rt strand_excess scaffold_excess) strand_bonds.now scaffold_bonds.now rank entries.old }
+{
+    exports::tables::mj_state_over(scaffold, marks, glues, dg, ds, potentials, rt, strand_excess, scaffold_excess, strand_bonds, scaffold_bonds, rank, entries, place)
+}
+
+// The lowest configuration over lent bonds, into one lent entry for each position, and its energy.
+#[unsafe(no_mangle)]
+pub extern "C" fn mj_search_over(
+    scaffold: &[u8],
+    marks: &[u8],
+    glues: &[u8],
+    dg: &[f64],
+    ds: &[f64],
+    potentials: &[f64],
+    rt: f64,
+    strand_excess: f64,
+    scaffold_excess: f64,
+    strand_bonds: &[f64],
+    scaffold_bonds: &[f64],
+    configuration: &mut [u8],
+    place: &mut u64,
+    energy: &mut f64,
+) -> u32
+    ensures told { Told (search_over_answer (lent_at scaffold.entry marks.entry glues.entry dg.entry ds.entry potentials.entry rt strand_excess scaffold_excess) strand_bonds.now scaffold_bonds.now configuration.old) result place.new energy.new }
+    ensures configuration_after { configuration.new ≡ search_over_entries (lent_at scaffold.entry marks.entry glues.entry dg.entry ds.entry potentials.entry rt strand_excess scaffold_excess) strand_bonds.now scaffold_bonds.now configuration.old }
+    ensures lowest_told_over { LowestToldOver (lent_at scaffold.entry marks.entry glues.entry dg.entry ds.entry potentials.entry rt strand_excess scaffold_excess) strand_bonds.now scaffold_bonds.now result configuration.new energy.new }
+{
+    exports::tables::mj_search_over(scaffold, marks, glues, dg, ds, potentials, rt, strand_excess, scaffold_excess, strand_bonds, scaffold_bonds, configuration, place, energy)
+}
