@@ -1,21 +1,19 @@
 -- The pass with one first occupant, as the loop over the later positions begins and ends. Assumes nothing.
 use mathlib.Core.Path.{◌≡◌, refl, sym, ap, ◌∙◌, subst}
 use mathlib.Core.Logic.{◌⊎◌, inl, inr}
-use mathlib.Core.Bool.{Bool, true, false, cond, ◌||◌}
+use mathlib.Core.Bool.{Bool, true, false, cond}
 use mathlib.Core.List.Memᴰ
 use mathlib.Core.List.{List, [], ◌∷◌, Memᴰ}
-use Prim.Native.Nat.{ℕ, zero, suc, ◌+◌, ◌-◌, ◌*◌, ◌<◌, ◌≤◌}
+use Prim.Native.Nat.{ℕ, zero, suc, ◌+◌, ◌*◌, ◌<◌, ◌≤◌}
 use native.Mathlib.Nat.{not-suc-le-zero, zero-mul, suc-mul, mul-le-mul, zero-add, add-sub_cancel_left}
-use native.Mathlib.Numerals.{add-one}
 use native.Mathlib.Decide.{ℕ_discrete}
 use native.Mathlib.Omega.{arith}
 use lib.Dec.{eqb}
-use lib.ListN.{length, get_or, take, drop, replicate, length-take, length-drop}
+use lib.ListN.{length, get_or, replicate, length-take, length-drop}
 use lib.Seq.{drop-cons}
-use lib.Ieee.{Float, binary64, add, mul, nan}
+use lib.Ieee.{Float, binary64, mul, nan}
 use borrow.Author.Tests.{eq-eqb, ne_eqb}
-use Rattle.doubles.specs.Decimal as Decimal
-use Rattle.doubles.specs.Least.{pick, first_least}
+use Rattle.doubles.specs.Least.{first_least}
 use Rattle.lists.proofs.Places.{mem-get_or}
 use Rattle.model.specs.Model as Model
 use Rattle.model.specs.Model.{Model, Friend}
@@ -25,7 +23,7 @@ use Rattle.model.proofs.Search.{own, some-option}
 use Rattle.ensemble.specs.declared.attach.Attached.{Attached}
 use Rattle.ensemble.specs.Layout.{Searchable, OptionRows, BondCells}
 use Rattle.ensemble.specs.Ring.{ClosingCells}
-use Rattle.ensemble.specs.inner.Entries.{Chosen, Known, table_bond, Energies, choice_in, traced_back}
+use Rattle.ensemble.specs.inner.Entries.{Chosen, Known, table_bond, choice_in, traced_back}
 use Rattle.ensemble.specs.inner.Ring.{closed_in, first_entry, FoundFrom}
 use Rattle.ensemble.proofs.Vector.{Left}
 use Rattle.ensemble.proofs.Lent.{part}

@@ -1,9 +1,8 @@
 use mathlib.Core.Path.{◌≡◌, sym, ◌∙◌}
-use Prim.Native.Nat.{◌≤◌, ◌<◌, ◌-◌}
+use Prim.Native.Nat.{◌<◌}
 use native.Mathlib.Omega.{arith}
 use lib.ListN.{length}
-use borrow.Author.Rules.{rules}
-use Rattle.ensemble.specs.inner.Entries.{table_bond, Attachments}
+use Rattle.ensemble.specs.inner.Entries.{table_bond}
 use Rattle.ensemble.proofs.Attachments.{attach-none, attach-more}
 use Rattle.ensemble.proofs.attach.attach_each.Goals as goal
 

@@ -1,11 +1,7 @@
 -- The left choices of a position's friends, each on its own, meet their contract. The invariant: the first k friends have theirs. Assumes nothing.
-use mathlib.Core.Path.{◌≡◌, sym, ◌∙◌}
-use Prim.Native.Nat.{◌≤◌, ◌<◌, ◌-◌}
-use native.Mathlib.Omega.{arith}
+use Prim.Native.Nat.{◌≤◌, ◌-◌}
 use lib.ListN.{length}
-use borrow.Author.Rules.{rules}
 use Rattle.ensemble.specs.inner.Entries.{table_bond, Attachments}
-use Rattle.ensemble.proofs.Attachments.{attach-none, attach-more}
 use Rattle.ensemble.proofs.attach.attach_each.Given as goal
 
 abbrev pub invariant-loop-k : goal.invariant-loop-k

@@ -1,13 +1,10 @@
 -- An empty place's left choice meets its contract. The invariant: of the strands before k, the one kept, with its energy. Assumes nothing.
-use mathlib.Core.Path.{◌≡◌, sym, ap, ◌∙◌}
-use mathlib.Core.Logic.{inl, inr}
+use mathlib.Core.Path.{◌≡◌}
 use Prim.Native.Nat.{ℕ, ◌≤◌, ◌<◌, ◌-◌}
-use native.Mathlib.Omega.{arith}
 use lib.ListN.{length, get_or}
-use lib.Ieee.{Float, nan, of_bits}
-use borrow.Author.Rules.{rules}
+use lib.Ieee.{Float, nan}
 use Rattle.doubles.specs.Least.{or_later}
-use Rattle.ensemble.proofs.Choosing.{Kept, kept-first, kept_more, kept-chosen, none-chosen, later-stays, later-moves}
+use Rattle.ensemble.proofs.Choosing.{Kept}
 use Rattle.ensemble.proofs.attach.best_energy_for_empty.Given as goal
 
 abbrev pub invariant-loop-k : goal.invariant-loop-k

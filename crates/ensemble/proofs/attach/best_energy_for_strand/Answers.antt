@@ -1,29 +1,26 @@
 use mathlib.Core.Path.{sym, ap, ◌∙◌}
-use mathlib.Core.Logic.{inl, inr}
-use Prim.Native.Nat.{ℕ, ◌≤◌, ◌<◌, ◌-◌}
+use Prim.Native.Nat.{◌<◌}
 use native.Mathlib.Omega.{arith}
 use lib.ListN.{length, get_or}
-use lib.Ieee.{Float, nan, binary64, add, of_bits}
-use borrow.Author.Rules.{rules}
+use lib.Ieee.{nan, binary64, add, of_bits}
 use Rattle.doubles.specs.Least.{or_later}
-use Rattle.ensemble.specs.inner.Entries.{table_bond, Keys}
-use Rattle.ensemble.proofs.Choosing.{Kept, kept-first, kept_more, kept-chosen, none-chosen, later-stays, later-moves}
+use Rattle.ensemble.proofs.Choosing.{kept-first, kept_more, kept-chosen, none-chosen, later-stays, later-moves}
 use Rattle.ensemble.proofs.attach.best_energy_for_strand.Goals as goal
 
 pub returns-then-left-eq0 : goal.returns-then-left-eq0
 unfolding of_bits
 returns-then-left-eq0 c = record {
-      by_index = λ key keys. none-chosen (or_later key) key _ c.if-left-eq0.true;
-      strand_lt_strands = omega arith;
-    }
+  by_index = λ key keys. none-chosen (or_later key) key _ c.if-left-eq0.true;
+  strand_lt_strands = omega arith;
+}
 
 pub strand_bond_at-requires : goal.strand_bond_at-requires
 strand_bond_at-requires c =
-    let all = let p = c.requires in (p.known 0 (omega arith), p.1.1) in record {
-      left_lt_strands = all.0;
-      right_lt_strands = all.1.0;
-      strands_bound = all.1.1.0;
-      strands_in_bounds = all.1.1.1;
+    let p = c.requires in record {
+      left_lt_strands = p.known 0 (omega arith);
+      right_lt_strands = p.right_lt_strands;
+      strands_bound = p.strands_bound;
+      strands_in_bounds = p.strands_in_bounds;
     }
 
 pub loop-k-init : goal.loop-k-init
@@ -37,11 +34,11 @@ loop-k-init c =
 
 pub strand_bond_at-requires-in-loop-k : goal.strand_bond_at-requires-in-loop-k
 strand_bond_at-requires-in-loop-k c =
-    let all = let p = c.requires in (p.known c.loop-k.k (omega arith), p.1.1) in record {
-      left_lt_strands = all.0;
-      right_lt_strands = all.1.0;
-      strands_bound = all.1.1.0;
-      strands_in_bounds = all.1.1.1;
+    let p = c.requires in record {
+      left_lt_strands = p.known c.loop-k.k (omega arith);
+      right_lt_strands = p.right_lt_strands;
+      strands_bound = p.strands_bound;
+      strands_in_bounds = p.strands_in_bounds;
     }
 
 pub loop-k-preserved : goal.loop-k-preserved
@@ -50,18 +47,18 @@ loop-k-preserved c =
     let inside : l.k < length c.args.left.now = c.loop-k-test.true in (
       omega arith,
       omega arith,
-      elim c.if-energy-nenergy.branch [ inl u ↦ rw u.1 l.invariant.2 | inr u ↦ rw u.1 (c.requires.known l.k inside) ],
+      elim c.if-energy-nenergy.branch [ goal.then-energy-nenergy u ↦ rw u.strand-is l.invariant.2 | goal.else-energy-nenergy u ↦ rw u.strand-is (c.requires.known l.k inside) ],
       λ key keys.
           let w = l.invariant.3 key keys in
           let new = ap (add binary64 (get_or c.args.energies.now l.k nan)) c.strand_bond_at-in-loop-k.ensures ∙ keys l.k inside in
           elim c.if-energy-nenergy.branch [
-            | inl u ↦ kept_more w inside (u.1 ∙ later-stays key w.energy-is new u.0.taken) (u.2 ∙ w.energy-is ∙ ap key (sym u.1))
-            | inr u ↦ kept_more w inside (u.1 ∙ later-moves key w.energy-is new u.0.left) (u.2 ∙ new ∙ ap key (sym u.1))
+            | goal.then-energy-nenergy u ↦ kept_more w inside (u.strand-is ∙ later-stays key w.energy-is new u.if-energy-nenergy.true) (u.energy-is ∙ w.energy-is ∙ ap key (sym u.strand-is))
+            | goal.else-energy-nenergy u ↦ kept_more w inside (u.strand-is ∙ later-moves key w.energy-is new u.if-energy-nenergy.false) (u.energy-is ∙ new ∙ ap key (sym u.strand-is))
           ],
     )
 
 pub returns : goal.returns
 returns c = record {
-      by_index = λ key keys. kept-chosen (c.loop-k.invariant.3 key keys) c.loop-k-test.false (omega arith);
-      strand_lt_strands = c.loop-k.invariant.2;
-    }
+  by_index = λ key keys. kept-chosen (c.loop-k.invariant.3 key keys) c.loop-k-test.false (omega arith);
+  strand_lt_strands = c.loop-k.invariant.2;
+}

@@ -3,7 +3,6 @@ use mathlib.Core.Path.{ap}
 use Prim.Native.Nat.{ℕ, ◌<◌}
 use native.Mathlib.Nat.{mul-le-mul}
 use native.Mathlib.Omega.{arith}
-use borrow.Author.Rules.{rules}
 use Rattle.lists.proofs.Grid.{cell_in}
 use Rattle.ensemble.specs.inner.Entries.{table_bond}
 use Rattle.ensemble.proofs.bonds.strand_bond_at.Goals as goal

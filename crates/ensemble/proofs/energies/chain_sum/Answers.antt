@@ -1,14 +1,11 @@
-use borrow.Author.Rules.{rules}
-use mathlib.Core.Path.{◌≡◌, refl, sym, ap, ◌∙◌}
-use Prim.Native.Nat.{◌≤◌, ◌+◌, ◌-◌}
+use mathlib.Core.Path.{refl, sym, ap, ◌∙◌}
+use Prim.Native.Nat.{◌+◌}
 use native.Mathlib.Omega.{arith}
-use lib.ListN.{length, drop}
+use lib.ListN.{drop}
 use lib.Ieee.{Float, of_bits}
 use Rattle.doubles.specs.Sum.{sum_from}
-use Rattle.model.specs.Model.{Model}
 use Rattle.model.specs.Energy.{left_of, chain_terms, chain_energy}
 use Rattle.model.proofs.Sums.{chain_more, chain-done}
-use Rattle.ensemble.specs.Layout.{PlaceTerms}
 use Rattle.ensemble.proofs.energies.chain_sum.Goals as goal
 
 pub loop-position-init : goal.loop-position-init

@@ -1,14 +1,10 @@
 -- The chain sum meets its contract. The invariant: the terms of the places left, added to the sum, give the whole. Assumes nothing.
-use borrow.Author.Rules.{rules}
-use mathlib.Core.Path.{◌≡◌, refl, sym, ap, ◌∙◌}
-use Prim.Native.Nat.{◌≤◌, ◌+◌, ◌-◌}
-use native.Mathlib.Omega.{arith}
+use mathlib.Core.Path.{◌≡◌}
+use Prim.Native.Nat.{◌≤◌, ◌-◌}
 use lib.ListN.{length, drop}
-use lib.Ieee.{Float, of_bits}
 use Rattle.doubles.specs.Sum.{sum_from}
 use Rattle.model.specs.Model.{Model}
 use Rattle.model.specs.Energy.{left_of, chain_terms, chain_energy}
-use Rattle.model.proofs.Sums.{chain_more, chain-done}
 use Rattle.ensemble.specs.Layout.{PlaceTerms}
 use Rattle.ensemble.proofs.energies.chain_sum.Given as goal
 

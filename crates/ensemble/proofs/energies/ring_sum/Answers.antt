@@ -1,8 +1,6 @@
 -- The ring's sum meets its contract: the chain's sum, closed where both ends are occupied. Assumes nothing.
-use mathlib.Core.Path.{ap, ap₂, ◌∙◌}
-use native.Mathlib.Omega.{arith}
+use mathlib.Core.Path.{ap₂}
 use lib.Ieee.{add, binary64}
-use borrow.Author.Rules.{rules}
 use borrow.Author.Tests.{eq-eqb, ne_eqb}
 use Rattle.ensemble.proofs.energies.ring_sum.Goals as goal
 

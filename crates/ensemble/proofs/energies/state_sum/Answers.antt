@@ -1,15 +1,11 @@
-use borrow.Author.Rules.{rules}
-use mathlib.Core.Path.{◌≡◌, refl, sym, ap, ◌∙◌}
-use Prim.Native.Nat.{◌≤◌, ◌+◌, ◌-◌}
+use mathlib.Core.Path.{refl, sym, ap, ◌∙◌}
+use Prim.Native.Nat.{◌+◌}
 use native.Mathlib.Omega.{arith}
-use lib.ListN.{length, drop}
+use lib.ListN.{drop}
 use lib.Ieee.{Float, of_bits}
-use Rattle.doubles.specs.Decimal.{zero}
 use Rattle.doubles.specs.Sum.{sum_from}
-use Rattle.model.specs.Model.{Model}
 use Rattle.model.specs.Energy.{state_terms}
 use Rattle.model.proofs.Sums.{state-more, state-done}
-use Rattle.ensemble.specs.Layout.{PlaceTerms}
 use Rattle.ensemble.proofs.energies.state_sum.Goals as goal
 
 pub loop-id-init : goal.loop-id-init

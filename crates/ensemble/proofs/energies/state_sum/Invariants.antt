@@ -1,15 +1,11 @@
 -- The state sum meets its contract. The invariant: the terms of the places left, added to the sum, give the whole. Assumes nothing.
-use borrow.Author.Rules.{rules}
-use mathlib.Core.Path.{◌≡◌, refl, sym, ap, ◌∙◌}
-use Prim.Native.Nat.{◌≤◌, ◌+◌, ◌-◌}
-use native.Mathlib.Omega.{arith}
+use mathlib.Core.Path.{◌≡◌}
+use Prim.Native.Nat.{◌≤◌, ◌-◌}
 use lib.ListN.{length, drop}
-use lib.Ieee.{Float, of_bits}
 use Rattle.doubles.specs.Decimal.{zero}
 use Rattle.doubles.specs.Sum.{sum_from}
 use Rattle.model.specs.Model.{Model}
 use Rattle.model.specs.Energy.{state_terms}
-use Rattle.model.proofs.Sums.{state-more, state-done}
 use Rattle.ensemble.specs.Layout.{PlaceTerms}
 use Rattle.ensemble.proofs.energies.state_sum.Given as goal
 

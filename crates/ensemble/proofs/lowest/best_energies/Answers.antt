@@ -1,5 +1,4 @@
 -- The left choices of a position's friends meet their contract, whichever way they are found. Assumes nothing.
-use borrow.Author.Rules.{rules}
 use Rattle.ensemble.proofs.lowest.best_energies.Goals as goal
 
 pub attach_all-requires : goal.attach_all-requires

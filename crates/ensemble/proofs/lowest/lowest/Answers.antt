@@ -1,17 +1,13 @@
 use mathlib.Core.Path.{◌≡◌, refl, sym, ap, ◌∙◌}
-use Prim.Native.Nat.{ℕ, ◌≤◌, ◌<◌, ◌+◌, ◌-◌, ◌*◌}
+use Prim.Native.Nat.{ℕ, ◌<◌, ◌+◌, ◌-◌, ◌*◌}
 use native.Mathlib.Nat.{not-suc-le-zero}
 use native.Mathlib.Omega.{arith}
 use lib.ListN.{length, length-set}
 use borrow.Author.Count.{below_none}
-use borrow.Author.Rules.{rules}
-use Rattle.model.specs.Model.{Model, positions}
-use Rattle.model.specs.Search.{options_at}
-use Rattle.ensemble.specs.Layout.{OptionRows, BondCells}
-use Rattle.ensemble.specs.inner.Entries.{Known, choice_in, LowTable, traced_back}
-use Rattle.ensemble.proofs.Vector.{Left}
-use Rattle.ensemble.proofs.Lent.{part, bounds, known-friends, known-options, friends-length, friends-part, options-part, part_length, row_in, row-length, row_at, table-zeros, table-low, Wide, wide-zeros, wide-more}
-use Rattle.ensemble.proofs.Positions.{Table, own-options, left-more, table_more, found}
+use Rattle.model.specs.Model.{positions}
+use Rattle.ensemble.specs.inner.Entries.{choice_in, traced_back}
+use Rattle.ensemble.proofs.Lent.{part, bounds, known-friends, known-options, friends-length, friends-part, options-part, part_length, row_in, row-length, row_at, table-zeros, table-low, wide-zeros, wide-more}
+use Rattle.ensemble.proofs.Positions.{own-options, left-more, table_more, found}
 use Rattle.ensemble.proofs.lowest.lowest.Goals as goal
 
 pub loop-position-init : goal.loop-position-init
@@ -267,10 +263,10 @@ loop-position-preserved c =
     let friends = part a.rows.now (64 * i) (64 * i + count - 1) in
     let sites = part a.scaffold_bonds.now (i * length a.potentials.now) (i * length a.potentials.now + length a.potentials.now) in
     let att = c.best_energies.ensures in
-    let best = c.best_energies.new.energies.1.1.1.1.0 in
-    let row = c.best_energies.new.energies.1.1.1.1.1.0 in
+    let best = c.best_energies.new.best in
+    let row = c.best_energies.new.choice in
     let none = c.best_energy_for_empty-attached in
-    let next = c.mfe_next_vector.new.potentials.1.1.1.0 in
+    let next = c.mfe_next_vector.new.energies in
     let inv = l.invariant in
     let sized : length next ≡ 64 = c.mfe_next_vector.ensures.energies_len_unchanged ∙ inv.3 in
     let number = friends-length z i here count is in
@@ -348,6 +344,6 @@ returns c = λ m o b e.
     let all : l.position ≡ length a.counts.now = omega arith in
     let kept = l.invariant.11 m o b in
     let low = c.lowest_product-last in
-    found l.choice l.empty (part a.rows.now l.start l.end) l.energies a.rt.0 low.result c.trace.new.1.1.1.0 e low.ensures.by_index
+    found l.choice l.empty (part a.rows.now l.start l.end) l.energies a.rt.0 low.result c.trace.new.configuration e low.ensures.by_index
     l.position (all ∙ o.positions) kept.0 kept.1
     (c.trace.ensures ∙ ap (λ (n : ℕ). traced_back (choice_in l.choice l.empty) n low.result.strand) (c.requires.configuration_len ∙ sym all))

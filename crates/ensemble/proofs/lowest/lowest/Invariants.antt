@@ -1,18 +1,14 @@
 -- The search meets its contract. The invariant: the entries of the last position passed, and the left choices of all. Assumes nothing.
-use mathlib.Core.Path.{◌≡◌, refl, sym, ap, ◌∙◌}
-use Prim.Native.Nat.{ℕ, ◌≤◌, ◌<◌, ◌+◌, ◌-◌, ◌*◌}
-use native.Mathlib.Nat.{not-suc-le-zero}
-use native.Mathlib.Omega.{arith}
-use lib.ListN.{length, length-set}
-use borrow.Author.Count.{below_none}
-use borrow.Author.Rules.{rules}
-use Rattle.model.specs.Model.{Model, positions}
+use mathlib.Core.Path.{◌≡◌}
+use Prim.Native.Nat.{◌≤◌, ◌+◌, ◌-◌}
+use lib.ListN.{length}
+use Rattle.model.specs.Model.{Model}
 use Rattle.model.specs.Search.{options_at}
 use Rattle.ensemble.specs.Layout.{OptionRows, BondCells}
-use Rattle.ensemble.specs.inner.Entries.{Known, choice_in, LowTable, traced_back}
+use Rattle.ensemble.specs.inner.Entries.{Known, LowTable}
 use Rattle.ensemble.proofs.Vector.{Left}
-use Rattle.ensemble.proofs.Lent.{part, bounds, known-friends, known-options, friends-length, friends-part, options-part, part_length, row_in, row-length, row_at, table-zeros, table-low, Wide, wide-zeros, wide-more}
-use Rattle.ensemble.proofs.Positions.{Table, own-options, left-more, table_more, found}
+use Rattle.ensemble.proofs.Lent.{part, Wide}
+use Rattle.ensemble.proofs.Positions.{Table}
 use Rattle.ensemble.proofs.lowest.lowest.Given as goal
 
 abbrev pub invariant-loop-position : goal.invariant-loop-position

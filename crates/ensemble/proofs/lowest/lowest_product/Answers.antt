@@ -1,20 +1,18 @@
-use mathlib.Core.Path.{◌≡◌, sym, ap, ◌∙◌}
-use mathlib.Core.Logic.{inl, inr}
-use Prim.Native.Nat.{ℕ, ◌≤◌, ◌<◌, ◌-◌}
+use mathlib.Core.Path.{sym, ap, ◌∙◌}
+use Prim.Native.Nat.{◌<◌}
 use native.Mathlib.Omega.{arith}
-use lib.ListN.{length, get_or}
-use lib.Ieee.{Float, nan, binary64, mul, of_bits}
-use borrow.Author.Rules.{rules}
+use lib.ListN.{length}
+use lib.Ieee.{of_bits}
 use Rattle.doubles.specs.Least.{or_earlier}
-use Rattle.ensemble.proofs.Choosing.{Kept, kept-first, kept_more, kept-chosen, none-chosen, earlier-stays, earlier-moves}
+use Rattle.ensemble.proofs.Choosing.{kept-first, kept_more, kept-chosen, none-chosen, earlier-stays, earlier-moves}
 use Rattle.ensemble.proofs.lowest.lowest_product.Goals as goal
 
 pub returns-then-last-eq0 : goal.returns-then-last-eq0
 unfolding of_bits
 returns-then-last-eq0 c = record {
-      by_index = λ key keys. none-chosen (or_earlier key) key _ c.if-last-eq0.true;
-      strand_bound = omega arith;
-    }
+  by_index = λ key keys. none-chosen (or_earlier key) key _ c.if-last-eq0.true;
+  strand_bound = omega arith;
+}
 
 pub loop-k-init : goal.loop-k-init
 loop-k-init c =
@@ -31,18 +29,18 @@ loop-k-preserved c =
     let inside : l.k < length c.args.last.now = c.loop-k-test.true in (
       omega arith,
       omega arith,
-      elim c.if-product-energy.branch [ inl u ↦ rw u.1 (c.requires.known l.k inside) | inr u ↦ rw u.1 l.invariant.2 ],
+      elim c.if-product-energy.branch [ goal.then-product-energy u ↦ rw u.strand-is (c.requires.known l.k inside) | goal.else-product-energy u ↦ rw u.strand-is l.invariant.2 ],
       λ key keys.
           let w = l.invariant.3 key keys in
           let new = keys l.k inside in
           elim c.if-product-energy.branch [
-            | inl u ↦ kept_more w inside (u.1 ∙ earlier-moves key w.energy-is new u.0.taken) (u.2 ∙ new ∙ ap key (sym u.1))
-            | inr u ↦ kept_more w inside (u.1 ∙ earlier-stays key w.energy-is new u.0.left) (u.2 ∙ w.energy-is ∙ ap key (sym u.1))
+            | goal.then-product-energy u ↦ kept_more w inside (u.strand-is ∙ earlier-moves key w.energy-is new u.if-product-energy.true) (u.energy-is ∙ new ∙ ap key (sym u.strand-is))
+            | goal.else-product-energy u ↦ kept_more w inside (u.strand-is ∙ earlier-stays key w.energy-is new u.if-product-energy.false) (u.energy-is ∙ w.energy-is ∙ ap key (sym u.strand-is))
           ],
     )
 
 pub returns : goal.returns
 returns c = record {
-      by_index = λ key keys. kept-chosen (c.loop-k.invariant.3 key keys) c.loop-k-test.false (omega arith);
-      strand_bound = c.loop-k.invariant.2;
-    }
+  by_index = λ key keys. kept-chosen (c.loop-k.invariant.3 key keys) c.loop-k-test.false (omega arith);
+  strand_bound = c.loop-k.invariant.2;
+}

@@ -1,13 +1,10 @@
 -- The choice at the last position meets its contract. The invariant: of the strands before k, the one kept, with its product. Assumes nothing.
-use mathlib.Core.Path.{◌≡◌, sym, ap, ◌∙◌}
-use mathlib.Core.Logic.{inl, inr}
+use mathlib.Core.Path.{◌≡◌}
 use Prim.Native.Nat.{ℕ, ◌≤◌, ◌<◌, ◌-◌}
-use native.Mathlib.Omega.{arith}
 use lib.ListN.{length, get_or}
-use lib.Ieee.{Float, nan, binary64, mul, of_bits}
-use borrow.Author.Rules.{rules}
+use lib.Ieee.{Float, nan, binary64, mul}
 use Rattle.doubles.specs.Least.{or_earlier}
-use Rattle.ensemble.proofs.Choosing.{Kept, kept-first, kept_more, kept-chosen, none-chosen, earlier-stays, earlier-moves}
+use Rattle.ensemble.proofs.Choosing.{Kept}
 use Rattle.ensemble.proofs.lowest.lowest_product.Given as goal
 
 abbrev pub invariant-loop-k : goal.invariant-loop-k

@@ -1,10 +1,9 @@
 use mathlib.Core.Path.{◌≡◌, refl, ap, ◌∙◌}
-use Prim.Native.Nat.{◌≤◌, ◌<◌, ◌-◌}
+use Prim.Native.Nat.{◌<◌}
 use native.Mathlib.Omega.{arith}
 use lib.ListN.{length, length-set}
-use borrow.Author.Rules.{rules}
 use borrow.Author.Count.{below_none}
-use Rattle.ensemble.specs.inner.Entries.{settled_of, Energies}
+use Rattle.ensemble.specs.inner.Entries.{settled_of}
 use Rattle.ensemble.proofs.Vector.{energies-more}
 use Rattle.ensemble.proofs.lowest.mfe_next_vector.Goals as goal
 

@@ -1,12 +1,8 @@
 -- The energies of a position's friends meet their contract. The invariant: the first k friends have theirs. Assumes nothing.
-use mathlib.Core.Path.{◌≡◌, refl, ap, ◌∙◌}
-use Prim.Native.Nat.{◌≤◌, ◌<◌, ◌-◌}
-use native.Mathlib.Omega.{arith}
-use lib.ListN.{length, length-set}
-use borrow.Author.Rules.{rules}
-use borrow.Author.Count.{below_none}
+use mathlib.Core.Path.{◌≡◌}
+use Prim.Native.Nat.{◌≤◌, ◌-◌}
+use lib.ListN.{length}
 use Rattle.ensemble.specs.inner.Entries.{settled_of, Energies}
-use Rattle.ensemble.proofs.Vector.{energies-more}
 use Rattle.ensemble.proofs.lowest.mfe_next_vector.Given as goal
 
 abbrev pub invariant-loop-k : goal.invariant-loop-k

@@ -1,14 +1,9 @@
 -- The tracing back meets its contract. The invariant: what is still to be traced, before what is written, is the whole configuration. Assumes nothing.
-use mathlib.Core.Path.{◌≡◌, refl, sym, ap, ◌∙◌}
-use mathlib.Core.List.{[]}
-use Prim.Native.Nat.{ℕ, ◌≤◌, ◌<◌, ◌-◌}
-use native.Mathlib.Omega.{arith}
-use lib.ListN.{length, get_or, length-set}
-use borrow.Author.Rules.{rules}
-use borrow.Author.Tests.{eq-eqb, ne_eqb}
-use Rattle.model.specs.Search.{traced}
+use mathlib.Core.Path.{◌≡◌}
+use Prim.Native.Nat.{◌≤◌, ◌<◌}
+use lib.ListN.{length}
 use Rattle.ensemble.specs.inner.Entries.{choice_in, LowTable}
-use Rattle.ensemble.proofs.Rest.{Rest, rest-first, rest_more}
+use Rattle.ensemble.proofs.Rest.{Rest}
 use Rattle.ensemble.proofs.lowest.trace.Given as goal
 
 abbrev pub invariant-loop-position : goal.invariant-loop-position

@@ -1,8 +1,6 @@
 -- The closing of a ring meets its contract. Assumes nothing.
 use mathlib.Core.Path.{ap, ◌∙◌}
-use Prim.Native.Nat.{ℕ}
 use lib.Ieee.{add, binary64}
-use borrow.Author.Rules.{rules}
 use borrow.Author.Tests.{eq-eqb, ne_eqb}
 use Rattle.ensemble.specs.inner.Entries.{table_bond}
 use Rattle.ensemble.proofs.rings.closed.Goals as goal

@@ -1,8 +1,5 @@
 -- The energy of a first occupant's entry meets its contract. Assumes nothing.
-use mathlib.Core.Path.{ap, ◌∙◌}
-use Prim.Native.Nat.{ℕ}
 use lib.Ieee.{of_bits}
-use borrow.Author.Rules.{rules}
 use borrow.Author.Tests.{eq-eqb, ne_eqb}
 use Rattle.ensemble.proofs.rings.first_entry.Goals as goal
 

@@ -1,15 +1,12 @@
 -- The choice at the last position of a ring meets its contract. The invariant: of the strands before k, the one kept, with its product. Assumes nothing.
-use mathlib.Core.Path.{◌≡◌, sym, ap, ◌∙◌}
-use mathlib.Core.Logic.{inl, inr}
+use mathlib.Core.Path.{◌≡◌}
 use Prim.Native.Nat.{ℕ, ◌≤◌, ◌<◌, ◌-◌}
-use native.Mathlib.Omega.{arith}
 use lib.ListN.{length, get_or}
 use lib.Ieee.{Float, nan, binary64, mul}
-use borrow.Author.Rules.{rules}
 use Rattle.doubles.specs.Least.{or_earlier}
 use Rattle.ensemble.specs.inner.Entries.{table_bond}
 use Rattle.ensemble.specs.inner.Ring.{closed_in}
-use Rattle.ensemble.proofs.Choosing.{Kept, kept-first, kept_more, kept-chosen, earlier-stays, earlier-moves}
+use Rattle.ensemble.proofs.Choosing.{Kept}
 use Rattle.ensemble.proofs.rings.lowest_closed.Given as goal
 
 abbrev pub invariant-loop-k : goal.invariant-loop-k

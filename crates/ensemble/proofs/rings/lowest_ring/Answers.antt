@@ -1,15 +1,10 @@
-use mathlib.Core.Path.{◌≡◌, refl, sym, ap, ◌∙◌}
-use mathlib.Core.Logic.{inl, inr}
-use Prim.Native.Nat.{ℕ, ◌≤◌, ◌<◌, ◌+◌, ◌-◌}
+use mathlib.Core.Path.{sym, ◌∙◌}
+use Prim.Native.Nat.{◌<◌}
 use native.Mathlib.Omega.{arith}
 use lib.ListN.{length, get_or}
-use borrow.Author.Rules.{rules}
-use Rattle.model.specs.Model.{Model, positions}
 use Rattle.model.specs.Search.{options_at}
-use Rattle.ensemble.specs.Layout.{OptionRows, BondCells}
-use Rattle.ensemble.specs.Ring.{ClosingCells}
 use Rattle.ensemble.proofs.Options.{count-is}
-use Rattle.ensemble.proofs.FirstOccupants.{KeptRing, ring-first, ring-less, ring-stays, ring-found}
+use Rattle.ensemble.proofs.FirstOccupants.{ring-first, ring-less, ring-stays, ring-found}
 use Rattle.ensemble.proofs.rings.lowest_ring.Goals as goal
 
 pub ring_from-least-requires : goal.ring_from-least-requires
@@ -28,7 +23,7 @@ pub loop-option-init : goal.loop-option-init
 loop-option-init c =
     let s = c.requires in
     let some = s.searchable.some 0 s.counts_nonzero in
-    (omega arith, some, c.ring_from-least.auto.counts.1.1.1.1.1.1.0 ∙ s.configuration_len, λ m o b closing e. ring-first m (c.ring_from-least.ensures m o b closing e))
+    (omega arith, some, c.ring_from-least.auto.configuration ∙ s.configuration_len, λ m o b closing e. ring-first m (c.ring_from-least.ensures m o b closing e))
 
 pub bounds-counts-0 : goal.bounds-counts-0
 bounds-counts-0 c = let some = c.requires.counts_nonzero in omega arith
@@ -63,15 +58,15 @@ loop-option-preserved c =
     let some = c.requires.counts_nonzero in
     let found = c.ring_from-energy in (
       omega arith,
-      elim c.if-energy-least.branch [ inl u ↦ rw u.2 inside | inr u ↦ rw u.2 l.invariant.1 ],
-      found.auto.counts.1.1.1.1.1.1.0 ∙ l.invariant.2,
+      elim c.if-energy-least.branch [ goal.then-energy-least u ↦ rw u.kept-is inside | goal.else-energy-least u ↦ rw u.kept-is l.invariant.1 ],
+      found.auto.configuration ∙ l.invariant.2,
       λ m o b closing e.
           let old = l.invariant.3 m o b closing e in
           let new = found.ensures m o b closing e in
           let in_row : l.option < length (options_at m 0) = rw (← count-is o 0 (rw (sym o.positions) some)) inside in
           elim c.if-energy-least.branch [
-            | inl u ↦ rw (u.1, u.2) (ring-less m l.option l.auto old in_row new u.0.taken)
-            | inr u ↦ rw (u.1, u.2) (ring-stays m l.option l.auto old in_row new u.0.left)
+            | goal.then-energy-least u ↦ rw (u.least-is, u.kept-is) (ring-less m l.option l.kept old in_row new u.if-energy-least.true)
+            | goal.else-energy-least u ↦ rw (u.least-is, u.kept-is) (ring-stays m l.option l.kept old in_row new u.if-energy-least.false)
           ],
     )
 
@@ -88,7 +83,7 @@ ring_from-requires c =
     }
 
 pub shape_of-configuration : goal.shape_of-configuration
-shape_of-configuration c = c.ring_from.auto.counts.1.1.1.1.1.1.0 ∙ c.loop-option.invariant.2 ∙ sym c.requires.configuration_len
+shape_of-configuration c = c.ring_from.auto.configuration ∙ c.loop-option.invariant.2 ∙ sym c.requires.configuration_len
 
 pub returns : goal.returns
 returns c = λ m o b closing e.
@@ -96,4 +91,4 @@ returns c = λ m o b closing e.
     let past = c.loop-option-test.false in
     let count = c.wide.ensures in
     let some = c.requires.counts_nonzero in
-    ring-found m l.option l.auto (l.invariant.3 m o b closing e) (rw (← count-is o 0 (rw (sym o.positions) some)) (omega arith)) (c.ring_from.ensures m o b closing e)
+    ring-found m l.option l.kept (l.invariant.3 m o b closing e) (rw (← count-is o 0 (rw (sym o.positions) some)) (omega arith)) (c.ring_from.ensures m o b closing e)

@@ -1,16 +1,11 @@
 -- The search for rings meets its contract. The invariant: of the first occupants tried, the one kept, with its energy. Assumes nothing.
-use mathlib.Core.Path.{◌≡◌, refl, sym, ap, ◌∙◌}
-use mathlib.Core.Logic.{inl, inr}
-use Prim.Native.Nat.{ℕ, ◌≤◌, ◌<◌, ◌+◌, ◌-◌}
-use native.Mathlib.Omega.{arith}
+use mathlib.Core.Path.{◌≡◌}
+use Prim.Native.Nat.{◌≤◌, ◌<◌, ◌-◌}
 use lib.ListN.{length, get_or}
-use borrow.Author.Rules.{rules}
-use Rattle.model.specs.Model.{Model, positions}
-use Rattle.model.specs.Search.{options_at}
+use Rattle.model.specs.Model.{Model}
 use Rattle.ensemble.specs.Layout.{OptionRows, BondCells}
 use Rattle.ensemble.specs.Ring.{ClosingCells}
-use Rattle.ensemble.proofs.Options.{count-is}
-use Rattle.ensemble.proofs.FirstOccupants.{KeptRing, ring-first, ring-less, ring-stays, ring-found}
+use Rattle.ensemble.proofs.FirstOccupants.{KeptRing}
 use Rattle.ensemble.proofs.rings.lowest_ring.Given as goal
 
 abbrev pub invariant-loop-option : goal.invariant-loop-option

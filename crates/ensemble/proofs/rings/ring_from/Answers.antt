@@ -1,16 +1,12 @@
 use mathlib.Core.Path.{◌≡◌, refl, sym, ap, ◌∙◌, subst}
-use Prim.Native.Nat.{ℕ, ◌≤◌, ◌<◌, ◌+◌, ◌-◌, ◌*◌}
+use Prim.Native.Nat.{ℕ, ◌<◌, ◌+◌, ◌-◌, ◌*◌}
 use native.Mathlib.Omega.{arith}
 use lib.ListN.{length, get_or, replicate, length-set}
-use borrow.Author.Rules.{rules}
-use Rattle.model.specs.Model.{Model, positions}
-use Rattle.model.specs.Ring.{with_first}
-use Rattle.ensemble.specs.Layout.{OptionRows, BondCells}
-use Rattle.ensemble.specs.inner.Entries.{Known, choice_in, LowTable, traced_back}
+use Rattle.model.specs.Model.{positions}
+use Rattle.ensemble.specs.inner.Entries.{choice_in, traced_back}
 use Rattle.ensemble.specs.inner.Ring.{FoundFrom}
-use Rattle.ensemble.proofs.Vector.{Left}
-use Rattle.ensemble.proofs.Lent.{part, bounds, known-friends, known-options, friends-length, friends-part, options-part, part_length, row_in, row-length, row_at, table-zeros, table-low, Wide, wide-zeros, wide-more}
-use Rattle.ensemble.proofs.Positions.{Table, left-more, table_more}
+use Rattle.ensemble.proofs.Lent.{part, bounds, known-friends, known-options, friends-length, friends-part, options-part, part_length, row_in, row-length, row_at, table-zeros, table-low, wide-zeros, wide-more}
+use Rattle.ensemble.proofs.Positions.{left-more, table_more}
 use Rattle.ensemble.proofs.Ringed.{ring-options, later-options, part-one, part-some, one-row, row_small, first-known, known-one, first-option, first_member, left-first, table-first, no-choices, found_first}
 use Rattle.ensemble.proofs.rings.ring_from.Goals as goal
 
@@ -303,10 +299,10 @@ loop-position-preserved c =
     let friends = part a.rows.now (64 * i) (64 * i + count - 1) in
     let sites = part a.scaffold_bonds.now (i * length a.potentials.now) (i * length a.potentials.now + length a.potentials.now) in
     let att = c.best_energies.ensures in
-    let best = c.best_energies.new.energies.1.1.1.1.0 in
-    let row = c.best_energies.new.energies.1.1.1.1.1.0 in
+    let best = c.best_energies.new.best in
+    let row = c.best_energies.new.choice in
     let none = c.best_energy_for_empty-attached in
-    let next = c.mfe_next_vector.new.potentials.1.1.1.0 in
+    let next = c.mfe_next_vector.new.energies in
     let inv = l.invariant in
     let sized : length next ≡ 64 = c.mfe_next_vector.ensures.energies_len_unchanged ∙ inv.3 in
     let number = friends-length z i here count is in
@@ -396,8 +392,8 @@ returns c = λ m o b closing e.
     let f = get_or a.rows.now a.option 0 in
     let kept = l.invariant.11 m o b in
     let low = c.lowest_closed-last in
-    subst (λ (x : ℕ). FoundFrom m x c.trace.new.1.1.1.0 low.result.energy) (first-option o in-model s.option_bound)
+    subst (λ (x : ℕ). FoundFrom m x c.trace.new.configuration low.result.energy) (first-option o in-model s.option_bound)
     (found_first m f (first_member o in-model s.option_bound) (length a.potentials.now) a.strand_bonds.now closing a.rt.0 e
-    l.choice l.empty (part a.rows.now l.start l.end) l.energies low.result c.trace.new.1.1.1.0 low.ensures.by_index
+    l.choice l.empty (part a.rows.now l.start l.end) l.energies low.result c.trace.new.configuration low.ensures.by_index
     l.position l.invariant.12 (all ∙ o.positions) kept.0 kept.1
     (c.trace.ensures ∙ ap (λ (n : ℕ). traced_back (choice_in l.choice l.empty) n low.result.strand) (s.configuration_len ∙ sym all)))

@@ -1,19 +1,15 @@
 -- The pass with one first occupant meets its contract. The invariant: the entries of the last position passed, and the left choices of all. Assumes
 -- nothing.
-use mathlib.Core.Path.{◌≡◌, refl, sym, ap, ◌∙◌, subst}
-use Prim.Native.Nat.{ℕ, ◌≤◌, ◌<◌, ◌+◌, ◌-◌, ◌*◌}
-use native.Mathlib.Omega.{arith}
-use lib.ListN.{length, get_or, replicate, length-set}
-use borrow.Author.Rules.{rules}
-use Rattle.model.specs.Model.{Model, positions}
+use mathlib.Core.Path.{◌≡◌}
+use Prim.Native.Nat.{◌≤◌, ◌<◌, ◌+◌, ◌-◌}
+use lib.ListN.{length, get_or}
+use Rattle.model.specs.Model.{Model}
 use Rattle.model.specs.Ring.{with_first}
 use Rattle.ensemble.specs.Layout.{OptionRows, BondCells}
-use Rattle.ensemble.specs.inner.Entries.{Known, choice_in, LowTable, traced_back}
-use Rattle.ensemble.specs.inner.Ring.{FoundFrom}
+use Rattle.ensemble.specs.inner.Entries.{Known, LowTable}
 use Rattle.ensemble.proofs.Vector.{Left}
-use Rattle.ensemble.proofs.Lent.{part, bounds, known-friends, known-options, friends-length, friends-part, options-part, part_length, row_in, row-length, row_at, table-zeros, table-low, Wide, wide-zeros, wide-more}
-use Rattle.ensemble.proofs.Positions.{Table, left-more, table_more}
-use Rattle.ensemble.proofs.Ringed.{ring-options, later-options, part-one, part-some, one-row, row_small, first-known, known-one, first-option, first_member, left-first, table-first, no-choices, found_first}
+use Rattle.ensemble.proofs.Lent.{part, Wide}
+use Rattle.ensemble.proofs.Positions.{Table}
 use Rattle.ensemble.proofs.rings.ring_from.Given as goal
 
 abbrev pub invariant-loop-position : goal.invariant-loop-position

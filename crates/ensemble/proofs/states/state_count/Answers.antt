@@ -1,9 +1,8 @@
 use mathlib.Core.Path.{◌≡◌, sym, ap, ◌∙◌}
-use Prim.Native.Nat.{ℕ, ◌≤◌, ◌+◌, ◌*◌, ◌-◌, min}
+use Prim.Native.Nat.{ℕ, ◌≤◌, ◌+◌, ◌*◌, min}
 use native.Mathlib.Nat.{mul-le-mul, mul-one, one-mul, min-le_right}
 use native.Mathlib.Omega.{arith}
-use lib.ListN.{length, drop, get_or}
-use borrow.Author.Rules.{rules}
+use lib.ListN.{drop, get_or}
 use Rattle.lists.specs.Build.{product}
 use Rattle.ensemble.proofs.Products.{product-more, product-past, held-times}
 use Rattle.ensemble.proofs.states.state_count.Goals as goal
@@ -12,12 +11,12 @@ pub loop-position-init : goal.loop-position-init
 loop-position-init c = (omega arith, omega arith, ap (λ (n : ℕ). min n 1048577) (sym (one-mul _)))
 
 pub overflow_cast-counts : goal.overflow_cast-counts
-overflow_cast-counts c = omega (arith, c.shared_slice_known-1.given c.loop-position.position)
+overflow_cast-counts c = omega (arith, c.type_inv.counts c.loop-position.position)
 
 pub overflow_mul-states : goal.overflow_mul-states
 overflow_mul-states c =
     let most : c.loop-position.states ≤ 1048577 = c.loop-position.invariant.1 in
-    let byte : get_or c.args.counts.now c.loop-position.position 0 ≤ 255 = omega (arith, c.shared_slice_known-1.given c.loop-position.position) in
+    let byte : get_or c.args.counts.now c.loop-position.position 0 ≤ 255 = omega (arith, c.type_inv.counts c.loop-position.position) in
     omega (arith, mul-le-mul most byte)
 
 pub loop-position-preserved : goal.loop-position-preserved

@@ -1,13 +1,9 @@
 -- The count of the states meets its contract. The invariant: what is counted, times the product that is left, is the count, up to the limit.
 -- Assumes nothing.
-use mathlib.Core.Path.{◌≡◌, sym, ap, ◌∙◌}
-use Prim.Native.Nat.{ℕ, ◌≤◌, ◌+◌, ◌*◌, ◌-◌, min}
-use native.Mathlib.Nat.{mul-le-mul, mul-one, one-mul, min-le_right}
-use native.Mathlib.Omega.{arith}
-use lib.ListN.{length, drop, get_or}
-use borrow.Author.Rules.{rules}
+use mathlib.Core.Path.{◌≡◌}
+use Prim.Native.Nat.{◌≤◌, ◌*◌, ◌-◌, min}
+use lib.ListN.{length, drop}
 use Rattle.lists.specs.Build.{product}
-use Rattle.ensemble.proofs.Products.{product-more, product-past, held-times}
 use Rattle.ensemble.proofs.states.state_count.Given as goal
 
 abbrev pub invariant-loop-position : goal.invariant-loop-position

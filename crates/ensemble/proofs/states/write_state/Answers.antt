@@ -1,14 +1,12 @@
 use mathlib.Core.Path.{◌≡◌, refl, sym, ◌∙◌}
 use mathlib.Core.List.{List, []}
-use Prim.Native.Nat.{ℕ, ◌≤◌, ◌<◌, ◌+◌, ◌-◌, ◌*◌, ◌/◌, ◌%◌}
+use Prim.Native.Nat.{ℕ, ◌≤◌, ◌<◌, ◌+◌, ◌*◌, ◌/◌, ◌%◌}
 use native.Mathlib.Omega.{arith}
 use lib.ListN.{length, drop, get_or, length-set}
-use borrow.Author.Rules.{rules}
 use Rattle.lists.specs.Build.{product}
 use Rattle.lists.proofs.Front.{Front, front-none, front-step, front-full}
-use Rattle.model.specs.Model.{Model, options}
+use Rattle.model.specs.Model.{options}
 use Rattle.model.specs.States.{choice_at}
-use Rattle.ensemble.specs.Layout.{OptionRows}
 use Rattle.ensemble.proofs.Products.{product-more, first-positive, rest-positive, divided, rank_left, rank-first}
 use Rattle.ensemble.proofs.Options.{row_inside, choice-more, choice-past}
 use Rattle.ensemble.proofs.states.write_state.Goals as goal

@@ -1,18 +1,13 @@
 -- The writing of the state at a rank meets its contract. The invariant: the occupants of the positions passed stand in front, and those
 -- left are the state of the later positions at the rank left. Assumes nothing.
-use mathlib.Core.Path.{◌≡◌, refl, sym, ◌∙◌}
-use mathlib.Core.List.{List, []}
-use Prim.Native.Nat.{ℕ, ◌≤◌, ◌<◌, ◌+◌, ◌-◌, ◌*◌, ◌/◌, ◌%◌}
-use native.Mathlib.Omega.{arith}
-use lib.ListN.{length, drop, get_or, length-set}
-use borrow.Author.Rules.{rules}
+use mathlib.Core.Path.{◌≡◌}
+use Prim.Native.Nat.{◌≤◌, ◌<◌, ◌-◌}
+use lib.ListN.{length, drop}
 use Rattle.lists.specs.Build.{product}
-use Rattle.lists.proofs.Front.{Front, front-none, front-step, front-full}
+use Rattle.lists.proofs.Front.{Front}
 use Rattle.model.specs.Model.{Model, options}
 use Rattle.model.specs.States.{choice_at}
 use Rattle.ensemble.specs.Layout.{OptionRows}
-use Rattle.ensemble.proofs.Products.{product-more, first-positive, rest-positive, divided, rank_left, rank-first}
-use Rattle.ensemble.proofs.Options.{row_inside, choice-more, choice-past}
 use Rattle.ensemble.proofs.states.write_state.Given as goal
 
 abbrev pub invariant-loop-position : goal.invariant-loop-position

@@ -1,25 +1,24 @@
 use mathlib.Core.Path.{◌≡◌, sym, ap, ◌∙◌}
 use mathlib.Core.List.{List}
-use Prim.Native.Nat.{ℕ, ◌≤◌, ◌<◌, ◌-◌}
+use Prim.Native.Nat.{ℕ, ◌<◌}
 use native.Mathlib.Omega.{arith}
 use lib.ListN.{length}
 use lib.Seq.{take-length}
-use borrow.Author.Rules.{rules}
 use Rattle.doubles.specs.Least.{last_least}
-use Rattle.ensemble.specs.inner.Entries.{table_bond, Attachments}
+use Rattle.ensemble.specs.inner.Entries.{table_bond}
 use Rattle.ensemble.proofs.Choosing.{some_key}
 use Rattle.ensemble.proofs.Attachments.{attach-none, attach-choice}
 use Rattle.ensemble.proofs.sums.attach_all.Goals as goal
 
 pub least_sums-requires : goal.least_sums-requires
 least_sums-requires c = let p = c.requires in record {
-      known = p.known;
-      left_in_bounds = p.left_in_bounds;
-      strands_bound = p.strands_bound;
-      strands_in_bounds = p.strands_in_bounds;
-      best_len = p.best_len;
-      left_nonzero = p.left_nonzero;
-    }
+  known = p.known;
+  left_in_bounds = p.left_in_bounds;
+  strands_bound = p.strands_bound;
+  strands_in_bounds = p.strands_in_bounds;
+  best_len = p.best_len;
+  left_nonzero = p.left_nonzero;
+}
 
 pub loop-k-init : goal.loop-k-init
 loop-k-init c = let p = c.requires in (omega arith, attach-none _ _ _ _ _ _ c.least_sums.ensures.best_len_2 p.choice_len p.low)

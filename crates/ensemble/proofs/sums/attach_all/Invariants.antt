@@ -1,15 +1,7 @@
 -- The left choices of many friends meet their contract. The invariant: the first k friends have theirs. Assumes nothing.
-use mathlib.Core.Path.{◌≡◌, sym, ap, ◌∙◌}
-use mathlib.Core.List.{List}
-use Prim.Native.Nat.{ℕ, ◌≤◌, ◌<◌, ◌-◌}
-use native.Mathlib.Omega.{arith}
+use Prim.Native.Nat.{◌≤◌, ◌-◌}
 use lib.ListN.{length}
-use lib.Seq.{take-length}
-use borrow.Author.Rules.{rules}
-use Rattle.doubles.specs.Least.{last_least}
 use Rattle.ensemble.specs.inner.Entries.{table_bond, Attachments}
-use Rattle.ensemble.proofs.Choosing.{some_key}
-use Rattle.ensemble.proofs.Attachments.{attach-none, attach-choice}
 use Rattle.ensemble.proofs.sums.attach_all.Given as goal
 
 abbrev pub invariant-loop-k : goal.invariant-loop-k

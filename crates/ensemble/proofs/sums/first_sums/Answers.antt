@@ -1,10 +1,6 @@
 use mathlib.Core.Path.{refl}
-use Prim.Native.Nat.{◌≤◌, ◌-◌}
 use native.Mathlib.Omega.{arith}
-use lib.ListN.{length, get_or}
-use lib.Ieee.{nan, binary64, add}
-use borrow.Author.Rules.{rules}
-use Rattle.ensemble.proofs.Swept.{Swept, swept_none, swept-more}
+use Rattle.ensemble.proofs.Swept.{swept_none, swept-more}
 use Rattle.ensemble.proofs.sums.first_sums.Goals as goal
 
 pub loop-r-init : goal.loop-r-init
@@ -21,6 +17,6 @@ shape_of-best c = c.loop-r.invariant.1.sized
 
 pub returns : goal.returns
 returns c = record {
-      best_len_unchanged = c.loop-r.invariant.1.sized;
-      by_index = λ r h. c.loop-r.invariant.1.done r (omega arith);
-    }
+  best_len_unchanged = c.loop-r.invariant.1.sized;
+  by_index = λ r h. c.loop-r.invariant.1.done r (omega arith);
+}

@@ -1,11 +1,8 @@
 -- The first sums meet their contract. Assumes nothing.
-use mathlib.Core.Path.{refl}
 use Prim.Native.Nat.{◌≤◌, ◌-◌}
-use native.Mathlib.Omega.{arith}
 use lib.ListN.{length, get_or}
 use lib.Ieee.{nan, binary64, add}
-use borrow.Author.Rules.{rules}
-use Rattle.ensemble.proofs.Swept.{Swept, swept_none, swept-more}
+use Rattle.ensemble.proofs.Swept.{Swept}
 use Rattle.ensemble.proofs.sums.first_sums.Given as goal
 
 abbrev pub invariant-loop-r : goal.invariant-loop-r

@@ -1,12 +1,10 @@
 use mathlib.Core.Path.{◌≡◌, sym, ap, ◌∙◌}
-use Prim.Native.Nat.{ℕ, suc, ◌<◌, ◌-◌}
+use Prim.Native.Nat.{ℕ, suc, ◌-◌}
 use native.Mathlib.Omega.{arith}
 use lib.ListN.{length, get_or, take}
 use lib.Seq.{take-length}
-use lib.Ieee.{Float, nan, binary64, add}
-use borrow.Author.Rules.{rules}
+use lib.Ieee.{nan, binary64, add}
 use Rattle.doubles.specs.Least.{or_later, last_least}
-use Rattle.ensemble.specs.inner.Entries.{table_bond, Keys}
 use Rattle.ensemble.proofs.LastLeast.{pick-one, later-above, later-least}
 use Rattle.ensemble.proofs.sums.last_least.Goals as goal
 
@@ -18,11 +16,11 @@ loop-k-init c =
 
 pub strand_bond_at-requires : goal.strand_bond_at-requires
 strand_bond_at-requires c = let p = c.requires in record {
-      left_lt_strands = p.known c.loop-k.k c.loop-k.invariant.0;
-      right_lt_strands = p.right_lt_strands;
-      strands_bound = p.strands_bound;
-      strands_in_bounds = p.strands_in_bounds;
-    }
+  left_lt_strands = p.known c.loop-k.k c.loop-k.invariant.0;
+  right_lt_strands = p.right_lt_strands;
+  strands_bound = p.strands_bound;
+  strands_in_bounds = p.strands_in_bounds;
+}
 
 pub loop-k-preserved : goal.loop-k-preserved
 loop-k-preserved c =

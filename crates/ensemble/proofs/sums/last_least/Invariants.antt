@@ -1,14 +1,10 @@
 -- The left choice, found from the end, meets its contract. The invariant: it is the choice among the entries that are left. Assumes nothing.
-use mathlib.Core.Path.{◌≡◌, sym, ap, ◌∙◌}
-use Prim.Native.Nat.{ℕ, suc, ◌<◌, ◌-◌}
-use native.Mathlib.Omega.{arith}
-use lib.ListN.{length, get_or, take}
-use lib.Seq.{take-length}
-use lib.Ieee.{Float, nan, binary64, add}
-use borrow.Author.Rules.{rules}
-use Rattle.doubles.specs.Least.{or_later, last_least}
+use mathlib.Core.Path.{◌≡◌}
+use Prim.Native.Nat.{ℕ, suc, ◌<◌}
+use lib.ListN.{length, take}
+use lib.Ieee.{Float}
+use Rattle.doubles.specs.Least.{last_least}
 use Rattle.ensemble.specs.inner.Entries.{table_bond, Keys}
-use Rattle.ensemble.proofs.LastLeast.{pick-one, later-above, later-least}
 use Rattle.ensemble.proofs.sums.last_least.Given as goal
 
 abbrev pub invariant-loop-k : goal.invariant-loop-k

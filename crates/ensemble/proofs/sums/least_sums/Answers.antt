@@ -1,11 +1,10 @@
 use mathlib.Core.Path.{◌≡◌, sym, ap, ◌∙◌}
 use mathlib.Core.List.{List}
-use Prim.Native.Nat.{ℕ, ◌≤◌, ◌<◌, ◌+◌, ◌-◌, ◌*◌}
+use Prim.Native.Nat.{ℕ, ◌≤◌, ◌<◌, ◌+◌, ◌*◌}
 use native.Mathlib.Numerals.{add-one}
 use native.Mathlib.Omega.{arith}
 use lib.ListN.{length, get_or, take}
 use lib.Ieee.{Float, nan, binary64, add}
-use borrow.Author.Rules.{rules}
 use Rattle.doubles.specs.Least.{or_later, last_least}
 use Rattle.ensemble.specs.inner.Entries.{Known, table_bond, Keys, lesser, LeastSums}
 use Rattle.ensemble.proofs.LastLeast.{pick-one, least_more}
@@ -93,7 +92,7 @@ first_sums-requires c =
 pub loop-k-init : goal.loop-k-init
 loop-k-init c =
     let a = c.args in
-    (omega arith, omega arith, c.first_sums.ensures.best_len_unchanged ∙ c.requires.best_len, first a.strands a.strand_bonds.now a.left.now a.energies.now c.requires.strands_in_bounds c.requires.known c.first_sums.new.best.1.0 c.requires.left_nonzero c.wide.ensures c.first_sums.ensures.by_index)
+    (omega arith, omega arith, c.first_sums.ensures.best_len_unchanged ∙ c.requires.best_len, first a.strands a.strand_bonds.now a.left.now a.energies.now c.requires.strands_in_bounds c.requires.known c.first_sums.new.best c.requires.left_nonzero c.wide.ensures c.first_sums.ensures.by_index)
 
 pub overflow_mul-start-in-loop-k : goal.overflow_mul-start-in-loop-k
 overflow_mul-start-in-loop-k c =
@@ -154,7 +153,7 @@ loop-k-preserved c =
     let a = c.args in
     let l = c.loop-k in
     let more = c.loop-k-test.true in
-    (omega arith, omega arith, c.lesser_sums.ensures.best_len_unchanged ∙ l.invariant.2, next a.strands a.strand_bonds.now a.left.now a.energies.now c.requires.strands_in_bounds c.requires.known l.best c.lesser_sums.new.best.1.0 l.invariant.0 more c.wide-in-loop-k.ensures c.lesser_sums.ensures.by_index l.invariant.3)
+    (omega arith, omega arith, c.lesser_sums.ensures.best_len_unchanged ∙ l.invariant.2, next a.strands a.strand_bonds.now a.left.now a.energies.now c.requires.strands_in_bounds c.requires.known l.best c.lesser_sums.new.best l.invariant.0 more c.wide-in-loop-k.ensures c.lesser_sums.ensures.by_index l.invariant.3)
 
 pub shape_of-best : goal.shape_of-best
 shape_of-best c = c.loop-k.invariant.2 ∙ sym c.requires.best_len

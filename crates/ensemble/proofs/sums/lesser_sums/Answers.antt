@@ -1,13 +1,11 @@
 use mathlib.Core.Path.{◌≡◌, refl, ◌∙◌}
-use mathlib.Core.Logic.{inl, inr}
 use mathlib.Core.Bool.{true, false}
 use mathlib.Core.List.{List}
-use Prim.Native.Nat.{ℕ, ◌≤◌, ◌<◌, ◌+◌, ◌-◌}
+use Prim.Native.Nat.{ℕ, ◌<◌, ◌+◌}
 use native.Mathlib.Nat.{le_refl}
 use native.Mathlib.Omega.{arith}
 use lib.ListN.{length, get_or, set}
 use lib.Ieee.{Float, nan, binary64, add, lt}
-use borrow.Author.Rules.{rules}
 use Rattle.ensemble.specs.inner.Entries.{lesser}
 use Rattle.ensemble.proofs.Swept.{Swept, swept_none, swept-more}
 use Rattle.ensemble.proofs.sums.lesser_sums.Goals as goal
@@ -39,13 +37,13 @@ loop-r-preserved c =
     let a = c.args in
     let w = c.loop-r.invariant.1 in
     let inside : c.loop-r.r < length a.best.now = omega arith in
-    (omega arith, elim c.if-least-sum.branch [ inl u ↦ kept a.energy a.bonds.now w inside u.1 u.0.taken | inr u ↦ taken a.energy a.bonds.now w inside u.1 u.0.left ])
+    (omega arith, elim c.if-least-sum.branch [ goal.then-least-sum u ↦ kept a.energy a.bonds.now w inside u.best-is u.if-least-sum.true | goal.else-least-sum u ↦ taken a.energy a.bonds.now w inside u.best-is u.if-least-sum.false ])
 
 pub shape_of-best : goal.shape_of-best
 shape_of-best c = c.loop-r.invariant.1.sized
 
 pub returns : goal.returns
 returns c = record {
-      best_len_unchanged = c.loop-r.invariant.1.sized;
-      by_index = λ r h. c.loop-r.invariant.1.done r (omega arith);
-    }
+  best_len_unchanged = c.loop-r.invariant.1.sized;
+  by_index = λ r h. c.loop-r.invariant.1.done r (omega arith);
+}

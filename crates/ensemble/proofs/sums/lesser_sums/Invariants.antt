@@ -1,16 +1,9 @@
 -- The lesser sums meet their contract. Assumes nothing.
-use mathlib.Core.Path.{◌≡◌, refl, ◌∙◌}
-use mathlib.Core.Logic.{inl, inr}
-use mathlib.Core.Bool.{true, false}
-use mathlib.Core.List.{List}
-use Prim.Native.Nat.{ℕ, ◌≤◌, ◌<◌, ◌+◌, ◌-◌}
-use native.Mathlib.Nat.{le_refl}
-use native.Mathlib.Omega.{arith}
-use lib.ListN.{length, get_or, set}
-use lib.Ieee.{Float, nan, binary64, add, lt}
-use borrow.Author.Rules.{rules}
+use Prim.Native.Nat.{◌≤◌, ◌-◌}
+use lib.ListN.{length, get_or}
+use lib.Ieee.{nan, binary64, add}
 use Rattle.ensemble.specs.inner.Entries.{lesser}
-use Rattle.ensemble.proofs.Swept.{Swept, swept_none, swept-more}
+use Rattle.ensemble.proofs.Swept.{Swept}
 use Rattle.ensemble.proofs.sums.lesser_sums.Given as goal
 
 abbrev pub invariant-loop-r : goal.invariant-loop-r
