@@ -1,5 +1,6 @@
 // Numbers as text: the words of a design file read as doubles, and figures printed.
 #![tactic(auto)]
+
 mod digits;
 mod limbs;
 mod printing;

@@ -4,10 +4,10 @@ use mathlib.Core.Bool.{Bool, true, false, not, true≢false, cond}
 use Prim.Native.Nat.{ℕ, zero, suc, ◌+◌, ◌-◌, ◌*◌, ◌/◌, ◌%◌, ◌^◌, ◌≤◌, ◌<◌}
 use native.Mathlib.Nat.{le_trans, le_of_eq, le_of_lt, lt_of_lt_of_le, lt_of_le_of_lt, not-le_of_lt, lt_of_not-le, le_of_suc-le-suc, mul-le-mul, mul-le-mul_right, mul-le-mul_left, mul-lt-mul_of_pos_right, le_of_mul-le-mul_right, le_of_mul-le-mul_left, eq_of_mul-eq-mul_right, mul-pos, mul-one, one-mul, mul_assoc, mul_comm, mod-lt, mod-eq_of_lt}
 use native.Mathlib.Omega.{arith}
-use lib.IntN.{ℤ, pos}
+use lib.IntN.{pos}
 use lib.Dec.{T, leb, eqb, ltb→lt, nleb→lt, le→leb, lit≤, lit<}
 use lib.Pow.{pow_pos, pow_mono, pow-add}
-use lib.Ieee.{Float, nan, inf, fin, binary64, ones, odd, up, down, round, div, neg, of_int, in_float, is_nan, le, fits, of_fields, of_bits, to_bits}
+use lib.Ieee.{Float, nan, inf, fin, binary64, ones, odd, up, down, round, div, neg, in_float, is_nan, le, fits, of_fields, of_bits, to_bits}
 use lib.Ieee.Bits.{of_bits-to_bits}
 use lib.Ieee.Fits.{down_pos, up_pos}
 use lib.Ieee.Scale.{round_same}

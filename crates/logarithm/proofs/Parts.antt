@@ -1,13 +1,10 @@
 -- The figure's parts as the program works them out. Assumes nothing.
-use mathlib.Core.Path.{◌≡◌, refl, sym, ap, ◌∙◌}
-use mathlib.Core.Bool.{Bool, true, false, not, ◌&&◌}
+use mathlib.Core.Path.{◌≡◌, ap}
 use Prim.Native.Nat.{ℕ, ◌+◌, ◌-◌, ◌*◌, ◌/◌, ◌^◌, ◌≤◌, ◌<◌}
-use native.Mathlib.Nat.{mul_assoc, div-mul-le_self, lt-div-mul-add, le-div_iff_mul-le, div-le_of_le-mul, mul-div-mul_left, mul-div-mul_right, mul-pos, mul-le-mul_right}
+use native.Mathlib.Nat.{div-mul-le_self, mul-pos}
 use native.Mathlib.Omega.{arith}
-use lib.Dec.{lit<}
 use lib.ListN.{get_or}
-use lib.Ieee.{Float, binary64, le, of_bits}
-use Rattle.logarithm.specs.Figure.{ln_series, steps, ln2, ln_reduced, ln_ratio, ln_of}
+use Rattle.logarithm.specs.Figure.{ln_series, steps, ln2, ln_reduced, ln_ratio}
 use Rattle.logarithm.proofs.Right.{ratio-step}
 
 pub reduced-is : (c u k s : ℕ) → s ≡ ln_series u → (get_or steps (c - 32) 0 + s + k * ln2) / 256 ≡ ln_reduced c u k

@@ -1,14 +1,14 @@
 -- The figure lies near the logarithm: of a ratio, and of a double from 2^-60 to 2^10. Assumes nothing.
-use mathlib.Core.Path.{◌≡◌, refl, sym, ap, ◌∙◌}
+use mathlib.Core.Path.{◌≡◌, refl, sym}
 use mathlib.Core.Bool.{Bool, true, false, cond, not, ◌&&◌, true≢false}
-use Prim.Native.Nat.{ℕ, suc, ◌+◌, ◌-◌, ◌*◌, ◌/◌, ◌%◌, ◌^◌, ◌≤◌, ◌<◌}
-use native.Mathlib.Nat.{le_trans, le_of_suc-le-suc, mod-lt, mul_comm, mul_assoc, mul-pos, mul-le-mul_right, mul-le-mul_left, div-mul-le_self, lt-div-mul-add, le-div_iff_mul-le, div-le_of_le-mul}
+use Prim.Native.Nat.{ℕ, ◌+◌, ◌-◌, ◌*◌, ◌/◌, ◌%◌, ◌^◌, ◌≤◌, ◌<◌}
+use native.Mathlib.Nat.{le_trans, le_of_suc-le-suc, mod-lt, mul-pos, mul-le-mul_right, div-mul-le_self, lt-div-mul-add, le-div_iff_mul-le, div-le_of_le-mul}
 use native.Mathlib.Omega.{arith}
 use borrow.Author.Tests.{lt-ltb, le-ltb}
 use lib.Dec.{T, ltb, ltb→lt, nltb→le, lit≤, lit<}
 use lib.ListN.{get_or}
 use lib.Pow.{pow_pos}
-use lib.Ieee.{Float, binary64, fits, to_bits, neg, le}
+use lib.Ieee.{Float, binary64, to_bits, neg, le}
 use Rattle.fractions.specs.Frac.{frac, LeFrac}
 use Rattle.fractions.proofs.Frac.{le-frac-trans}
 use Rattle.logarithm.specs.Logarithm.{upper, LnAtMost, LnAtLeast}

@@ -1,9 +1,9 @@
 -- The series u + u² / 2 + .. of the logarithm of 1 / (1 − u), u = s / m, in whole numbers: its bounds on sums of 1 / k. Assumes nothing.
 use mathlib.Core.Path.{◌≡◌, refl, ap, ◌∙◌}
-use Prim.Native.Nat.{ℕ, zero, suc, ◌+◌, ◌*◌, ◌^◌, ◌≤◌, ◌<◌}
+use Prim.Native.Nat.{ℕ, zero, suc, ◌+◌, ◌*◌, ◌^◌, ◌≤◌}
 use native.Mathlib.Nat.{mul-le-mul_right, mul-le-mul_left, pow-suc, pow-zero, one-mul}
 use native.Mathlib.Omega.{arith}
-use Rattle.fractions.specs.Frac.{Frac, frac, LeFrac}
+use Rattle.fractions.specs.Frac.{frac, LeFrac}
 use Rattle.logarithm.specs.Logarithm.{recips}
 
 -- ---- differences of powers

@@ -1,19 +1,18 @@
 -- The arithmetic of the figure, over whole numbers: products, the series, the table of steps, doublings. Assumes nothing.
-use mathlib.Core.Path.{◌≡◌, refl, sym, ap, ◌∙◌, subst}
+use mathlib.Core.Path.{◌≡◌, refl, ap, subst}
 use mathlib.Core.Bool.{Bool, true, false, ◌&&◌}
 use mathlib.Core.List.{List, [], ◌∷◌}
 use Prim.Native.Nat.{ℕ, zero, suc, ◌+◌, ◌-◌, ◌*◌, ◌/◌, ◌%◌, ◌^◌, ◌≤◌, ◌<◌, zero-le}
-use native.Mathlib.Nat.{le_refl, le_of_lt, mul-le-mul, mul-le-mul_right, mul-le-mul_left, le_of_mul-le-mul_right, mul-pos, mul_comm, mul-one, mul_assoc, zero-lt-suc, not-suc-le-zero, le_of_suc-le-suc, pow-suc, pow-zero, pow-le-pow_left, div-add-mod', div-mul-le_self, lt-div-mul-add, div-le_self, add-zero, add-suc}
+use native.Mathlib.Nat.{le_refl, le_of_lt, mul-le-mul, mul-le-mul_right, mul-le-mul_left, le_of_mul-le-mul_right, mul_comm, zero-lt-suc, not-suc-le-zero, le_of_suc-le-suc, pow-suc, pow-zero, pow-le-pow_left, div-add-mod', div-mul-le_self, lt-div-mul-add, div-le_self, add-zero}
 use native.Mathlib.Numerals.{add-one}
 use native.Mathlib.Omega.{arith}
 use lib.Dec.{T, leb, leb→le, lit≤, lit<}
 use lib.ListN.{get_or, length}
-use lib.Pow.{pow_pos}
-use Rattle.fractions.specs.Frac.{Frac, frac, LeFrac}
+use Rattle.fractions.specs.Frac.{frac}
 use Rattle.logarithm.specs.Logarithm.{LnAtMost, LnAtLeast}
-use Rattle.logarithm.specs.Figure.{mul_units, terms_from, ln_series, steps, ln2}
+use Rattle.logarithm.specs.Figure.{mul_units, terms_from, ln_series, steps}
 use Rattle.logarithm.proofs.Series.{fact, part, whole, more}
-use Rattle.logarithm.proofs.Bounds.{at-least-le, at-most-le, at-least-series, at-most-series, at-least-sum, at-most-sum, at-least-double, at-most-double, whole_is, whole_pos, mul-pow}
+use Rattle.logarithm.proofs.Bounds.{at-least-le, at-most-le, at-least-series, at-most-series, whole_is, whole_pos, mul-pow}
 
 -- ---- a product by halves of 27 digits
 module _ (a b : ℕ) (p : a ≤ 2 ^ 54) (q : b ≤ 2 ^ 54) where

@@ -4,7 +4,7 @@ use Prim.Native.Nat.{ℕ, zero, suc, ◌+◌, ◌-◌, ◌*◌, ◌≤◌, ◌<�
 use native.Mathlib.Nat.{le_refl, mul-le-mul_right, mul-le-mul_left, mul-pos, mul_assoc, mul_comm, zero-lt-suc, add-suc, suc-add, add-zero, zero-add, mul-suc, add_comm, mul-sub, mul-zero}
 use native.Mathlib.Omega.{arith}
 use native.Mathlib.Numerals.{add-one}
-use Rattle.fractions.specs.Frac.{Frac, frac, plus, LeFrac}
+use Rattle.fractions.specs.Frac.{frac, plus, LeFrac}
 use Rattle.fractions.proofs.Frac.{le-frac-refl, le-frac-trans, plus-mono, plus_assoc, plus_none, le-plus-right}
 use Rattle.logarithm.specs.Logarithm.{recips, lower, upper}
 

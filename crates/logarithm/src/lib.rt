@@ -1,5 +1,6 @@
 // The natural logarithm, near the exact one, which specs/Logarithm.antt defines by fractions.
 #![tactic(auto)]
+
 ghost use Rattle.std.specs.Prelude.{◌≡◌, ◌+◌, ◌-◌, ◌*◌, ◌/◌, ◌^◌, ◌<◌, ◌≤◌};
 ghost use Rattle.logarithm.specs.Figure.{mul_units, ln_series, ln_reduced, ln_ratio, ln_whole};
 

@@ -4,7 +4,6 @@ use mathlib.Core.List.{List}
 use Prim.Native.Nat.{ℕ, min}
 use native.Mathlib.Omega.{arith}
 use lib.ListN.{length}
-use borrow.Author.Rules.{rules}
 use Rattle.decimals.specs.Digits.{numeral}
 use Rattle.decimals.proofs.Texts.{pattern-length, pattern_number, decimal-number}
 use Rattle.decimals.proofs.read_number.Goals as goal

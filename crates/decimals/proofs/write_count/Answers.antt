@@ -4,7 +4,6 @@ use mathlib.Core.List.{List}
 use Prim.Native.Nat.{ℕ}
 use native.Mathlib.Omega.{arith}
 use lib.Seq.{sets}
-use borrow.Author.Rules.{rules}
 use Rattle.decimals.specs.Digits.{decimal_digits}
 use Rattle.decimals.proofs.Written.{decimal-is, decimal-length}
 use Rattle.decimals.proofs.Room.{no_room, room}

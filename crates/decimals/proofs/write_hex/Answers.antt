@@ -1,7 +1,6 @@
 -- `decimals::write_hex` meets its contract. Assumes nothing.
 use mathlib.Core.Path.{◌∙◌}
 use native.Mathlib.Omega.{arith}
-use borrow.Author.Rules.{rules}
 use Rattle.decimals.specs.Digits.{digits_in}
 use Rattle.decimals.proofs.Written.{digits-length}
 use Rattle.decimals.proofs.Room.{no_room, room}

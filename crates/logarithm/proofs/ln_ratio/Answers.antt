@@ -5,11 +5,6 @@ use native.Mathlib.Nat.{le_trans}
 use lib.Dec.{lit≤}
 use Rattle.logarithm.proofs.Right.{ratio-step, rest-quotient}
 use Rattle.logarithm.proofs.Parts.{part-under, rest-less, ratio-is}
-use borrow.Author.Rules.{rules}
-use Rattle.logarithm.proofs.ln_ratio.Reads as reads
-use Rattle.logarithm.proofs.ln_ratio.Lts as lts
-use Rattle.logarithm.proofs.quotient.Reads as quotient-reads
-use Rattle.logarithm.proofs.reduced.Reads as reduced-reads
 use Rattle.logarithm.proofs.ln_ratio.Goals as goal
 
 pub overflow_mul-c-2 : goal.overflow_mul-c-2

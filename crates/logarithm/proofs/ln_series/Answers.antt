@@ -1,12 +1,9 @@
-use mathlib.Core.Path.{◌≡◌, refl, sym, ◌∙◌}
-use Prim.Native.Nat.{◌+◌, ◌-◌, ◌*◌, ◌^◌, ◌≤◌}
+use mathlib.Core.Path.{refl, sym, ◌∙◌}
+use Prim.Native.Nat.{◌+◌, ◌^◌, ◌≤◌}
 use native.Mathlib.Nat.{div-le_self, le_refl}
 use native.Mathlib.Omega.{arith}
-use Rattle.logarithm.specs.Figure.{mul_units, terms_from, ln_series}
+use Rattle.logarithm.specs.Figure.{ln_series}
 use Rattle.logarithm.proofs.Steps.{power-falls, terms-step, terms-end}
-use Rattle.logarithm.proofs.ln_series.Reads as reads
-use Rattle.logarithm.proofs.ln_series.Lts as lts
-use Rattle.logarithm.proofs.mul_units.Reads as mul-units-reads
 use Rattle.logarithm.proofs.ln_series.Goals as goal
 
 pub loop-j-init : goal.loop-j-init
@@ -22,8 +19,8 @@ mul_units-power-requires c = (omega arith, omega arith)
 pub nonzero_div-sum : goal.nonzero_div-sum
 nonzero_div-sum c = omega arith
 
-fallen : (c : lts.After-mul-units (mul-units-reads.Asked, mul-units-reads.Learnt) reads.Pre reads.Post invariant-loop decreases-loop) → c.mul-units.result ≤ 2 ^ 54
-fallen c = rw c.mul-units.ensures (power-falls c.before.before.loop.power c.before.before.before.args.u (omega arith) (omega arith))
+fallen : (c : goal.After-mul_units-power) → c.mul_units-power.result ≤ 2 ^ 54
+fallen c = rw c.mul_units-power.ensures (power-falls c.loop-j.power c.args.u (omega arith) (omega arith))
 
 pub overflow_add-sum : goal.overflow_add-sum
 overflow_add-sum c = omega (arith, fallen c, div-le_self c.mul_units-power.result (c.loop-j.j + 1))

@@ -1,8 +1,8 @@
-use mathlib.Core.Path.{◌≡◌, refl, sym, ◌∙◌}
-use Prim.Native.Nat.{◌+◌, ◌-◌, ◌*◌, ◌≤◌}
+use mathlib.Core.Path.{refl, sym, ◌∙◌}
+use Prim.Native.Nat.{◌+◌, ◌*◌, ◌≤◌}
 use native.Mathlib.Omega.{arith}
-use Rattle.logarithm.specs.Figure.{ln_from, ln_whole}
-use Rattle.logarithm.proofs.Doubled.{Doubled, doubled-none, doubled-more, doubled-few, doubled-positive, from_step, from_end}
+use Rattle.logarithm.specs.Figure.{ln_whole}
+use Rattle.logarithm.proofs.Doubled.{doubled-none, doubled-more, doubled-few, doubled-positive, from_step, from_end}
 use Rattle.logarithm.proofs.ln_whole.Goals as goal
 
 pub loop-doubled-init : goal.loop-doubled-init

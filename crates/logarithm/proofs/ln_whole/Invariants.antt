@@ -1,9 +1,8 @@
 -- The invariant: what is left of the doublings gives the whole. Assumes nothing.
-use mathlib.Core.Path.{◌≡◌, refl, sym, ◌∙◌}
-use Prim.Native.Nat.{◌+◌, ◌-◌, ◌*◌, ◌≤◌}
-use native.Mathlib.Omega.{arith}
+use mathlib.Core.Path.{◌≡◌}
+use Prim.Native.Nat.{◌-◌}
 use Rattle.logarithm.specs.Figure.{ln_from, ln_whole}
-use Rattle.logarithm.proofs.Doubled.{Doubled, doubled-none, doubled-more, doubled-few, doubled-positive, from_step, from_end}
+use Rattle.logarithm.proofs.Doubled.{Doubled}
 use Rattle.logarithm.proofs.ln_whole.Given as goal
 
 abbrev pub invariant-loop-doubled : goal.invariant-loop-doubled

@@ -1,7 +1,6 @@
 use mathlib.Core.Path.{sym}
-use Prim.Native.Nat.{◌-◌}
 use native.Mathlib.Omega.{arith}
-use Rattle.logarithm.proofs.Digits.{Digits, digits-none, digits_more, digits-small, digits-all, digit_lt}
+use Rattle.logarithm.proofs.Digits.{digits-none, digits_more, digits-small, digits-all, digit_lt}
 use Rattle.logarithm.proofs.quotient.Goals as goal
 
 pub loop-i-init : goal.loop-i-init

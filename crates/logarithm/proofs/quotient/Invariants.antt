@@ -1,8 +1,6 @@
 -- The invariant: what the digits so far, with the rest, stand for. Assumes nothing.
-use mathlib.Core.Path.{sym}
 use Prim.Native.Nat.{◌-◌}
-use native.Mathlib.Omega.{arith}
-use Rattle.logarithm.proofs.Digits.{Digits, digits-none, digits_more, digits-small, digits-all, digit_lt}
+use Rattle.logarithm.proofs.Digits.{Digits}
 use Rattle.logarithm.proofs.quotient.Given as goal
 
 abbrev pub invariant-loop-i : goal.invariant-loop-i

@@ -3,10 +3,6 @@ use native.Mathlib.Omega.{arith}
 use Rattle.logarithm.proofs.Steps.{series-small}
 use Rattle.logarithm.proofs.Right.{step_small}
 use Rattle.logarithm.proofs.Parts.{reduced-is}
-use borrow.Author.Rules.{rules}
-use Rattle.logarithm.proofs.reduced.Reads as reads
-use Rattle.logarithm.proofs.reduced.Lts as lts
-use Rattle.logarithm.proofs.ln_series.Reads as ln-series-reads
 use Rattle.logarithm.proofs.reduced.Goals as goal
 
 pub overflow_add-result : goal.overflow_add-result

@@ -14,4 +14,4 @@ returns-in-1 c = sym (ap kind_of c.in-1.is)
 
 pub returns-in_default : goal.returns-in_default
 unfolding kind_of
-returns-in_default c = simp (ne_eqb _ _ c.in_default.rest.0.1, ne_eqb _ _ c.in_default.rest.1)
+returns-in_default c = simp (ne_eqb _ _ c.in_default.in_default-own.rest.0.1, ne_eqb _ _ c.in_default.in_default-own.rest.1)

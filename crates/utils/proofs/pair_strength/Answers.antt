@@ -3,8 +3,6 @@ use mathlib.Core.Path.{◌≡◌, refl, sym, ap, ◌∙◌}
 use mathlib.Core.Bool.{true, false}
 use mathlib.Core.List.{List, ◌++◌}
 use Prim.Native.Nat.{ℕ}
-use borrow.Author.Rules.{rules}
-use borrow.Author.Tests.{not-true, not-false}
 use lib.Ieee.{Float}
 use Rattle.reply.specs.First.{first_of}
 use Rattle.reply.specs.Number.{number_of}
@@ -43,39 +41,30 @@ strength_of excess f = given_dg (strength_at excess f.dg f.ds)
 pub returns-then-not-excess_in_range : goal.returns-then-not-excess_in_range
 unfolding pair_strength
 returns-then-not-excess_in_range c =
-    
-    
     let a = c.args.a.now in
     let b = c.args.b.now in
     let excess = c.args.excess.0 in
-    let sums = c.dg-1.given in
-    let pair = given_pair a b sums.0.0.0 sums.0.1.0.0 (ap dg_ds_figures (sym sums.1) ∙ c.sequence_pair_dg_ds.ensures) in
-    let out : excess_in_range excess ≡ false = sym c.excess_in_range.ensures ∙ not-true _ c.if-not-excess_in_range.true-raw in
+    let pair = given_pair a b c.in-Given.dg.0 c.in-Given.ds.0 (ap dg_ds_figures (sym c.in-Given.is) ∙ c.sequence_pair_dg_ds.ensures) in
+    let out : excess_in_range excess ≡ false = sym c.excess_in_range.ensures ∙ c.if-not-excess_in_range.true in
     let reply : first_of (pair_checks a b ++ excess_checks excess) ≡ Refused OutOfRange Nowhere = reply-append (pair_checks a b) (excess_checks excess) pair.0 ∙ simp out in
     rw reply
 
 pub returns-in-Refused : goal.returns-in-Refused
 unfolding pair_strength
 returns-in-Refused c =
-    
     let a = c.args.a.now in
     let b = c.args.b.now in
     let excess = c.args.excess.0 in
-    let why = c.refusal-1.given in
-    let refused = refused-pair a b why.0.0 (ap dg_ds_figures (sym why.1) ∙ c.sequence_pair_dg_ds.ensures) in
+    let refused = refused-pair a b c.in-Refused.refusal (ap dg_ds_figures (sym c.in-Refused.is) ∙ c.sequence_pair_dg_ds.ensures) in
     rw (reply-append (pair_checks a b) (excess_checks excess) refused.1)
 
 pub returns-else-not-excess_in_range : goal.returns-else-not-excess_in_range
 unfolding pair_strength strength_of figures
 returns-else-not-excess_in_range c =
-    
-    
-    
     let a = c.args.a.now in
     let b = c.args.b.now in
     let excess = c.args.excess.0 in
-    let sums = c.dg-1.given in
-    let pair = given_pair a b sums.0.0.0 sums.0.1.0.0 (ap dg_ds_figures (sym sums.1) ∙ c.sequence_pair_dg_ds.ensures) in
-    let good : excess_in_range excess ≡ true = sym c.excess_in_range.ensures ∙ not-false _ c.if-not-excess_in_range.false-raw in
+    let pair = given_pair a b c.in-Given.dg.0 c.in-Given.ds.0 (ap dg_ds_figures (sym c.in-Given.is) ∙ c.sequence_pair_dg_ds.ensures) in
+    let good : excess_in_range excess ≡ true = sym c.excess_in_range.ensures ∙ c.if-not-excess_in_range.false in
     let reply : first_of (pair_checks a b ++ excess_checks excess) ≡ Admitted = reply-append (pair_checks a b) (excess_checks excess) pair.0 ∙ simp good in
     rw reply (ap given_dg c.strength.ensures ∙ ap (strength_of excess) pair.1)

@@ -1,6 +1,5 @@
 use mathlib.Core.Path.{◌≡◌, refl, sym, ap, ap₂, ◌∙◌}
 use mathlib.Core.Bool.{Bool}
-use mathlib.Core.Logic.{⊎_elim}
 use Prim.Native.Nat.{ℕ, ◌≤◌, ◌<◌, ◌+◌, ◌-◌}
 use native.Mathlib.Omega.{arith}
 use lib.Ieee.{of_bits}
@@ -17,6 +16,7 @@ use Rattle.utils.specs.declared.Sums as Code
 use Rattle.utils.proofs.Letters.{base-here}
 use Rattle.utils.proofs.Windows.{good-window, bad-window, good-flag, bad-flag, windows_at, sums_at, lacks_at, window_at, bad_after, sums-more, sums-done, lacks-more, lacks-done, step-bad, bad-grows}
 use Rattle.utils.proofs.pair_sums.Goals as goal
+use Rattle.utils.proofs.pair_sums.Goals.{then-good_window, else-good_window}
 
 abbrev bad_of : Sums → ℕ
 bad_of s = s.bad
@@ -62,12 +62,6 @@ after_bad-sums-requires c = (omega arith, refl)
 
 pub loop-i-preserved : goal.loop-i-preserved
 loop-i-preserved c =
-    
-    
-    
-    
-    
-    
     let a = c.args.a.now in
     let b = c.args.b.now in
     let i = c.loop-i.i in
@@ -79,17 +73,17 @@ loop-i-preserved c =
     let under : i < length a = c.loop-i-test.true in
     let same : window a1 a2 b1 b2 ≡ window_at a b i = cc (c.base-a1.ensures, c.base-a2.ensures, c.base-b1.ensures, c.base-b2.ensures) in
     let next : sums_of c.if-good_window.sums ≡ step s (window a1 a2 b1 b2) =
-    ⊎_elim
-    (λ t. ap sums_of t.4 ∙ t.3.ensures.0 ∙ good-window s a1 a2 b1 b2 (sym c.good_window.ensures ∙ t.0.taken))
-    (λ t. ap sums_of t.3 ∙ t.2.ensures.0 ∙ bad-window s a1 a2 b1 b2 (sym c.good_window.ensures ∙ t.0.left))
-    c.if-good_window.branch in
+    elim c.if-good_window.branch [
+        then-good_window w ↦ ap sums_of w.sums-is ∙ w.after_good-sums.ensures.0 ∙ good-window s a1 a2 b1 b2 (sym c.good_window.ensures ∙ w.if-good_window.true)
+      | else-good_window w ↦ ap sums_of w.sums-is ∙ w.after_bad-sums.ensures.0 ∙ bad-window s a1 a2 b1 b2 (sym c.good_window.ensures ∙ w.if-good_window.false)
+    ] in
     let more : sums_of c.if-good_window.sums ≡ step s (window_at a b i) = next ∙ ap (step s) same in
     let was = c.loop-i.sums.missing in
     let flag : c.if-good_window.sums.missing ≡ flag_after s.bad was (window a1 a2 b1 b2) =
-    ⊎_elim
-    (λ t. ap missing_of t.4 ∙ t.3.ensures.1 ∙ good-flag s a1 a2 b1 b2 was (sym c.good_window.ensures ∙ t.0.taken))
-    (λ t. ap missing_of t.3 ∙ t.2.ensures.1 ∙ bad-flag s a1 a2 b1 b2 was (sym c.good_window.ensures ∙ t.0.left))
-    c.if-good_window.branch in
+    elim c.if-good_window.branch [
+        then-good_window w ↦ ap missing_of w.sums-is ∙ w.after_good-sums.ensures.1 ∙ good-flag s a1 a2 b1 b2 was (sym c.good_window.ensures ∙ w.if-good_window.true)
+      | else-good_window w ↦ ap missing_of w.sums-is ∙ w.after_bad-sums.ensures.1 ∙ bad-flag s a1 a2 b1 b2 was (sym c.good_window.ensures ∙ w.if-good_window.false)
+    ] in
     let now-flagged : c.if-good_window.sums.missing ≡ flag_after s.bad was (window_at a b i) = flag ∙ ap (flag_after s.bad was) same in
     let row : c.if-good_window.sums.bad ≡ bad_after s.bad (window_at a b i) = ap bad_of more ∙ step-bad s (window_at a b i) in (
       omega arith,

@@ -1,8 +1,6 @@
 use mathlib.Core.Path.{◌≡◌, refl}
-use Prim.Native.Nat.{suc, ◌≤◌, ◌<◌, ◌+◌, ◌-◌, ◌^◌}
+use Prim.Native.Nat.{suc, ◌<◌, ◌+◌, ◌-◌}
 use native.Mathlib.Omega.{arith}
-use borrow.Author.Rules.{rules}
-use Rattle.decimals.specs.Digits.{places}
 use Rattle.decimals.proofs.Written.{places-more, places-one, tenth-lt, not_last}
 use Rattle.decimals.proofs.digits.count_places.Goals as goal
 

@@ -1,11 +1,8 @@
 -- `decimals::digits::count_places` meets its contract. The loop's invariant: the digits counted and those of what is left are all. A number of 64
 -- bits has at most 20 digits. Assumes nothing.
-use mathlib.Core.Path.{◌≡◌, refl}
-use Prim.Native.Nat.{suc, ◌≤◌, ◌<◌, ◌+◌, ◌-◌, ◌^◌}
-use native.Mathlib.Omega.{arith}
-use borrow.Author.Rules.{rules}
+use mathlib.Core.Path.{◌≡◌}
+use Prim.Native.Nat.{◌≤◌, ◌<◌, ◌+◌, ◌-◌, ◌^◌}
 use Rattle.decimals.specs.Digits.{places}
-use Rattle.decimals.proofs.Written.{places-more, places-one, tenth-lt, not_last}
 use Rattle.decimals.proofs.digits.count_places.Given as goal
 
 abbrev pub invariant-loop-left : goal.invariant-loop-left

@@ -1,5 +1,4 @@
 -- `decimals::digits::digit` meets its contract. Assumes nothing.
-use borrow.Author.Rules.{rules}
 use borrow.Author.Tests.{lt-ltb, le-ltb}
 use Rattle.decimals.proofs.digits.digit.Goals as goal
 

@@ -1,11 +1,9 @@
 use mathlib.Core.Path.{◌≡◌, sym}
 use mathlib.Core.Bool.{true, false}
-use Prim.Native.Nat.{◌≤◌, ◌-◌, ◌+◌}
 use native.Mathlib.Nat.{zero-add}
 use native.Mathlib.Omega.{arith}
-use lib.ListN.{length, get_or, drop}
+use lib.ListN.{get_or}
 use borrow.Author.Tests.{le-leb, lt-leb}
-use borrow.Author.Rules.{rules}
 use Rattle.lists.proofs.Find.{first-here, first-later, first_past}
 use Rattle.decimals.specs.Digits.{not_digit, digit_run}
 use Rattle.decimals.proofs.digits.digit_run.Goals as goal

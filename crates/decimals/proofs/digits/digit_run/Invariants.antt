@@ -1,14 +1,8 @@
 -- `decimals::digits::digit_run` meets its contract. The loop's invariant: the run is i and the run from there on. Assumes nothing.
-use mathlib.Core.Path.{◌≡◌, sym}
-use mathlib.Core.Bool.{true, false}
+use mathlib.Core.Path.{◌≡◌}
 use Prim.Native.Nat.{◌≤◌, ◌-◌, ◌+◌}
-use native.Mathlib.Nat.{zero-add}
-use native.Mathlib.Omega.{arith}
-use lib.ListN.{length, get_or, drop}
-use borrow.Author.Tests.{le-leb, lt-leb}
-use borrow.Author.Rules.{rules}
-use Rattle.lists.proofs.Find.{first-here, first-later, first_past}
-use Rattle.decimals.specs.Digits.{not_digit, digit_run}
+use lib.ListN.{length, drop}
+use Rattle.decimals.specs.Digits.{digit_run}
 use Rattle.decimals.proofs.digits.digit_run.Given as goal
 
 abbrev pub invariant-loop-i : goal.invariant-loop-i

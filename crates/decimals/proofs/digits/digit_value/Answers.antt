@@ -1,6 +1,5 @@
 -- `decimals::digits::digit_value` meets its contract. Assumes nothing.
 use native.Mathlib.Omega.{arith}
-use borrow.Author.Rules.{rules}
 use Rattle.decimals.proofs.Worth.{worth-digit, worth-small, worth-large, worth-below, worth-between, worth-later, worth-above}
 use Rattle.decimals.proofs.digits.digit_value.Goals as goal
 

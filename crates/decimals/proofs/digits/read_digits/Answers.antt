@@ -1,9 +1,8 @@
 use mathlib.Core.Path.{◌≡◌, refl, sym, ◌∙◌}
-use Prim.Native.Nat.{◌≤◌, ◌-◌, ◌+◌, ◌*◌}
+use Prim.Native.Nat.{◌+◌, ◌*◌}
 use native.Mathlib.Nat.{le_trans, le_of_eq, min-eq_left, min-eq_right}
 use native.Mathlib.Omega.{arith}
-use lib.ListN.{length, get_or, drop, drop_of_length-le}
-use borrow.Author.Rules.{rules}
+use lib.ListN.{get_or, drop, drop_of_length-le}
 use Rattle.decimals.specs.Digits.{digit_value, numeral}
 use Rattle.decimals.proofs.Worth.{numeral-more, numeral-none, numeral-grows, above-limit, within-limit}
 use Rattle.decimals.proofs.digits.read_digits.Goals as goal
@@ -13,7 +12,6 @@ loop-i-init c = (omega arith, omega arith, refl)
 
 pub returns-then-limit-digit : goal.returns-then-limit-digit
 returns-then-limit-digit c =
-    
     let a = c.args in
     let l = c.loop-i in
     let d = c.digit_value-digit in
@@ -25,7 +23,6 @@ returns-then-limit-digit c =
 
 pub overflow_mul-n : goal.overflow_mul-n
 overflow_mul-n c =
-    
     let a = c.args in
     let l = c.loop-i in
     let fits = within-limit a.limit l.n a.base c.digit_value-digit.result c.requires.0 c.digit_value-digit.ensures.1 c.requires.1 c.if-limit-digit.false in
@@ -33,7 +30,6 @@ overflow_mul-n c =
 
 pub overflow_add-n : goal.overflow_add-n
 overflow_add-n c =
-    
     let a = c.args in
     let l = c.loop-i in
     let fits = within-limit a.limit l.n a.base c.digit_value-digit.result c.requires.0 c.digit_value-digit.ensures.1 c.requires.1 c.if-limit-digit.false in
@@ -41,7 +37,6 @@ overflow_add-n c =
 
 pub loop-i-preserved : goal.loop-i-preserved
 loop-i-preserved c =
-    
     let a = c.args in
     let l = c.loop-i in
     let d = c.digit_value-digit in

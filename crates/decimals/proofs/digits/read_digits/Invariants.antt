@@ -1,13 +1,9 @@
 -- `decimals::digits::read_digits` meets its contract. The loop's invariant: the digits from i on, after those that stand for n, stand for the whole
 -- number. Assumes nothing.
-use mathlib.Core.Path.{◌≡◌, refl, sym, ◌∙◌}
-use Prim.Native.Nat.{◌≤◌, ◌-◌, ◌+◌, ◌*◌}
-use native.Mathlib.Nat.{le_trans, le_of_eq, min-eq_left, min-eq_right}
-use native.Mathlib.Omega.{arith}
-use lib.ListN.{length, get_or, drop, drop_of_length-le}
-use borrow.Author.Rules.{rules}
-use Rattle.decimals.specs.Digits.{digit_value, numeral}
-use Rattle.decimals.proofs.Worth.{numeral-more, numeral-none, numeral-grows, above-limit, within-limit}
+use mathlib.Core.Path.{◌≡◌}
+use Prim.Native.Nat.{◌≤◌, ◌-◌}
+use lib.ListN.{length, drop}
+use Rattle.decimals.specs.Digits.{numeral}
 use Rattle.decimals.proofs.digits.read_digits.Given as goal
 
 abbrev pub invariant-loop-i : goal.invariant-loop-i

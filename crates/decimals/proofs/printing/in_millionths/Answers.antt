@@ -1,6 +1,5 @@
 -- `decimals::printing::in_millionths` meets its contract. Assumes nothing.
 use mathlib.Core.Path.{◌∙◌}
-use borrow.Author.Rules.{rules}
 use Rattle.decimals.proofs.Sizes.{low-millionths, normal-millionths}
 use Rattle.decimals.proofs.printing.in_millionths.Goals as goal
 

@@ -1,7 +1,6 @@
 -- `decimals::printing::put_signs` meets its contract. Assumes nothing.
 use mathlib.Core.Path.{◌≡◌}
 use native.Mathlib.Omega.{arith}
-use borrow.Author.Rules.{rules}
 use Rattle.decimals.proofs.printing.put_signs.Goals as goal
 
 pub returns-then-signs-eq1 : goal.returns-then-signs-eq1

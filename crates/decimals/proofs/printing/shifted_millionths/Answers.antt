@@ -11,21 +11,18 @@ use Rattle.decimals.proofs.printing.shifted_millionths.Goals as goal
 
 pub times-requires : goal.times-requires
 times-requires c =
-    
     let num = c.limbs_of-num in
     let e : length num.result ≡ 47 = search rules in
     rw (e, num.ensures) (million-room c.args.significand c.requires.0)
 
 pub times_power-requires : goal.times_power-requires
 times_power-requires c =
-    
     let den = c.limbs_of-den in
     let e : length den.result ≡ 47 = search rules in
     (omega arith, rw (e, den.ensures) (once-below (1 * 2 ^ (c.args.shift + 63)) 2 (2 ^ (32 * 47)) (omega arith) (unit-room c.args.shift c.requires.2)))
 
 pub nearest_quotient-requires : goal.nearest_quotient-requires
 nearest_quotient-requires c =
-    
     let num = c.times in
     let den = c.times_power in
     let m : length num.new.limbs ≡ 47 = search rules in
@@ -41,7 +38,6 @@ nearest_quotient-requires c =
 
 pub returns : goal.returns
 returns c =
-    
     let num = c.times in
     let den = c.times_power in
     let digits : value_of num.new.limbs ≡ c.args.significand * 1000000 = num.ensures ∙ ap (◌* 1000000) c.limbs_of-num.ensures in

@@ -1,7 +1,6 @@
 -- `decimals::reading::all_digits` meets its contract. Assumes nothing.
 use native.Mathlib.Omega.{arith}
 use lib.ListN.{length}
-use borrow.Author.Rules.{rules}
 use borrow.Author.Tests.{lt-ltb, le-ltb}
 use Rattle.decimals.proofs.reading.all_digits.Goals as goal
 

@@ -1,6 +1,5 @@
 -- `decimals::reading::begins_with` meets its contract. Assumes nothing.
 use native.Mathlib.Omega.{arith}
-use borrow.Author.Rules.{rules}
 use Rattle.decimals.proofs.Texts.{begins-here, begins-not}
 use Rattle.decimals.proofs.reading.begins_with.Goals as goal
 

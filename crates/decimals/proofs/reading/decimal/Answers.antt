@@ -1,14 +1,10 @@
 -- `decimals::reading::decimal` meets its contract. Assumes nothing.
 use mathlib.Core.Path.{sym, ◌∙◌}
-use borrow.Author.Rules.{rules}
 use Rattle.decimals.proofs.Placed.{parts_are, decimal-malformed, decimal-up, decimal-down}
 use Rattle.decimals.proofs.reading.decimal.Goals as goal
 
 pub returns-in-Malformed : goal.returns-in-Malformed
 returns-in-Malformed c =
-    
-    
-    
     let word = c.args.word.now in
     let are =
     parts_are word _ _ _ _ _ _ _ _ _ _ _ c.sign_length.ensures.0 c.past-body.ensures c.digit_run-whole.ensures.0
@@ -19,9 +15,6 @@ returns-in-Malformed c =
 
 pub returns-in-Up : goal.returns-in-Up
 returns-in-Up c =
-    
-    
-    
     let word = c.args.word.now in
     let are =
     parts_are word _ _ _ _ _ _ _ _ _ _ _ c.sign_length.ensures.0 c.past-body.ensures c.digit_run-whole.ensures.0
@@ -32,9 +25,6 @@ returns-in-Up c =
 
 pub returns-in-Down : goal.returns-in-Down
 returns-in-Down c =
-    
-    
-    
     let word = c.args.word.now in
     let are =
     parts_are word _ _ _ _ _ _ _ _ _ _ _ c.sign_length.ensures.0 c.past-body.ensures c.digit_run-whole.ensures.0

@@ -2,7 +2,6 @@
 use mathlib.Core.Path.{sym, ap, ◌∙◌}
 use Prim.Native.Nat.{ℕ}
 use lib.ListN.{drop}
-use borrow.Author.Rules.{rules}
 use borrow.Author.Tests.{not-true, not-false}
 use Rattle.decimals.proofs.Exponents.{exponent-malformed, exponent-down, exponent-up}
 use Rattle.decimals.proofs.reading.exponent_after.Goals as goal

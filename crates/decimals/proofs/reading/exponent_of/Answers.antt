@@ -1,6 +1,5 @@
 -- `decimals::reading::exponent_of` meets its contract. Assumes nothing.
 use mathlib.Core.Path.{sym, ◌∙◌}
-use borrow.Author.Rules.{rules}
 use Rattle.decimals.proofs.Exponents.{exponent-none, exponent_small, exponent-large, exponent-other}
 use Rattle.decimals.proofs.reading.exponent_of.Goals as goal
 
@@ -14,13 +13,11 @@ returns-then-begins_with c =
 
 pub returns-then-begins_with-2 : goal.returns-then-begins_with-2
 returns-then-begins_with-2 c =
-    
     c.exponent_after-then-begins_with-2.ensures
     ∙ exponent-large c.args.rest.now c.if-rest-eq0.false _ c.past-then-begins_with-2.ensures
     (sym c.begins_with.ensures ∙ c.if-begins_with.false) (sym c.begins_with-2.ensures ∙ c.if-begins_with-2.true)
 
 pub returns : goal.returns
 returns c =
-    
     exponent-other c.args.rest.now c.if-rest-eq0.false (sym c.begins_with.ensures ∙ c.if-begins_with.false)
     (sym c.begins_with-2.ensures ∙ c.if-begins_with-2.false)

@@ -1,5 +1,4 @@
 -- `decimals::reading::past` meets its contract. Assumes nothing.
-use borrow.Author.Rules.{rules}
 use Rattle.decimals.proofs.Texts.{rest-is}
 use Rattle.decimals.proofs.reading.past.Goals as goal
 

@@ -2,7 +2,6 @@
 use mathlib.Core.Path.{refl}
 use Prim.Native.Nat.{◌-◌}
 use native.Mathlib.Omega.{arith}
-use borrow.Author.Rules.{rules}
 use Rattle.decimals.proofs.Placed.{double-is, placed-near, placed-high, placed-low}
 use Rattle.decimals.proofs.reading.place.Goals as goal
 

@@ -1,6 +1,5 @@
 -- `decimals::reading::point_length` meets its contract. Assumes nothing.
 use mathlib.Core.Path.{sym, ◌∙◌}
-use borrow.Author.Rules.{rules}
 use Rattle.decimals.proofs.Texts.{point-there, point-none}
 use Rattle.decimals.proofs.reading.point_length.Goals as goal
 

@@ -1,6 +1,5 @@
 -- `decimals::reading::sign_length` meets its contract. Assumes nothing.
 use mathlib.Core.Path.{sym, ◌∙◌}
-use borrow.Author.Rules.{rules}
 use Rattle.decimals.proofs.Texts.{sign-plus, sign-minus, sign-none}
 use Rattle.decimals.proofs.reading.sign_length.Goals as goal
 

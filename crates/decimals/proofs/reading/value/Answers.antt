@@ -3,7 +3,6 @@ use mathlib.Core.Path.{sym, ◌∙◌}
 use mathlib.Core.Bool.{cond}
 use Prim.Native.Nat.{◌+◌}
 use lib.ListN.{length}
-use borrow.Author.Rules.{rules}
 use Rattle.decimals.proofs.Placed.{valued-none, valued-many, valued-high, valued-placed, placed-long, read-both}
 use Rattle.decimals.proofs.reading.value.Goals as goal
 
@@ -15,7 +14,6 @@ returns-then-no_digits c =
 
 pub returns-then-digits-ge-TOO_MANY : goal.returns-then-digits-ge-TOO_MANY
 returns-then-digits-ge-TOO_MANY c =
-    
     let a = c.args in
     let whole = a.whole.now in
     let fraction = a.fraction.now in
@@ -25,7 +23,6 @@ returns-then-digits-ge-TOO_MANY c =
 
 pub returns-then-power-ge-TOO_HIGH : goal.returns-then-power-ge-TOO_HIGH
 returns-then-power-ge-TOO_HIGH c =
-    
     let a = c.args in
     let whole = a.whole.now in
     let fraction = a.fraction.now in
@@ -35,7 +32,6 @@ returns-then-power-ge-TOO_HIGH c =
 
 pub returns-then-fraction-gt65535 : goal.returns-then-fraction-gt65535
 returns-then-fraction-gt65535 c =
-    
     let a = c.args in
     let whole = a.whole.now in
     let fraction = a.fraction.now in
@@ -46,7 +42,6 @@ returns-then-fraction-gt65535 c =
 
 pub returns-then-downwards : goal.returns-then-downwards
 returns-then-downwards c =
-    
     let a = c.args in
     let whole = a.whole.now in
     let fraction = a.fraction.now in
@@ -57,7 +52,6 @@ returns-then-downwards c =
 
 pub returns : goal.returns
 returns c =
-    
     let a = c.args in
     let whole = a.whole.now in
     let fraction = a.fraction.now in

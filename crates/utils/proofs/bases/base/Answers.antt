@@ -31,6 +31,6 @@ pub returns-in_default : goal.returns-in_default
 unfolding numbered
 returns-in_default c =
     
-    let rest = c.in_default.rest in
+    let rest = c.in_default.in_default-own.rest in
     let base : numbered c.base_index.result ≡ base_of c.args.letter = ap numbered c.base_index.ensures.0 ∙ numbered-index _ in
     simp (ne_eqb _ _ rest.0.0.1, ne_eqb _ _ rest.0.1, ne_eqb _ _ rest.1) at base

@@ -24,6 +24,6 @@ returns-in-116 c = at-letter is_base true refl refl c.in-116.is
 pub returns-in_default : goal.returns-in_default
 unfolding is_base
 returns-in_default c =
-    let rest = c.in_default.rest in
+    let rest = c.in_default.in_default-own.rest in
     let byte = c.args.letter in
     simp (no-letter 97 65 byte rest.0.0.0.1, no-letter 99 67 byte rest.0.0.1, no-letter 103 71 byte rest.0.1, no-letter 116 84 byte rest.1)

@@ -16,8 +16,8 @@ use Rattle.utils.proofs.tables.loop_units.Goals as goal
 pub mul_units-requires : goal.mul_units-requires
 mul_units-requires c = (lit≤ tt, rw c.ln_whole.ensures (le_trans (log-room c.args.tenths c.args.base c.args.length (omega arith) (omega arith) (omega arith) (omega arith)) (lit≤ tt)))
 
-room : (c : lts.After-mul-units (ln-whole-reads.Asked, ln-whole-reads.Learnt, mul-units-reads.Asked, mul-units-reads.Learnt) reads.Pre reads.Post) → c.before.before.args.tenths * 2 ^ 46 / 10 + 2 * c.mul-units.result < 2 ^ 53
-room c = rw (c.mul-units.ensures, c.before.ln-whole.ensures) (between-small c.before.before.args.tenths c.before.before.args.base c.before.before.args.length (omega arith) (omega arith) (omega arith) (omega arith))
+room : (c : lts.After-mul_units (ln-whole-reads.Asked, ln-whole-reads.Learnt, mul-units-reads.Asked, mul-units-reads.Learnt) reads.Pre reads.Post) → c.before.before.args.tenths * 2 ^ 46 / 10 + 2 * c.mul_units.result < 2 ^ 53
+room c = rw (c.mul_units.ensures, c.before.ln_whole.ensures) (between-small c.before.before.args.tenths c.before.before.args.base c.before.before.args.length (omega arith) (omega arith) (omega arith) (omega arith))
 
 pub overflow_mul-result-2 : goal.overflow_mul-result-2
 overflow_mul-result-2 c = omega (arith, room c)
