@@ -1,12 +1,12 @@
 -- `is_deck` of the form with runs is the test for document 02's rules, taken one by one. Assumes nothing.
 use mathlib.Core.Path.{◌≡◌, refl, sym, ap, subst, ◌∙◌}
-use mathlib.Core.Bool.{Bool, true, false, true≢false, false≢true}
+use mathlib.Core.Bool.{true, false, true≢false, false≢true}
 use mathlib.Core.List.{List, [], ◌∷◌, ◌++◌, map}
 use mathlib.Core.Logic.{◌↔◌}
-use Prim.Native.Nat.{ℕ, ◌+◌, ◌-◌, ◌*◌, ◌/◌, ◌%◌, ◌≤◌, ◌<◌, ◌^◌}
+use Prim.Native.Nat.{ℕ, ◌+◌, ◌-◌, ◌*◌, ◌/◌, ◌%◌, ◌≤◌}
 use native.Mathlib.Omega.{arith}
 use lib.Dec.{eqb}
-use borrow.Author.Tests.{eqb-true, eq-eqb, ne_eqb}
+use borrow.Author.Tests.{eq-eqb, ne_eqb}
 use Rattle.deck.specs.Word.{kind_of, payload_of}
 use Rattle.deck.specs.Form.{runs, stretch, same_run}
 use Rattle.deck.specs.Deck.{positions, is_deck}
@@ -86,8 +86,8 @@ to-rules (first ∷ rest) d =
 from-total : {total : ℕ} (front back : List ℕ) (word : ℕ) → Total (front ++ word ∷ back) total → Rule word (runs.stretch_of word)
 from-total [] back word (strands r t) = of-strand (rw (strand-stretch r) r)
 from-total [] back word (empties r t) = of-empties (rw (empty-stretch r) r) (rw (empty-stretch r))
-from-total (w ∷ front) back word (strands r t) = from-total front back word t
-from-total (w ∷ front) back word (empties r t) = from-total front back word t
+from-total (w ∷ front) back word (strands {run = run} {rest-total = rest-total} r t) = from-total {total = rest-total} front back word t
+from-total (w ∷ front) back word (empties {run = run} {rest-total = rest-total} r t) = from-total {total = rest-total} front back word t
 
 total-positions : {words : List ℕ} {total : ℕ} → Total words total → positions (map runs.stretch_of words) ≡ total
 unfolding positions

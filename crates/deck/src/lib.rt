@@ -1,5 +1,6 @@
 // Stored configurations: the archive's deck of words, read and written.
 #![tactic(auto)]
+
 mod form;
 mod reading;
 pub mod word;

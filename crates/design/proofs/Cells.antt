@@ -1,5 +1,5 @@
 -- What the fillers leave is what a search over the model of an admitted design reads. Assumes nothing.
-use mathlib.Core.Path.{◌≡◌, refl, sym, subst, ◌∙◌}
+use mathlib.Core.Path.{◌≡◌, sym, subst, ◌∙◌}
 use mathlib.Core.Logic.{◌⊎◌, inl, inr}
 use mathlib.Core.List.Memᴰ
 use mathlib.Core.List.{List, [], ◌∷◌, Memᴰ}
@@ -15,7 +15,7 @@ use Rattle.model.specs.Search.{options_at}
 use Rattle.ensemble.specs.Layout.{OptionRows, BondCells, option_in}
 use Rattle.ensemble.specs.Ring.{ClosingCells}
 use Rattle.ensemble.proofs.Options.{count-is, option_is}
-use Rattle.design.specs.Design.{Design, positions, strands, strand_bond_in, scaffold_bond_in, model_of}
+use Rattle.design.specs.Design.{Design, strands, strand_bond_in, scaffold_bond_in, model_of}
 use Rattle.design.specs.Checks.{Admitted, TablesPass}
 use Rattle.design.specs.Filling.{NullNowhere, Holds, PairsHeld, ClosingHeld, SitesHeld}
 use Rattle.design.proofs.FriendLaws.{friends-right, friend-tested, null-not-bound}

@@ -26,7 +26,6 @@ use Rattle.model.specs.TwoEnergies.{NullBonds}
 use Rattle.model.proofs.TwoEnergies.{zero-parts, two-energies}
 use Rattle.reply.specs.First.{first_of}
 use Rattle.reply.specs.declared.Reply.{Reply}
-use Rattle.reply.specs.declared.Reply.TheVariants as Reply
 use Rattle.design.specs.Design.{Design, strands, west, bottom, east, cell, binding, bond_of, strand_bond, strand_bond_in, model_of}
 use Rattle.design.specs.Checks.{Admitted, null_glued, null_cells, null_binds, energy_checks}
 use Rattle.design.specs.Answers.{state_energy_answer, chain_energy_answer}

@@ -7,7 +7,6 @@ use Prim.Native.Nat.{ℕ, zero, suc, ◌+◌, ◌-◌, ◌<◌, ◌≤◌}
 use native.Mathlib.Decide.{dec_lt}
 use native.Mathlib.Nat.{not-suc-le-zero}
 use native.Mathlib.Omega.{arith}
-use lib.Dec.{ltb}
 use lib.ListN.{length, get_or}
 use lib.Ieee.{Float}
 use borrow.Author.Tests.{lt-ltb, le-ltb, ltb-true}
@@ -25,10 +24,9 @@ use Rattle.reply.specs.declared.Refusal.TheVariants.{WrongSize, OutOfRange, Null
 use Rattle.reply.specs.declared.Place.{Place}
 use Rattle.reply.specs.declared.Place.TheVariants.{Nowhere, At}
 use Rattle.reply.specs.declared.Reply.{Reply}
-use Rattle.reply.specs.declared.Reply.TheVariants as Reply
 use Rattle.units.specs.declared.Ambient.{Ambient}
 use Rattle.design.specs.Design.{Design, positions, strands}
-use Rattle.design.specs.Checks.{beyond, friend_at, somewhere, TablesPass, sizes_out, cells_out, bad_cell, rt_out, strand_excess_out, scaffold_excess_out, ambient_out, bad_ambient, unfit, potentials_out, bad_potential, null_binds, table_checks, number_checks, design_checks}
+use Rattle.design.specs.Checks.{beyond, friend_at, somewhere, TablesPass, sizes_out, cells_out, bad_cell, rt_out, strand_excess_out, scaffold_excess_out, ambient_out, bad_ambient, potentials_out, bad_potential, null_binds, number_checks, design_checks}
 use Rattle.design.specs.Places.{cell_out, ambient_number_out, potential_out, LowestOut, PlacesRight}
 use Rattle.design.proofs.Sizes.{sized}
 use Rattle.design.proofs.FriendLaws.{null-no-friend}

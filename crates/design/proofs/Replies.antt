@@ -1,13 +1,12 @@
 -- What the reply of a call on a design says of it, and how it is put together. Assumes nothing.
-use mathlib.Core.Path.{◌≡◌, refl, ap, sym, ◌∙◌}
-use mathlib.Core.Bool.{Bool, true, false, ◌||◌}
-use mathlib.Core.List.{List, [], ◌∷◌, ◌++◌}
+use mathlib.Core.Path.{◌≡◌, sym, ◌∙◌}
+use mathlib.Core.Bool.{Bool, false}
+use mathlib.Core.List.{List, [], ◌++◌}
 use Rattle.lists.proofs.Tests.{neither}
 use Rattle.reply.specs.First.{Check, first_of, ◌or_else◌}
 use Rattle.reply.specs.declared.Refusal.{Refusal}
 use Rattle.reply.specs.declared.Place.{Place}
 use Rattle.reply.specs.declared.Reply.{Reply}
-use Rattle.reply.specs.declared.Reply.TheVariants as Reply
 use Rattle.reply.proofs.First.{none-holds, both-pass, reply-append, joined}
 use Rattle.design.specs.Design.{Design}
 use Rattle.design.specs.Checks.{sizes_out, table_checks, number_checks, design_checks, TablesPass, Admitted}

@@ -25,7 +25,7 @@ use Rattle.model.specs.Read.{SameRead, Alike}
 use Rattle.model.proofs.Read.{only-friends-read}
 use Rattle.design.specs.Design.{Design, positions, strands, potential, friends_of, model_of}
 use Rattle.design.specs.Checks.{beyond, friend_at, somewhere, unfit, wrong_sizes, sizes_out, potentials_out, bad_potential, strangers, no_strand, no_position, table_checks, number_checks, design_checks, own_count_checks, own_rank_checks, own_energy_checks, strand_bond_checks, scaffold_bond_checks, friends_checks, count_checks, rank_checks, energy_checks}
-use Rattle.design.specs.Answers.{Chain, no_chain}
+use Rattle.design.specs.Answers.{no_chain}
 use Rattle.design.specs.Unread.{with_potentials, ReadAlike, AnswersAlike, UnreadPotentials}
 use Rattle.design.proofs.FriendLaws.{tested-friend}
 use Rattle.design.proofs.Finite.{taken}

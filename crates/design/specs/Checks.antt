@@ -1,5 +1,5 @@
 -- The conditions on which a design, or what is asked of it, is refused, and each call's checks.
-use Rattle.std.specs.Prelude.{◌≡◌, Bool, not, false, cond, ◌&&◌, ◌||◌, List, [], ◌∷◌, ◌++◌, ℕ, ◌+◌, ◌-◌, ◌*◌, leb, ltb, eqb, length, get_or, Float}
+use Rattle.std.specs.Prelude.{◌≡◌, Bool, not, false, cond, ◌&&◌, ◌||◌, List, [], ◌∷◌, ◌++◌, ℕ, ◌+◌, ◌*◌, leb, ltb, eqb, length, get_or, Float}
 use Rattle.lists.specs.Build.{up_to, tabulate}
 use Rattle.lists.specs.Find.{any, first_index}
 use Rattle.doubles.specs.Decimal.{plus, minus, nearest, zero}

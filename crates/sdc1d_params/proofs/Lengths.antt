@@ -1,6 +1,6 @@
 -- The conditions of the size check, in the order in which the code looks at them, and what it leaves. Assumes nothing.
-use mathlib.Core.Path.{◌≡◌, refl, ap, sym, ◌∙◌}
-use mathlib.Core.Bool.{Bool, true, false, not, ◌||◌}
+use mathlib.Core.Path.{◌≡◌, refl, ◌∙◌}
+use mathlib.Core.Bool.{Bool, false, not, ◌||◌}
 use mathlib.Core.List.{List}
 use Prim.Native.Nat.{ℕ, ◌*◌, ◌%◌, ◌≤◌}
 use native.Mathlib.Omega.{arith}
@@ -12,7 +12,7 @@ use Rattle.lists.specs.Find.{any}
 use Rattle.lists.proofs.Tests.{neither}
 use Rattle.lists.proofs.Counted.{any-fails}
 use Rattle.sdc_common.specs.Lent.{unfit_name, unfit_glue, unfit_names}
-use Rattle.sdc_common.specs.Calls.{too_many_strands, unfit_strands}
+use Rattle.sdc_common.specs.Calls.{unfit_strands}
 use Rattle.sdc_common.specs.inner.Fit.{Fit}
 use Rattle.sdc1d_params.specs.Entries.{energy_of, bad_form, unfit_energy, unfit_entry, entry_at, entry_rows, entries_of, unfit_entries}
 use Rattle.sdc1d_params.specs.inner.Cells.{first_of}

@@ -14,7 +14,7 @@ use Rattle.lists.specs.Fold.{foldl}
 use Rattle.lists.specs.Each.{Each}
 use Rattle.lists.specs.Build.{tabulate}
 use Rattle.lists.proofs.Each.{each-tabulate}
-use Rattle.sdc1d_params.specs.Entries.{Cell, cell, is_written, same_pair}
+use Rattle.sdc1d_params.specs.Entries.{Cell, is_written, same_pair}
 use Rattle.sdc1d_params.specs.Tables.{place_of}
 use Rattle.sdc1d_params.specs.inner.Cells.{mark_both, is_marked}
 

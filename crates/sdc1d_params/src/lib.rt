@@ -1,5 +1,6 @@
 // Glue tables from names and energies, as `from_params` of sdc1d.rs builds them.
 #![tactic(auto)]
+
 mod building;
 mod cells;
 mod checks;

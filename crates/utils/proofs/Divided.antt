@@ -1,6 +1,6 @@
 -- One division of a whole number gives the double nearest to its decimal, for every entry of the two tables: a test over each table, worked out
 -- once, and a law that turns it into the equation at an entry. Assumes nothing.
-use mathlib.Core.Path.{◌≡◌, refl, ap, sym, ◌∙◌}
+use mathlib.Core.Path.{◌≡◌, refl, ap}
 use mathlib.Core.Bool.{Bool, true, false, not, ◌&&◌, ◌||◌, beq, false≢true, true≢false}
 use mathlib.Core.List.{List, [], ◌∷◌}
 use Prim.Native.Nat.{ℕ}

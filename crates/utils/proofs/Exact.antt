@@ -2,13 +2,13 @@
 use mathlib.Core.Path.{◌≡◌, refl, ap, sym, ◌∙◌}
 use mathlib.Core.Bool.{Bool, true, false, cond, ◌&&◌}
 use mathlib.Core.List.{List, [], ◌∷◌, ◌++◌, map, map-map, map-append}
-use Prim.Native.Nat.{ℕ, zero, suc, ◌+◌, ◌-◌, ◌*◌, ◌^◌, ◌≤◌, ◌<◌}
+use Prim.Native.Nat.{ℕ, suc, ◌+◌, ◌-◌, ◌*◌, ◌^◌, ◌≤◌}
 use native.Mathlib.Nat.{le_trans, add-mul, suc-mul, mul-le-mul_right, lt_of_lt_of_le, pow-le-pow_left, mul_left_comm}
 use native.Mathlib.Omega.{arith}
 use lib.Dec.{T, eqb, leb, eqb→eq, leb→le, le→leb, lit≤, lit<}
 use lib.Pow.{pow_pos, pow-add}
 use lib.ListN.{length, length-map, length-append}
-use lib.Ieee.{Float, binary64, prec, low, add}
+use lib.Ieee.{Float, binary64, prec, low}
 use Rattle.lists.specs.Each.{Each}
 use Rattle.lists.proofs.Each.{each_append, each_all, each_map}
 use Rattle.doubles.specs.Decimal as Decimal
@@ -26,10 +26,10 @@ use Rattle.reply.specs.declared.Reply.TheVariants.{Admitted}
 use Rattle.utils.specs.Bases.{Base, bases}
 use Rattle.utils.specs.Paper.{stack_of, find, table1, initiation_dg, initiation_ds, terminal_dg, terminal_ds, symmetry_dg, symmetry_ds, kilo}
 use Rattle.utils.specs.Figures.{stack_dg, stack_ds, entropy_of, start_dg, start_ds, printed_start_ds, end_dg, end_ds, symmetric_dg, symmetric_ds}
-use Rattle.utils.specs.Single.{Neighbours, neighbours, at_neighbours, stack_sum, sequence_checks, string_dna_dg_ds}
-use Rattle.utils.specs.Terms.{is_a_or_t, first_base, last_base, self_complementary, end_term, symmetry_term, terms_after, published_dg, published_ds, published_dna_dg_ds}
+use Rattle.utils.specs.Single.{Neighbours, neighbours, stack_sum, sequence_checks, string_dna_dg_ds}
+use Rattle.utils.specs.Terms.{is_a_or_t, first_base, last_base, self_complementary, terms_after, published_dg, published_ds, published_dna_dg_ds}
 use Rattle.utils.specs.Exact.{above, below, together, dg_of, ds_of, old_dg, old_ds, paper_dg, paper_ds, NearSum, count, weak_ends, WholeDuplexes}
-use Rattle.utils.proofs.Small.{small, nearest-within, every, halves, tested}
+use Rattle.utils.proofs.Small.{nearest-within, halves, tested}
 use Rattle.utils.proofs.Finite.{few-neighbours, sequence-short, one-energy, sums-finite, energy-of, entropy-of}
 
 -- ---- arithmetic

@@ -2,7 +2,6 @@
 use mathlib.Core.Path.{◌≡◌, sym, ap, ap₂, ◌∙◌}
 use Prim.Native.Nat.{ℕ, ◌≤◌}
 use lib.ListN.{get_or}
-use lib.Ieee.{Float}
 use Rattle.logarithm.specs.Figure.{fixed}
 use Rattle.utils.specs.Paper.{no_loop, loop_figure}
 use Rattle.utils.specs.Figures.{loop_rows, loop_entry, entry_up_to, between_units, loop_energy}

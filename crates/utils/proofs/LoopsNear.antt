@@ -12,9 +12,9 @@ use lib.Ieee.Exact.{HasValue}
 use lib.Ieee.Fits.{down_pos}
 use lib.Ieee.Scale.{finite}
 use Rattle.lists.specs.Build.{keep}
-use Rattle.fractions.specs.Frac.{Frac, frac, none, plus, times, LeFrac}
+use Rattle.fractions.specs.Frac.{frac, plus, times, LeFrac}
 use Rattle.fractions.proofs.Frac.{le-frac-refl, le-frac-trans, plus-mono, times-mono, le-plus-right}
-use Rattle.doubles.specs.Decimal.{Decimal, plus as decimal, nearest}
+use Rattle.doubles.specs.Decimal.{plus as decimal, nearest}
 use Rattle.logarithm.specs.Logarithm.{lower, upper, LnAtMost, LnAtLeast}
 use Rattle.logarithm.specs.Figure.{mul_units, ln_whole, fixed}
 use Rattle.logarithm.specs.Near.{over_zero}
@@ -25,7 +25,7 @@ use Rattle.logarithm.proofs.Double.{fixed-value}
 use Rattle.logarithm.proofs.Right.{LnUnits}
 use Rattle.logarithm.proofs.Doubled.{whole-right}
 use Rattle.utils.specs.Paper.{Loop, table4, loop_figure}
-use Rattle.utils.specs.Figures.{loop_rows, row_up_to, entry_up_to, gain_units, between_units, admitted_length, loop_energy}
+use Rattle.utils.specs.Figures.{loop_rows, row_up_to, entry_up_to, gain_units, between_units, loop_energy}
 use Rattle.utils.specs.LoopsNear.{gain, slack, LoopNear, LoopsNear}
 use Rattle.utils.specs.declared.tables.LoopKind.{LoopKind}
 use Rattle.utils.specs.declared.tables.LoopKind.TheVariants.{Internal, Bulge, HairPin}

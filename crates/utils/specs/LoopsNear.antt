@@ -1,5 +1,5 @@
 -- How near the loop energies lie to document 02's exact values, every constant read as its exact decimal.
-use Rattle.std.specs.Prelude.{◌≡◌, true, ℕ, ◌*◌, ◌^◌, ◌<◌, T, Float}
+use Rattle.std.specs.Prelude.{◌≡◌, true, ℕ, ◌^◌, ◌<◌, T, Float}
 use Rattle.std.specs.Float.Ieee.Scale.{finite}
 use Rattle.fractions.specs.Frac.{Frac, frac, plus, times, LeFrac}
 use Rattle.logarithm.specs.Logarithm.{lower, upper}

@@ -1,5 +1,6 @@
 // Energies of sequences, as utils.rs works them out: of one strand on its perfect partner, and of two strands side by side.
 #![tactic(auto)]
+
 mod bases;
 mod tables;
 

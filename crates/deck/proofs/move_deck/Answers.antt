@@ -3,7 +3,9 @@
 use mathlib.Core.Path.{◌≡◌, sym, ap, ap₂, ◌∙◌}
 use mathlib.Core.Bool.{true}
 use native.Mathlib.Omega.{arith}
-use Prim.Native.Nat.{◌≤◌}
+use Prim.Native.Nat.{ℕ, ◌≤◌}
+use mathlib.Core.List.{List}
+use Rattle.deck.specs.Form.{Form}
 use lib.ListN.{length, take, replicate, length-take}
 use lib.Seq.{sets}
 use borrow.Author.Rules.{rules}
@@ -28,61 +30,48 @@ returns-then-moved-ne-WORDS c =
       moves_to = λ e. absurd (omega arith);
     }
 
--- where no fault was found, the deck is valid
-valid : (c : tie.After-enum-told) → is_deck (form_of c.before.before.before.before.before.before.args.from) c.before.before.before.before.before.before.args.words.now ≡ true
-valid c =
-    let a = c.before.before.before.before.before.before.args in
-    no-fault (form_of a.from) a.words.now (sym c.before.before.fault.ensures ∙ c.enum_told.given.1)
-
 pub unpack-count-requires : goal.unpack-count-requires
-unpack-count-requires c = (valid c, search rules)
+unpack-count-requires c = (no-fault (form_of c.args.from) c.args.words.now (sym c.fault.ensures ∙ c.in-Nowhere.is), search rules)
 
 -- what was read is the configuration
-configuration : (c : tie.After-unpack) → take c.unpack.result c.unpack.new.1.1.0
-    ≡ configuration_of (form_of c.before.before.before.before.before.before.before.before.args.from) c.before.before.before.before.before.before.before.before.args.words.now
-configuration c =
-    let a = c.before.before.before.before.before.before.before.before.args in
-    let u = c.unpack.ensures in
-    let read = configuration_of (form_of a.from) a.words.now in
-    let few = configuration-few (form_of a.from) a.words.now (valid c.before.before) in
-    ap₂ take u.0 (u.1 ∙ sets_over read (replicate 128 0) few) ∙ take-over read (replicate 128 0)
+configuration : (form : Form) (words entries : List ℕ) (count : ℕ) → is_deck form words ≡ true
+    → (count ≡ length (configuration_of form words)) × (entries ≡ sets (replicate 128 0) 0 (configuration_of form words))
+    → take count entries ≡ configuration_of form words
+configuration form words entries count v u =
+    let read = configuration_of form words in
+    ap₂ take u.0 (u.1 ∙ sets_over read (replicate 128 0) (configuration-few form words v)) ∙ take-over read (replicate 128 0)
 
 -- and it is of 128 positions at most
-count : (c : tie.After-unpack) → c.unpack.result ≤ 128
-count c =
-    let a = c.before.before.before.before.before.before.before.before.args in
-    let u = c.unpack.ensures in
-    let few = configuration-few (form_of a.from) a.words.now (valid c.before.before) in
-    omega arith
+few-read : (form : Form) (words : List ℕ) (n : ℕ) → is_deck form words ≡ true → n ≡ length (configuration_of form words) → n ≤ 128
+few-read form words n v e = let few = configuration-few form words v in omega arith
 
 pub slice_bounds-entries-end : goal.slice_bounds-entries-end
-slice_bounds-entries-end c = omega (arith, count c, c.unpack-count.auto.entries.1.0)
+slice_bounds-entries-end c = omega (arith, few-read (form_of c.args.from) c.args.words.now c.unpack-count.result (no-fault (form_of c.args.from) c.args.words.now (sym c.fault.ensures ∙ c.in-Nowhere.is)) c.unpack-count.ensures.0, c.unpack-count.auto.entries)
 
 pub slice_bounds-pack-end : goal.slice_bounds-pack-end
-slice_bounds-pack-end c = simp length-take (omega (arith, count c, c.unpack-count.auto.entries.1.0))
+slice_bounds-pack-end c = simp length-take (omega (arith, few-read (form_of c.args.from) c.args.words.now c.unpack-count.result (no-fault (form_of c.args.from) c.args.words.now (sym c.fault.ensures ∙ c.in-Nowhere.is)) c.unpack-count.ensures.0, c.unpack-count.auto.entries))
 
 pub pack-requires : goal.pack-requires
-pack-requires c = (simp length-take (omega (arith, count c)), search rules)
+pack-requires c = (simp length-take (omega (arith, few-read (form_of c.args.from) c.args.words.now c.unpack-count.result (no-fault (form_of c.args.from) c.args.words.now (sym c.fault.ensures ∙ c.in-Nowhere.is)) c.unpack-count.ensures.0)), search rules)
 
 pub returns-in-Nowhere : goal.returns-in-Nowhere
 unfolding move_figures move_words
 returns-in-Nowhere c =
-    
     let a = c.args in
     let t = eq-eqb (length a.moved.now) 129 c.if-moved-ne-WORDS.false in
-    let v = valid c in
+    let v = no-fault (form_of c.args.from) c.args.words.now (sym c.fault.ensures ∙ c.in-Nowhere.is) in
     let p = c.pack.ensures in
     let from = form_of a.from in
     let to = form_of (other_form a.from) in
     let words = a.words.now in
     let moved = a.moved.now in
-    let deck = ap₂ deck_of (ap form_of c.other.ensures) (configuration c) in
+    let deck = ap₂ deck_of (ap form_of c.other.ensures) (configuration from words c.unpack-count.new.entries c.unpack-count.result v c.unpack-count.ensures) in
     let count : c.pack.result ≡ length (moved_words from to words) = p.0 ∙ ap length deck in
     let few = configuration-few from words v in
     let room = deck-length to (configuration_of from words) in
-    let written : c.pack.new.words.1.0 ≡ over (moved_words from to words) moved =
+    let written : c.pack.new.words ≡ over (moved_words from to words) moved =
     p.1 ∙ ap (sets moved 0) deck ∙ sets_over (moved_words from to words) moved (omega arith) in
-    let result : take c.pack.result c.pack.new.words.1.0 ≡ moved_words from to words =
+    let result : take c.pack.result c.pack.new.words ≡ moved_words from to words =
     ap₂ take count written ∙ take-over (moved_words from to words) moved in
     record {
       result_value = rw (t, v, count);

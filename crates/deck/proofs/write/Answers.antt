@@ -9,7 +9,6 @@ use Rattle.deck.specs.Forms.{form_of}
 use Rattle.deck.specs.Deck.{deck_of, too_high}
 use Rattle.deck.specs.Writing.{write_figures, write_words}
 use Rattle.deck.proofs.Decks.{deck-length}
-use borrow.Author.Rules.{rules}
 use Rattle.deck.proofs.write.Goals as goal
 
 pub returns-then-configuration-gt-POSITIONS : goal.returns-then-configuration-gt-POSITIONS

@@ -55,7 +55,7 @@ pub slice_bounds-write_state-end-in-Admitted-or : goal.slice_bounds-write_state-
 slice_bounds-write_state-end-in-Admitted-or c =
     let a = c.args in
     let d : Design = lent a.scaffold a.marks a.glues a.dg a.ds a.potentials a.ambient in
-    let number : length c.count_options-states.new.marks.1.1.1.1.1.1.1.0 ≡ positions d = placed d c.count_options-states.ensures.option_rows in
+    let number : length c.count_options-states.new.counts ≡ positions d = placed d c.count_options-states.ensures.option_rows in
     simp length-append (omega arith)
 
 -- the replies put together are that of the call, where the tables pass
@@ -78,9 +78,9 @@ write_state-requires c =
     c.refused_if-many.ensures c.refused_if-high.ensures c.or.ensures (rank-told (count (model_of d)) states a.rank) c.numbers_reply-numbers.ensures c.or-in-Admitted.ensures c.in-Admitted-or.is in
     let p = passed size d (own_rank_checks d a.rank) [] reply in
     let low = ranked (count (model_of d)) a.rank p.own in
-    let number : length c.count_options-states.new.marks.1.1.1.1.1.1.1.0 ≡ positions d = placed d c.count_options-states.ensures.option_rows in
-    let full : length c.count_options-states.new.marks.1.1.1.1.1.1.1.0 ≡ positions d - 0 = omega (arith, number) in
-    let again = take_at c.count_options-states.new.marks.1.1.1.1.1.1.1.0 (drop (positions d - 0) (replicate {A = ℕ} 128 0)) (positions d - 0) full in
+    let number : length c.count_options-states.new.counts ≡ positions d = placed d c.count_options-states.ensures.option_rows in
+    let full : length c.count_options-states.new.counts ≡ positions d - 0 = omega (arith, number) in
+    let again = take_at c.count_options-states.new.counts (drop (positions d - 0) (replicate {A = ℕ} 128 0)) (positions d - 0) full in
     let same = counted (count (model_of d)) states (not-many (count (model_of d)) states low.0) in
     let lent-right : length a.entries.now ≡ positions d = eqb-true _ _ (not-false _ p.size) in
     record {
@@ -122,9 +122,9 @@ returns-in-Admitted-or c =
     let states = c.count_options-states.ensures.value in
     let reply = rank-replied d a.rank a.entries.now c.count_options-states.result (after-tables size d (own_rank_checks d a.rank) (sym c.tables_reply.ensures ∙ c.in-Admitted.is))
     c.refused_if-many.ensures c.refused_if-high.ensures c.or.ensures (rank-told (count (model_of d)) states a.rank) c.numbers_reply-numbers.ensures c.or-in-Admitted.ensures c.in-Admitted-or.is in
-    let number : length c.count_options-states.new.marks.1.1.1.1.1.1.1.0 ≡ positions d = placed d c.count_options-states.ensures.option_rows in
-    let full : length c.count_options-states.new.marks.1.1.1.1.1.1.1.0 ≡ positions d - 0 = omega (arith, number) in
-    let again = take_at c.count_options-states.new.marks.1.1.1.1.1.1.1.0 (drop (positions d - 0) (replicate {A = ℕ} 128 0)) (positions d - 0) full in
+    let number : length c.count_options-states.new.counts ≡ positions d = placed d c.count_options-states.ensures.option_rows in
+    let full : length c.count_options-states.new.counts ≡ positions d - 0 = omega (arith, number) in
+    let again = take_at c.count_options-states.new.counts (drop (positions d - 0) (replicate {A = ℕ} 128 0)) (positions d - 0) full in
     record {
       result_value = answered-by tt tt reply;
       entries_after = c.write_state.ensures (model_of d) (rw again c.count_options-states.ensures.option_rows) ∙ written-by a.entries.now (state_at (model_of d) a.rank) reply;

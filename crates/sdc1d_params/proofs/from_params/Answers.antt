@@ -1,7 +1,5 @@
 -- `sdc1d_params::from_params` meets its contract: what is beyond the limits is refused, and the rest is built. Assumes nothing.
-use borrow.Author.Rules.{rules}
 use Prim.Native.Nat.{◌<◌}
-use mathlib.Core.Path.{◌≡◌}
 use lib.ListN.{length}
 use Rattle.lists.proofs.Build.{length-tabulate}
 use Rattle.sdc1d_params.specs.Entries.{entry_at, entry_rows}

@@ -1,7 +1,6 @@
 -- `utils::after_bad` meets its contract: the mismatch's energy is added, and nothing else but the count. Assumes nothing.
 use mathlib.Core.Path.{refl, ap, ◌∙◌}
 use lib.Ieee.{binary64, add}
-use borrow.Author.Rules.{rules}
 use Rattle.utils.proofs.SameSums.{same-sums}
 use Rattle.utils.proofs.after_bad.Goals as goal
 

@@ -1,5 +1,5 @@
 -- `utils::after_end` meets its contract: the terms are added where the base's number is below 2. Assumes nothing.
-use mathlib.Core.Path.{sym, ◌≡◌, ◌∙◌}
+use mathlib.Core.Path.{◌≡◌}
 use mathlib.Core.Bool.{true, false}
 use native.Mathlib.Omega.{arith}
 use lib.Ieee.{of_bits}
@@ -10,13 +10,11 @@ use Rattle.utils.specs.Paper.{terminal_dg, terminal_ds}
 use Rattle.utils.specs.Figures.{end_dg, end_ds}
 use Rattle.utils.specs.Terms.{is_a_or_t}
 use Rattle.utils.proofs.Terms.{low-number, high-number}
-use borrow.Author.Rules.{rules}
 use Rattle.utils.proofs.after_end.Goals as goal
 
 pub returns-then-base_index-lt2 : goal.returns-then-base_index-lt2
 unfolding sum_from end_dg end_ds nearest terminal_dg terminal_ds of_bits
 returns-then-base_index-lt2 c =
-    
     let weak : is_a_or_t (base_of c.args.letter) ≡ true = low-number (base_of c.args.letter) (omega (arith, c.base_index.ensures.0)) in
     (simp weak c.add.ensures, simp weak c.add-then-base_index-lt2.ensures)
 

@@ -7,31 +7,16 @@ use borrow.Author.Tests.{lt-ltb, le-ltb, not-true, not-false}
 use Rattle.utils.specs.Figures.{admitted_length}
 use Rattle.utils.proofs.LoopEnergy.{admitted-ends}
 use Rattle.utils.proofs.SameSums.{same-sums}
-use borrow.Author.Rules.{rules}
-use Rattle.utils.proofs.after_good.Reads as reads
-use Rattle.utils.proofs.after_good.Lts as lts
-use Rattle.units.proofs.KcalPerMol.add.Reads as KcalPerMol-add-reads
-use Rattle.units.proofs.KcalPerMolKelvin.add.Reads as KcalPerMolKelvin-add-reads
-use Rattle.utils.proofs.bases.DnaNucleotideBase.index.Reads as index_Reads
-use Rattle.utils.proofs.loop_admitted.Reads as loop-admitted-reads
-use Rattle.utils.proofs.tables.dg_ds.Reads as dg-ds-reads
-use Rattle.utils.proofs.tables.loop_energy.Reads as loop-energy-reads
 use Rattle.utils.proofs.after_good.Goals as goal
 
 pub returns-then-bad-le2 : goal.returns-then-bad-le2
 returns-then-bad-le2 c =
-    
-    
-    
     let stack = c.dg_ds-stack.ensures c.args.a1 c.args.a2 c.index.ensures.0 c.index-2.ensures.0 in
     let few = le-ltb _ _ c.if-bad-le2.true in
     (simp few (same-sums (c.add-dg.ensures ∙ ap (add binary64 _) stack.0) (c.add-ds.ensures ∙ ap (add binary64 _) stack.1)), simp few)
 
 pub returns-then-not-loop_admitted : goal.returns-then-not-loop_admitted
 returns-then-not-loop_admitted c =
-    
-    
-    
     let stack = c.dg_ds-stack.ensures c.args.a1 c.args.a2 c.index.ensures.0 c.index-2.ensures.0 in
     let n = c.args.s.bad - 1 in
     let lacks : admitted_length n ≡ false = sym c.loop_admitted.ensures ∙ not-true _ c.if-not-loop_admitted.true-raw in
@@ -40,15 +25,10 @@ returns-then-not-loop_admitted c =
 
 pub loop_energy-requires : goal.loop_energy-requires
 loop_energy-requires c =
-    
     admitted-ends (c.args.s.bad - 1) (sym c.loop_admitted.ensures ∙ not-false _ c.if-not-loop_admitted.false-raw)
 
 pub returns : goal.returns
 returns c =
-    
-    
-    
-    
     let stack = c.dg_ds-stack.ensures c.args.a1 c.args.a2 c.index.ensures.0 c.index-2.ensures.0 in
     let n = c.args.s.bad - 1 in
     let has : admitted_length n ≡ true = sym c.loop_admitted.ensures ∙ not-false _ c.if-not-loop_admitted.false-raw in

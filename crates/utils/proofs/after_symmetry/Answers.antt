@@ -8,13 +8,11 @@ use Rattle.utils.specs.Bases.{bases}
 use Rattle.utils.specs.Paper.{symmetry_dg, symmetry_ds}
 use Rattle.utils.specs.Figures.{symmetric_dg, symmetric_ds}
 use Rattle.utils.specs.Terms.{self_complementary}
-use borrow.Author.Rules.{rules}
 use Rattle.utils.proofs.after_symmetry.Goals as goal
 
 pub returns-then-self_complementary : goal.returns-then-self_complementary
 unfolding sum_from symmetric_dg symmetric_ds nearest symmetry_dg symmetry_ds of_bits
 returns-then-self_complementary c =
-    
     let so : self_complementary (bases c.args.dna.now) ≡ true = sym c.self_complementary.ensures ∙ c.if-self_complementary.true in
     (simp so c.add.ensures, simp so c.add-then-self_complementary.ensures)
 

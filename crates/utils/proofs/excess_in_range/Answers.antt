@@ -3,7 +3,6 @@ use lib.Ieee.{of_bits}
 use Rattle.doubles.specs.Decimal.{nearest}
 use Rattle.doubles.specs.Range.{in_range}
 use Rattle.utils.specs.Strength.{excess_in_range}
-use borrow.Author.Rules.{rules}
 use Rattle.utils.proofs.excess_in_range.Goals as goal
 
 pub returns : goal.returns

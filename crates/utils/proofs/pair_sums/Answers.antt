@@ -1,11 +1,9 @@
 use mathlib.Core.Path.{◌≡◌, refl, sym, ap, ap₂, ◌∙◌}
 use mathlib.Core.Bool.{Bool}
-use Prim.Native.Nat.{ℕ, ◌≤◌, ◌<◌, ◌+◌, ◌-◌}
+use Prim.Native.Nat.{ℕ, ◌<◌, ◌+◌, ◌-◌}
 use native.Mathlib.Omega.{arith}
 use lib.Ieee.{of_bits}
 use lib.ListN.{length}
-use borrow.Author.Rules.{rules}
-use Rattle.utils.specs.Bases.{bases}
 use Rattle.doubles.specs.Decimal.{nearest}
 use Rattle.utils.specs.Paper.{stack_of, find, table1, mismatch_of, table2}
 use Rattle.utils.specs.Figures.{stack_dg, stack_ds, entropy_of}
@@ -30,26 +28,18 @@ loop-i-init c = (omega arith, omega arith, refl, refl)
 
 pub base-a1-requires : goal.base-a1-requires
 base-a1-requires c =
-    
-    
     base-here c.args.a.now (c.loop-i.i - 1) c.requires.a_value.0 (omega arith)
 
 pub base-a2-requires : goal.base-a2-requires
 base-a2-requires c =
-    
-    
     base-here c.args.a.now c.loop-i.i c.requires.a_value.0 (omega arith)
 
 pub base-b1-requires : goal.base-b1-requires
 base-b1-requires c =
-    
-    
     base-here c.args.b.now (c.loop-i.i - 1) c.requires.a_value.1 (omega arith)
 
 pub base-b2-requires : goal.base-b2-requires
 base-b2-requires c =
-    
-    
     base-here c.args.b.now c.loop-i.i c.requires.a_value.1 (omega arith)
 
 pub after_good-sums-requires : goal.after_good-sums-requires
@@ -74,14 +64,14 @@ loop-i-preserved c =
     let same : window a1 a2 b1 b2 ≡ window_at a b i = cc (c.base-a1.ensures, c.base-a2.ensures, c.base-b1.ensures, c.base-b2.ensures) in
     let next : sums_of c.if-good_window.sums ≡ step s (window a1 a2 b1 b2) =
     elim c.if-good_window.branch [
-        then-good_window w ↦ ap sums_of w.sums-is ∙ w.after_good-sums.ensures.0 ∙ good-window s a1 a2 b1 b2 (sym c.good_window.ensures ∙ w.if-good_window.true)
+      | then-good_window w ↦ ap sums_of w.sums-is ∙ w.after_good-sums.ensures.0 ∙ good-window s a1 a2 b1 b2 (sym c.good_window.ensures ∙ w.if-good_window.true)
       | else-good_window w ↦ ap sums_of w.sums-is ∙ w.after_bad-sums.ensures.0 ∙ bad-window s a1 a2 b1 b2 (sym c.good_window.ensures ∙ w.if-good_window.false)
     ] in
     let more : sums_of c.if-good_window.sums ≡ step s (window_at a b i) = next ∙ ap (step s) same in
     let was = c.loop-i.sums.missing in
     let flag : c.if-good_window.sums.missing ≡ flag_after s.bad was (window a1 a2 b1 b2) =
     elim c.if-good_window.branch [
-        then-good_window w ↦ ap missing_of w.sums-is ∙ w.after_good-sums.ensures.1 ∙ good-flag s a1 a2 b1 b2 was (sym c.good_window.ensures ∙ w.if-good_window.true)
+      | then-good_window w ↦ ap missing_of w.sums-is ∙ w.after_good-sums.ensures.1 ∙ good-flag s a1 a2 b1 b2 was (sym c.good_window.ensures ∙ w.if-good_window.true)
       | else-good_window w ↦ ap missing_of w.sums-is ∙ w.after_bad-sums.ensures.1 ∙ bad-flag s a1 a2 b1 b2 was (sym c.good_window.ensures ∙ w.if-good_window.false)
     ] in
     let now-flagged : c.if-good_window.sums.missing ≡ flag_after s.bad was (window_at a b i) = flag ∙ ap (flag_after s.bad was) same in
@@ -94,7 +84,6 @@ loop-i-preserved c =
 
 pub returns : goal.returns
 returns c =
-    
     let a = c.args.a.now in
     let b = c.args.b.now in
     (cc (sums-done (sums_of c.loop-i.sums) a b c.loop-i.i (omega arith)), cc (lacks-done c.loop-i.sums.missing c.loop-i.sums.bad a b c.loop-i.i (omega arith)))

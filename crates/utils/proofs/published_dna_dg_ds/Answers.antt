@@ -2,12 +2,10 @@
 use mathlib.Core.Path.{sym, ◌∙◌}
 use Rattle.utils.specs.Terms.{published_dna_dg_ds}
 use Rattle.utils.proofs.Strands.{only-bases, long-enough}
-use borrow.Author.Rules.{rules}
 use Rattle.utils.proofs.published_dna_dg_ds.Goals as goal
 
 pub published_sums-sums-requires : goal.published_sums-sums-requires
 published_sums-sums-requires c =
-    
     let dna = c.args.dna.now in
     let reply = sym c.sequence_reply.ensures ∙ c.in-Admitted.is in
     (only-bases dna reply, long-enough dna reply)
@@ -15,11 +13,9 @@ published_sums-sums-requires c =
 pub returns-in-Refused : goal.returns-in-Refused
 unfolding published_dna_dg_ds
 returns-in-Refused c =
-    
     rw (sym c.sequence_reply.ensures ∙ c.in-Refused.is)
 
 pub returns-in-Admitted : goal.returns-in-Admitted
 unfolding published_dna_dg_ds
 returns-in-Admitted c =
-    
     rw (sym c.sequence_reply.ensures ∙ c.in-Admitted.is) (cc)

@@ -1,9 +1,7 @@
 -- `utils::published_sums` meets its contract: the paper's terms follow the stacks in their order. Assumes nothing.
 use mathlib.Core.Path.{ap, ◌∙◌}
-use Prim.Native.Nat.{◌-◌}
 use native.Mathlib.Omega.{arith}
 use lib.Ieee.{Float, binary64, add, of_bits}
-use lib.ListN.{length}
 use Rattle.doubles.specs.Decimal.{nearest}
 use Rattle.utils.specs.Bases.{bases}
 use Rattle.utils.specs.Paper.{initiation_dg, initiation_ds}
@@ -12,27 +10,19 @@ use Rattle.utils.specs.Single.{stack_sum}
 use Rattle.utils.specs.Terms.{published_dg, published_ds}
 use Rattle.utils.proofs.Letters.{base-here}
 use Rattle.utils.proofs.Terms.{by-the-paper}
-use borrow.Author.Rules.{rules}
 use Rattle.utils.proofs.published_sums.Goals as goal
 
 pub after_end-first-requires : goal.after_end-first-requires
 after_end-first-requires c =
-    
     base-here c.args.dna.now _ c.requires.0 (omega arith)
 
 pub after_end-last-requires : goal.after_end-last-requires
 after_end-last-requires c =
-    
     base-here c.args.dna.now _ c.requires.0 (omega arith)
 
 pub returns : goal.returns
 unfolding published_dg published_ds start_dg printed_start_ds nearest initiation_dg initiation_ds of_bits
 returns c =
-    
-    
-    
-    
-    
     let dna = c.args.dna.now in (
       by-the-paper dna (stack_sum stack_dg (bases dna)) start_dg end_dg symmetric_dg
           (c.add.ensures ∙ ap (λ (x : Float). add binary64 x start_dg) c.single_sequence_dg_ds-stacks.ensures.0)

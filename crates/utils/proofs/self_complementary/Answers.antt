@@ -1,15 +1,13 @@
 use mathlib.Core.Path.{◌≡◌, sym, ◌∙◌}
 use mathlib.Core.Bool.{true, false}
-use Prim.Native.Nat.{◌≤◌, ◌<◌, ◌+◌, ◌-◌}
+use Prim.Native.Nat.{◌<◌}
 use native.Mathlib.Omega.{arith}
 use lib.ListN.{length}
-use borrow.Author.Rules.{rules}
 use borrow.Author.Tests.{not-true, not-false}
 use Rattle.utils.specs.Bases.{bases}
-use Rattle.utils.specs.Terms.{self_complementary}
 use Rattle.utils.proofs.Letters.{base-here}
 use Rattle.utils.proofs.Neighbours.{bases-length}
-use Rattle.utils.proofs.Terms.{symmetric_from, pair_at, pair-at, symmetric-all, symmetric-more, symmetric-fails, symmetric-done}
+use Rattle.utils.proofs.Terms.{pair_at, pair-at, symmetric-all, symmetric-more, symmetric-fails, symmetric-done}
 use Rattle.utils.proofs.self_complementary.Goals as goal
 
 pub loop-i-init : goal.loop-i-init
@@ -17,17 +15,14 @@ loop-i-init c = (omega arith, symmetric-all _)
 
 pub base-requires : goal.base-requires
 base-requires c =
-    
     base-here c.args.dna.now _ c.requires (omega arith)
 
 pub base-requires-in-loop-i : goal.base-requires-in-loop-i
 base-requires-in-loop-i c =
-    
     base-here c.args.dna.now _ c.requires (omega arith)
 
 pub returns-then-not-good_match : goal.returns-then-not-good_match
 returns-then-not-good_match c =
-    
     let dna = c.args.dna.now in
     let i = c.loop-i.i in
     let under : i < length (bases dna) = rw (bases-length dna) (omega arith) in
@@ -37,7 +32,6 @@ returns-then-not-good_match c =
 
 pub loop-i-preserved : goal.loop-i-preserved
 loop-i-preserved c =
-    
     let dna = c.args.dna.now in
     let i = c.loop-i.i in
     let under : i < length (bases dna) = rw (bases-length dna) (omega arith) in
@@ -47,7 +41,6 @@ loop-i-preserved c =
 
 pub returns : goal.returns
 returns c =
-    
     let dna = c.args.dna.now in
     let all : c.loop-i.i ≡ length (bases dna) = rw (bases-length dna) (omega arith) in
     sym (c.loop-i.invariant.1 ∙ symmetric-done (bases dna) c.loop-i.i all)

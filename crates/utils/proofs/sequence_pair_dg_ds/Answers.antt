@@ -2,7 +2,6 @@
 use mathlib.Core.Path.{◌≡◌, sym, ap, ◌∙◌}
 use mathlib.Core.Bool.{true, false}
 use mathlib.Core.List.{[], ◌∷◌}
-use borrow.Author.Rules.{rules}
 use Rattle.reply.specs.First.{first_of, ◌if◌}
 use Rattle.reply.specs.declared.Refusal.TheVariants.{NoSuchLoop}
 use Rattle.reply.specs.declared.Place.TheVariants.{Nowhere}
@@ -18,7 +17,6 @@ figures_of s = given_dg_ds s.dg s.ds
 
 pub pair_sums-sums-requires : goal.pair_sums-sums-requires
 pair_sums-sums-requires c =
-    
     let args = c.args in
     let reply = sym c.strands_reply.ensures ∙ c.in-Admitted.is in
     let a = args.a.now in
@@ -31,8 +29,6 @@ pair_sums-sums-requires c =
 pub returns-then-sums : goal.returns-then-sums
 unfolding sequence_pair_dg_ds
 returns-then-sums c =
-    
-    
     let args = c.args in
     let a = args.a.now in
     let b = args.b.now in
@@ -44,7 +40,6 @@ returns-then-sums c =
 pub returns-in-Refused : goal.returns-in-Refused
 unfolding sequence_pair_dg_ds
 returns-in-Refused c =
-    
     let args = c.args in
     let refused = sym c.strands_reply.ensures ∙ c.in-Refused.is in
     let a = args.a.now in
@@ -54,8 +49,6 @@ returns-in-Refused c =
 pub returns-else-sums : goal.returns-else-sums
 unfolding sequence_pair_dg_ds figures_of
 returns-else-sums c =
-    
-    
     let args = c.args in
     let a = args.a.now in
     let b = args.b.now in

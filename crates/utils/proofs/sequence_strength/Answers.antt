@@ -2,7 +2,6 @@
 use mathlib.Core.Path.{◌≡◌, sym, ap, ◌∙◌}
 use mathlib.Core.Bool.{true, false}
 use mathlib.Core.List.{◌++◌}
-use borrow.Author.Rules.{rules}
 use borrow.Author.Tests.{not-true, not-false}
 use Rattle.reply.specs.First.{first_of}
 use Rattle.reply.specs.declared.Refusal.TheVariants.{OutOfRange}
@@ -18,8 +17,6 @@ use Rattle.utils.proofs.sequence_strength.Goals as goal
 pub returns-then-not-excess_in_range : goal.returns-then-not-excess_in_range
 unfolding sequence_strength
 returns-then-not-excess_in_range c =
-    
-    
     let dna = c.args.dna.now in
     let excess = c.args.excess.0 in
     let admitted = sym c.sequence_reply.ensures ∙ c.in-Admitted.is in
@@ -29,14 +26,11 @@ returns-then-not-excess_in_range c =
 
 pub single_sequence_dg_ds-stacks-requires : goal.single_sequence_dg_ds-stacks-requires
 single_sequence_dg_ds-stacks-requires c =
-    
-    
     only-bases c.args.dna.now (sym c.sequence_reply.ensures ∙ c.in-Admitted.is)
 
 pub returns-in-Refused : goal.returns-in-Refused
 unfolding sequence_strength
 returns-in-Refused c =
-    
     let args = c.args in
     let refused = sym c.sequence_reply.ensures ∙ c.in-Refused.is in
     rw (reply-append (sequence_checks args.dna.now) (excess_checks args.excess.0) refused)
@@ -45,9 +39,6 @@ pub returns-else-not-excess_in_range : goal.returns-else-not-excess_in_range
 unfolding sequence_strength
 returns-else-not-excess_in_range c =
     let sums = c.single_sequence_dg_ds-stacks in
-    
-    
-    
     let dna = c.args.dna.now in
     let excess = c.args.excess.0 in
     let admitted = sym c.sequence_reply.ensures ∙ c.in-Admitted.is in

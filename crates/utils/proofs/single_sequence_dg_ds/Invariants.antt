@@ -1,17 +1,11 @@
 -- `utils::single_sequence_dg_ds` meets its contract: at place i the sums so far are to be carried on over what is left. Assumes nothing.
-use mathlib.Core.Path.{◌≡◌, refl, sym, ap, ◌∙◌}
-use Prim.Native.Nat.{◌≤◌, ◌<◌, ◌-◌}
-use native.Mathlib.Omega.{arith}
-use lib.Ieee.{binary64, add, of_bits}
-use lib.ListN.{length, get_or}
-use borrow.Author.Rules.{rules}
-use Rattle.utils.specs.Bases.{base_of, bases}
-use Rattle.doubles.specs.Decimal.{nearest}
-use Rattle.utils.specs.Paper.{stack_of, find, table1}
-use Rattle.utils.specs.Figures.{stack_dg, stack_ds, entropy_of}
+use mathlib.Core.Path.{◌≡◌}
+use Prim.Native.Nat.{◌≤◌, ◌-◌}
+use lib.ListN.{length}
+use Rattle.utils.specs.Bases.{bases}
+use Rattle.utils.specs.Figures.{stack_dg, stack_ds}
 use Rattle.utils.specs.Single.{stack_sum}
-use Rattle.utils.proofs.Letters.{base-here}
-use Rattle.utils.proofs.Neighbours.{sum_at, carry-on, sum_done}
+use Rattle.utils.proofs.Neighbours.{sum_at}
 use Rattle.utils.proofs.single_sequence_dg_ds.Given as goal
 
 abbrev pub invariant-loop-i : goal.invariant-loop-i

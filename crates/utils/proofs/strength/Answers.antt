@@ -4,7 +4,6 @@ use Rattle.doubles.specs.Decimal.{nearest}
 use Rattle.utils.specs.Paper.{initiation_dg}
 use Rattle.utils.specs.Figures.{start_dg, start_ds}
 use Rattle.utils.specs.Strength.{strength_at}
-use borrow.Author.Rules.{rules}
 use Rattle.utils.proofs.strength.Goals as goal
 
 pub returns : goal.returns

@@ -1,5 +1,4 @@
 -- `deck::DeckForm::in_runs` meets its contract. Assumes nothing.
-use borrow.Author.Rules.{rules}
 use Rattle.deck.proofs.DeckForm.in_runs.Goals as goal
 
 pub returns-in-Singles : goal.returns-in-Singles

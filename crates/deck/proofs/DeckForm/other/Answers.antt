@@ -1,5 +1,4 @@
 -- `deck::DeckForm::other` meets its contract. Assumes nothing.
-use borrow.Author.Rules.{rules}
 use Rattle.deck.proofs.DeckForm.other.Goals as goal
 
 pub returns-in-Singles : goal.returns-in-Singles

@@ -1,18 +1,14 @@
 use mathlib.Core.Path.{◌≡◌, sym, ap, ◌∙◌}
-use mathlib.Core.Bool.{and-false}
-use mathlib.Core.List.{map}
-use Prim.Native.Nat.{◌≤◌, ◌-◌}
+use mathlib.Core.Bool.{Bool, and-false}
 use native.Mathlib.Omega.{arith}
-use lib.ListN.{length, drop, get_or}
-use borrow.Author.Rules.{rules}
-use borrow.Author.Tests.{le-leb, lt-leb, eq-eqb, ne_eqb, not-true, not-false}
+use lib.ListN.{get_or}
+use borrow.Author.Tests.{le-leb, lt-leb, eq-eqb, ne_eqb}
 use Rattle.reply.specs.declared.Place.TheVariants.{At}
 use Rattle.deck.specs.Word.{kind_of, payload_of}
-use Rattle.deck.specs.Form.{may_follow}
+use Rattle.deck.specs.Form.{Form, may_follow}
 use Rattle.deck.specs.Forms.{form_of}
-use Rattle.deck.specs.inner.Fault.{fault_of}
 use Rattle.deck.specs.declared.form.Stretch.{Stretch}
-use Rattle.deck.proofs.Walk.{walk, walk-on, walk-stops, walk_ends, fault-none, fault-first, fault-rest}
+use Rattle.deck.proofs.Walk.{walk-on, walk-stops, walk_ends, fault-none, fault-first, fault-rest}
 use Rattle.deck.proofs.reading.fault.Goals as goal
 
 pub returns-then-words-eq0 : goal.returns-then-words-eq0
@@ -47,8 +43,8 @@ loop-i-init c =
     (omega arith, rw (c.nothing-before.ensures, e.1) (fault-rest form words (omega arith) (rw (sym e.0 ∙ c.if-first-ne-FIRST.false, le-leb (payload_of (get_or words 0 0)) 128 (omega arith)))))
 
 -- whether the word's stretch may follow is what the call said
-follows : (c : tie.After-may-follow invariant-loop decreases-loop) → may_follow (form_of c.before.before.before.before.before.before.before.before.before.before.before.before.before.before.args.form) c.before.before.before.before.loop.before ((form_of c.before.before.before.before.before.before.before.before.before.before.before.before.before.before.args.form).stretch_of (get_or c.before.before.before.before.before.before.before.before.before.before.before.before.before.before.args.words.now c.before.before.before.before.loop.i 0)) ≡ c.may-follow.result
-follows c = ap (may_follow (form_of c.before.before.before.before.before.before.before.before.before.before.before.before.before.before.args.form) c.before.before.before.before.loop.before) (sym c.before.of2.ensures) ∙ sym c.may-follow.ensures
+follows : (form : Form) (before here there : Stretch) (said : Bool) → here ≡ there → said ≡ may_follow form before here → may_follow form before there ≡ said
+follows form before here there said e m = sym (m ∙ ap (may_follow form before) e)
 
 pub returns-then-not-may_follow : goal.returns-then-not-may_follow
 returns-then-not-may_follow c =
@@ -57,7 +53,7 @@ returns-then-not-may_follow c =
     let words = a.words.now in
     let l = c.loop-i in
     sym (l.invariant.1 ∙ walk-stops form words l.i l.before l.left c.loop-i-test.true
-    (rw (follows c, not-true c.may_follow.result c.if-not-may_follow.true-raw)))
+    (rw (follows form l.before c.of-here.result (form.stretch_of (get_or words l.i 0)) c.may_follow.result c.of-here.ensures c.may_follow.ensures ∙ c.if-not-may_follow.true)))
 
 pub returns-then-left-here : goal.returns-then-left-here
 returns-then-left-here c =
@@ -79,7 +75,7 @@ loop-i-preserved c =
     let run : c.of-here.result.run ≡ (form.stretch_of (get_or words l.i 0)).run = ap (λ (s : Stretch). s.run) e in (
       omega arith,
       rw e (l.invariant.1 ∙ walk-on form words l.i l.before l.left c.loop-i-test.true
-          (rw (follows c, not-false c.may_follow.result c.if-not-may_follow.false-raw, le-leb (form.stretch_of (get_or words l.i 0)).run l.left (omega arith)))),
+          (rw (follows form l.before c.of-here.result (form.stretch_of (get_or words l.i 0)) c.may_follow.result c.of-here.ensures c.may_follow.ensures ∙ c.if-not-may_follow.false, le-leb (form.stretch_of (get_or words l.i 0)).run l.left (omega arith)))),
     )
 
 pub returns-then-left-eq0 : goal.returns-then-left-eq0

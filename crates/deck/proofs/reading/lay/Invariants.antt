@@ -1,11 +1,8 @@
 -- `deck::reading::lay` meets its contract. The loop's invariant: what is still to store, stored, gives the whole. Assumes nothing.
-use mathlib.Core.Path.{◌≡◌, refl, sym, ◌∙◌}
-use Prim.Native.Nat.{◌≤◌, ◌-◌, ◌+◌}
-use native.Mathlib.Omega.{arith}
-use lib.ListN.{length, replicate, length-set}
+use mathlib.Core.Path.{◌≡◌}
+use Prim.Native.Nat.{◌≤◌, ◌-◌}
+use lib.ListN.{length, replicate}
 use lib.Seq.{sets}
-use borrow.Author.Rules.{rules}
-use Rattle.lists.proofs.Front.{sets-run, sets-none}
 use Rattle.deck.proofs.reading.lay.Given as goal
 
 abbrev pub invariant-loop-i : goal.invariant-loop-i

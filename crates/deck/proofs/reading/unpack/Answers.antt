@@ -1,12 +1,7 @@
-use mathlib.Core.Path.{◌≡◌, refl, ◌∙◌}
-use mathlib.Core.List.{map}
-use Prim.Native.Nat.{◌-◌, ◌+◌}
+use mathlib.Core.Path.{refl, ◌∙◌}
 use native.Mathlib.Omega.{arith}
-use lib.ListN.{length, drop}
-use lib.Seq.{sets}
-use borrow.Author.Rules.{rules}
 use Rattle.deck.specs.Forms.{form_of}
-use Rattle.deck.specs.Deck.{configuration_of, laid_out}
+use Rattle.deck.specs.Deck.{configuration_of}
 use Rattle.deck.proofs.Decks.{configuration-few}
 use Rattle.deck.proofs.Laying.{laid-past, laid-length, laid_more}
 use Rattle.deck.proofs.reading.unpack.Goals as goal

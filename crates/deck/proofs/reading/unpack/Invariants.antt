@@ -1,16 +1,12 @@
 -- `deck::reading::unpack` meets its contract. The loop's invariant: the stretches still to come, laid out from here on, give the whole.
 -- Assumes nothing.
-use mathlib.Core.Path.{◌≡◌, refl, ◌∙◌}
+use mathlib.Core.Path.{◌≡◌}
 use mathlib.Core.List.{map}
 use Prim.Native.Nat.{◌-◌, ◌+◌}
-use native.Mathlib.Omega.{arith}
 use lib.ListN.{length, drop}
 use lib.Seq.{sets}
-use borrow.Author.Rules.{rules}
 use Rattle.deck.specs.Forms.{form_of}
 use Rattle.deck.specs.Deck.{configuration_of, laid_out}
-use Rattle.deck.proofs.Decks.{configuration-few}
-use Rattle.deck.proofs.Laying.{laid-past, laid-length, laid_more}
 use Rattle.deck.proofs.reading.unpack.Given as goal
 
 abbrev pub invariant-loop-i : goal.invariant-loop-i

@@ -1,10 +1,6 @@
-use mathlib.Core.Path.{◌≡◌}
-use Prim.Native.Nat.{◌≤◌, ◌-◌, ◌+◌}
 use native.Mathlib.Omega.{arith}
-use lib.ListN.{length, drop, get_or}
-use borrow.Author.Rules.{rules}
+use lib.ListN.{get_or}
 use borrow.Author.Tests.{lt-ltb, le-ltb}
-use Rattle.lists.specs.Find.{first_index}
 use Rattle.lists.proofs.Find.{first-here, first-later, first_past}
 use Rattle.deck.specs.Deck.{too_high}
 use Rattle.deck.proofs.writing.first_too_high.Goals as goal

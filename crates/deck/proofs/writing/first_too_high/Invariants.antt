@@ -1,12 +1,8 @@
 -- `deck::writing::first_too_high` meets its contract. The loop's invariant: no entry up to here passes the test. Assumes nothing.
 use mathlib.Core.Path.{◌≡◌}
 use Prim.Native.Nat.{◌≤◌, ◌-◌, ◌+◌}
-use native.Mathlib.Omega.{arith}
-use lib.ListN.{length, drop, get_or}
-use borrow.Author.Rules.{rules}
-use borrow.Author.Tests.{lt-ltb, le-ltb}
+use lib.ListN.{length, drop}
 use Rattle.lists.specs.Find.{first_index}
-use Rattle.lists.proofs.Find.{first-here, first-later, first_past}
 use Rattle.deck.specs.Deck.{too_high}
 use Rattle.deck.proofs.writing.first_too_high.Given as goal
 

@@ -1,14 +1,12 @@
 use mathlib.Core.Path.{◌≡◌, refl, sym, ap, ◌∙◌}
-use mathlib.Core.List.{List, [], ◌∷◌, map}
-use Prim.Native.Nat.{ℕ, ◌≤◌, ◌-◌, ◌+◌}
+use mathlib.Core.List.{[], ◌∷◌, map}
+use Prim.Native.Nat.{◌+◌}
 use native.Mathlib.Numerals.{add-one}
 use native.Mathlib.Omega.{arith}
-use lib.ListN.{length, drop, length-set, drop_of_length-le}
+use lib.ListN.{length, length-set, drop_of_length-le}
 use lib.Seq.{sets}
-use borrow.Author.Rules.{rules}
 use Rattle.deck.specs.Forms.{form_of}
 use Rattle.deck.specs.Deck.{deck_of, stretches_of}
-use Rattle.deck.specs.declared.DeckForm.{DeckForm}
 use Rattle.deck.proofs.writing.pack.Invariants.{words_from}
 use Rattle.deck.proofs.writing.pack.Goals as goal
 

@@ -1,15 +1,12 @@
 -- `deck::writing::pack` meets its contract. The loop's invariant: the words still to come, stored from here on, give the whole. A word has
 -- a position at least, so there is room for it. Assumes nothing.
-use mathlib.Core.Path.{◌≡◌, refl, sym, ap, ◌∙◌}
-use mathlib.Core.List.{List, [], ◌∷◌, map}
+use mathlib.Core.Path.{◌≡◌}
+use mathlib.Core.List.{List, map}
 use Prim.Native.Nat.{ℕ, ◌≤◌, ◌-◌, ◌+◌}
-use native.Mathlib.Numerals.{add-one}
-use native.Mathlib.Omega.{arith}
-use lib.ListN.{length, drop, length-set, drop_of_length-le}
+use lib.ListN.{length, drop}
 use lib.Seq.{sets}
-use borrow.Author.Rules.{rules}
 use Rattle.deck.specs.Forms.{form_of}
-use Rattle.deck.specs.Deck.{deck_of, stretches_of}
+use Rattle.deck.specs.Deck.{stretches_of}
 use Rattle.deck.specs.declared.DeckForm.{DeckForm}
 use Rattle.deck.proofs.writing.pack.Given as goal
 

@@ -1,22 +1,14 @@
-use mathlib.Core.Path.{◌≡◌, sym, ◌∙◌}
-use mathlib.Core.Bool.{true}
-use Prim.Native.Nat.{◌≤◌, ◌<◌, ◌-◌}
+use mathlib.Core.Path.{sym, ◌∙◌}
 use native.Mathlib.Omega.{arith}
-use lib.ListN.{length, get_or}
-use borrow.Author.Rules.{rules}
-use borrow.Author.Tests.{not-true, not-false}
+use lib.ListN.{get_or}
 use Rattle.deck.specs.Forms.{form_of}
-use Rattle.deck.proofs.FirstRun.{Hold, hold-one, hold-more, at_length, at_other, alone-first, run-first}
+use Rattle.deck.proofs.FirstRun.{hold-one, hold-more, at_length, at_other, alone-first, run-first}
 use Rattle.deck.proofs.writing.run_at.Goals as goal
 
 pub returns-then-not-in_runs : goal.returns-then-not-in_runs
 returns-then-not-in_runs c =
     let a = c.args in
-    (omega arith, omega arith, alone-first a.configuration.now (form_of a.form) a.at c.requires (sym c.in_runs.ensures ∙ not-true c.in_runs.result c.if-not-in_runs.true-raw))
-
--- the occupant is stored in runs
-runs_here : (c : tie.Else1 invariant-loop decreases-loop) → (form_of c.before.before.before.before.args.form).in_runs (get_or c.before.before.before.before.args.configuration.now c.before.before.before.before.args.at 0) ≡ true
-runs_here c = sym c.before.in-runs.ensures ∙ not-false c.before.in-runs.result c.if1.false
+    (omega arith, omega arith, alone-first a.configuration.now (form_of a.form) a.at c.requires (sym c.in_runs.ensures ∙ c.if-not-in_runs.true))
 
 pub loop-end-init : goal.loop-end-init
 loop-end-init c =
@@ -27,7 +19,7 @@ pub returns-then-configuration-end : goal.returns-then-configuration-end
 returns-then-configuration-end c =
     let a = c.args in
     let l = c.loop-end in
-    let runs = runs_here c in
+    let runs = sym c.in_runs.ensures ∙ c.if-not-in_runs.false in
     (omega arith, omega arith, run-first a.configuration.now (form_of a.form) a.at l.end l.invariant.0 runs l.invariant.2 (at_other c.loop-end-test.true (λ e. omega arith)))
 
 pub loop-end-preserved : goal.loop-end-preserved
@@ -40,4 +32,4 @@ pub returns : goal.returns
 returns c =
     let a = c.args in
     let l = c.loop-end in
-    (omega arith, omega arith, run-first a.configuration.now (form_of a.form) a.at l.end l.invariant.0 (runs_here c) l.invariant.2 (at_length c.loop-end-test.false))
+    (omega arith, omega arith, run-first a.configuration.now (form_of a.form) a.at l.end l.invariant.0 (sym c.in_runs.ensures ∙ c.if-not-in_runs.false) l.invariant.2 (at_length c.loop-end-test.false))

@@ -1,5 +1,4 @@
 -- `bond` meets its contract: each step is what its method ensures. Assumes nothing.
-use borrow.Author.Rules.{rules}
 use Rattle.design.proofs.bonds.bond.Goals as goal
 
 pub returns : goal.returns

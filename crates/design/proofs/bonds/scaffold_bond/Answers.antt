@@ -1,5 +1,4 @@
 -- `scaffold_bond` meets its contract: the cell is that of the glue and the strand's bottom. Assumes nothing.
-use borrow.Author.Rules.{rules}
 use mathlib.Core.Path.{ap, ◌∙◌}
 use Prim.Native.Nat.{ℕ}
 use Rattle.design.specs.Design.{bond_at, scaffold_bond}

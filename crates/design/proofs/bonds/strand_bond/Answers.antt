@@ -1,5 +1,4 @@
 -- `strand_bond` meets its contract: the cell is that of x's east and y's west. Assumes nothing.
-use borrow.Author.Rules.{rules}
 use mathlib.Core.Path.{ap₂, ◌∙◌}
 use Prim.Native.Nat.{ℕ}
 use Rattle.design.specs.Design.{bond_at, strand_bond}

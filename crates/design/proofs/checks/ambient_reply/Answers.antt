@@ -1,5 +1,4 @@
 -- The check of the ambient meets its contract: its tests are those of the definition, in their order. Assumes nothing.
-use borrow.Author.Rules.{rules}
 use mathlib.Core.Path.{◌≡◌, sym, ap, ◌∙◌}
 use mathlib.Core.Bool.{Bool, true, false, not}
 use mathlib.Core.List.{[], ◌∷◌}
@@ -7,7 +6,7 @@ use lib.Ieee.{neg, of_bits}
 use Rattle.doubles.specs.Decimal.{nearest}
 use Rattle.reply.specs.First.{first_of, ◌if◌at◌}
 use Rattle.reply.specs.declared.Refusal.TheVariants.{AmbientOut}
-use Rattle.design.specs.Checks.{rt_out, strand_excess_out, scaffold_excess_out, ambient_out, bad_ambient}
+use Rattle.design.specs.Checks.{rt_out, strand_excess_out, ambient_out, bad_ambient}
 use Rattle.design.proofs.checks.ambient_reply.Goals as goal
 
 pub returns-then-not-in_range : goal.returns-then-not-in_range

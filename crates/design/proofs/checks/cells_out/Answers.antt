@@ -1,17 +1,13 @@
 use mathlib.Core.Path.{◌≡◌, refl, sym, ap, ◌∙◌}
-use mathlib.Core.Bool.{Bool, true, false, not, ◌||◌}
+use mathlib.Core.Bool.{true, false, not}
 use mathlib.Core.List.{List}
-use mathlib.Core.Logic.{inl, inr}
-use Prim.Native.Nat.{ℕ, ◌+◌, ◌<◌, ◌≤◌, ◌-◌}
+use Prim.Native.Nat.{ℕ, ◌+◌, ◌<◌}
 use native.Mathlib.Omega.{arith}
-use lib.Dec.{ltb}
 use lib.ListN.{length, get_or}
 use lib.Ieee.{Float, nan, neg, of_bits}
-use borrow.Author.Rules.{rules}
 use borrow.Author.Tests.{lt-ltb, le-ltb}
 use Rattle.doubles.specs.Decimal.{nearest}
-use Rattle.lists.specs.Find.{any}
-use Rattle.lists.proofs.Any.{CountedOrLeft, here, later, past}
+use Rattle.lists.proofs.Any.{here, later, past}
 use Rattle.design.specs.Checks.{beyond, cells_out}
 use Rattle.design.proofs.checks.cells_out.Invariants.{Counted}
 use Rattle.design.proofs.checks.cells_out.Goals as goal
@@ -34,8 +30,8 @@ loop-i-preserved c =
     let dg-is = ap not (sym c.in_range.ensures) in
     let ds-is = ap not (sym c.in_range-in-loop-i.ensures) in (
       omega arith,
-      elim c.if-not-in_range.branch [ inl w ↦ counted-here 1024 c.args.dg.now c.loop-i.i c.loop-i.dg_out c.if-not-in_range.dg-out dg-inside (dg-is ∙ w.0.taken) inv.1 w.1 | inr w ↦ counted-later 1024 c.args.dg.now c.loop-i.i c.loop-i.dg_out c.if-not-in_range.dg-out dg-inside (dg-is ∙ w.0.left) inv.1 w.1 ],
-      elim c.if-not-in_range-2.branch [ inl w ↦ counted-here 8 c.args.ds.now c.loop-i.i c.loop-i.ds_out c.if-not-in_range-2.ds-out ds-inside (ds-is ∙ w.0.taken) inv.2 w.1 | inr w ↦ counted-later 8 c.args.ds.now c.loop-i.i c.loop-i.ds_out c.if-not-in_range-2.ds-out ds-inside (ds-is ∙ w.0.left) inv.2 w.1 ],
+      elim c.if-not-in_range.branch [ goal.then-not-in_range w ↦ counted-here 1024 c.args.dg.now c.loop-i.i c.loop-i.dg_out c.if-not-in_range.dg_out dg-inside (dg-is ∙ ap not w.if-not-in_range.true) inv.1 w.dg_out-is | goal.else-not-in_range w ↦ counted-later 1024 c.args.dg.now c.loop-i.i c.loop-i.dg_out c.if-not-in_range.dg_out dg-inside (dg-is ∙ ap not w.if-not-in_range.false) inv.1 w.dg_out-is ],
+      elim c.if-not-in_range-2.branch [ goal.then-not-in_range-2 w ↦ counted-here 8 c.args.ds.now c.loop-i.i c.loop-i.ds_out c.if-not-in_range-2.ds_out ds-inside (ds-is ∙ ap not w.if-not-in_range-2.true) inv.2 w.ds_out-is | goal.else-not-in_range-2 w ↦ counted-later 8 c.args.ds.now c.loop-i.i c.loop-i.ds_out c.if-not-in_range-2.ds_out ds-inside (ds-is ∙ ap not w.if-not-in_range-2.false) inv.2 w.ds_out-is ],
     )
 
 pub returns-then-dg_out-gt0 : goal.returns-then-dg_out-gt0

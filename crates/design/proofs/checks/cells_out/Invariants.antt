@@ -1,19 +1,10 @@
 -- The range test of the cells meets its contract. The invariant, for each table: some cell is out if one was counted or one is left. Assumes nothing.
-use mathlib.Core.Path.{◌≡◌, refl, sym, ap, ◌∙◌}
-use mathlib.Core.Bool.{Bool, true, false, not, ◌||◌}
 use mathlib.Core.List.{List}
-use mathlib.Core.Logic.{inl, inr}
-use Prim.Native.Nat.{ℕ, ◌+◌, ◌<◌, ◌≤◌, ◌-◌}
-use native.Mathlib.Omega.{arith}
-use lib.Dec.{ltb}
-use lib.ListN.{length, get_or}
-use lib.Ieee.{Float, nan, neg, of_bits}
-use borrow.Author.Rules.{rules}
-use borrow.Author.Tests.{lt-ltb, le-ltb}
-use Rattle.doubles.specs.Decimal.{nearest}
-use Rattle.lists.specs.Find.{any}
-use Rattle.lists.proofs.Any.{CountedOrLeft, here, later, past}
-use Rattle.design.specs.Checks.{beyond, cells_out}
+use Prim.Native.Nat.{ℕ, ◌≤◌, ◌-◌}
+use lib.ListN.{length}
+use lib.Ieee.{Float}
+use Rattle.lists.proofs.Any.{CountedOrLeft}
+use Rattle.design.specs.Checks.{beyond}
 use Rattle.design.proofs.checks.cells_out.Given as goal
 
 -- one table: how many of the cells passed are out

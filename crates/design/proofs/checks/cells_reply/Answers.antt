@@ -1,5 +1,4 @@
 -- The check of the cells meets its contract. Assumes nothing.
-use borrow.Author.Rules.{rules}
 use mathlib.Core.Path.{◌≡◌, sym, ◌∙◌}
 use mathlib.Core.Bool.{true, false}
 use Rattle.design.specs.Checks.{cells_out}

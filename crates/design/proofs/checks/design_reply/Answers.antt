@@ -1,6 +1,5 @@
 -- The reply of a design's checks meets its contract: that of the tables, and else that of the numbers. Assumes nothing.
-use borrow.Author.Rules.{rules}
-use mathlib.Core.Path.{◌≡◌, sym, ◌∙◌}
+use mathlib.Core.Path.{sym, ◌∙◌}
 use mathlib.Core.List.{[]}
 use Rattle.design.specs.Design.{Design, lent}
 use Rattle.design.proofs.Sizes.{sized}

@@ -1,11 +1,8 @@
 use mathlib.Core.Path.{◌≡◌, sym, ap, ◌∙◌}
 use mathlib.Core.Bool.{true, false, not}
-use Prim.Native.Nat.{◌≤◌, ◌+◌, ◌-◌}
 use native.Mathlib.Omega.{arith}
-use lib.ListN.{length, get_or, drop}
+use lib.ListN.{get_or}
 use lib.Ieee.{nan, neg}
-use borrow.Author.Rules.{rules}
-use Rattle.lists.specs.Find.{first_index}
 use Rattle.lists.proofs.Find.{first-here, first-later, first_past}
 use Rattle.design.specs.Checks.{outside}
 use Rattle.design.proofs.checks.first_beyond.Goals as goal

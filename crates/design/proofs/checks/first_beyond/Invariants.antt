@@ -1,13 +1,9 @@
 -- The search for a number that is out meets its contract. The invariant: what is found from i on, i places further, is what is found. Assumes nothing.
-use mathlib.Core.Path.{◌≡◌, sym, ap, ◌∙◌}
-use mathlib.Core.Bool.{true, false, not}
+use mathlib.Core.Path.{◌≡◌}
 use Prim.Native.Nat.{◌≤◌, ◌+◌, ◌-◌}
-use native.Mathlib.Omega.{arith}
-use lib.ListN.{length, get_or, drop}
-use lib.Ieee.{nan, neg}
-use borrow.Author.Rules.{rules}
+use lib.ListN.{length, drop}
+use lib.Ieee.{neg}
 use Rattle.lists.specs.Find.{first_index}
-use Rattle.lists.proofs.Find.{first-here, first-later, first_past}
 use Rattle.design.specs.Checks.{outside}
 use Rattle.design.proofs.checks.first_beyond.Given as goal
 

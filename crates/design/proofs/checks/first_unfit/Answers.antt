@@ -1,14 +1,8 @@
 use mathlib.Core.Path.{◌≡◌, refl, sym, ap, ◌∙◌}
-use mathlib.Core.Logic.{inl, inr}
 use mathlib.Core.Bool.{Bool, true, false, not, ◌&&◌}
-use Prim.Native.Nat.{◌≤◌, ◌+◌, ◌-◌}
 use native.Mathlib.Omega.{arith}
-use lib.ListN.{drop}
 use lib.Ieee.{neg, of_bits}
-use borrow.Author.Rules.{rules}
 use Rattle.doubles.specs.Decimal.{nearest}
-use Rattle.lists.specs.Build.{up_to}
-use Rattle.lists.specs.Find.{first_index}
 use Rattle.lists.proofs.Build.{first-here, first-later, first_past}
 use Rattle.design.specs.Checks.{beyond, somewhere, unfit}
 use Rattle.design.proofs.checks.first_unfit.Goals as goal
@@ -28,10 +22,9 @@ pub returns-then-is_friend_somewhere : goal.returns-then-is_friend_somewhere
 unfolding nearest neg of_bits
 returns-then-is_friend_somewhere c =
     let a = c.args in
-    
     let t = unfit a.scaffold.now a.marks.now a.glues.now a.dg.now a.ds.now a.potentials.now in
     let range = c.in_range.ensures in
-    let out = ap (beyond 1024) (sym c.potential_of-potential.ensures) ∙ ap not (sym range) ∙ c.if-not-in_range.true-raw in
+    let out = ap (beyond 1024) (sym c.potential_of-potential.ensures) ∙ ap not (sym range ∙ c.if-not-in_range.true) in
     let here = looked-at _ _ true (sym c.is_friend_somewhere.ensures ∙ c.if-is_friend_somewhere.true) out in
     omega (arith, first-here t a.strands c.loop-strand.strand c.loop-strand-test.true here, c.loop-strand.invariant.1)
 
@@ -39,23 +32,21 @@ pub loop-strand-preserved : goal.loop-strand-preserved
 unfolding nearest neg of_bits
 loop-strand-preserved c =
     let a = c.args in
-    
     let t = unfit a.scaffold.now a.marks.now a.glues.now a.dg.now a.ds.now a.potentials.now in
     let out-is = ap (beyond 1024) (sym c.potential_of-potential.ensures) ∙ ap not (sym c.in_range.ensures) in
     elim c.if-not-in_range.branch [
-      | inl w ↦ (
+      | goal.then-not-in_range+else-is_friend_somewhere w ↦ (
         omega arith,
-        omega (arith, first-later t a.strands c.loop-strand.strand c.loop-strand-test.true (passed_over _ _ (sym w.1.ensures ∙ w.2.left)), c.loop-strand.invariant.1),
+        omega (arith, first-later t a.strands c.loop-strand.strand c.loop-strand-test.true (passed_over _ _ (sym w.is_friend_somewhere.ensures ∙ w.if-is_friend_somewhere.false)), c.loop-strand.invariant.1),
       )
-      | inr w ↦ (
+      | goal.else-not-in_range w ↦ (
         omega arith,
-        omega (arith, first-later t a.strands c.loop-strand.strand c.loop-strand-test.true (fitting (somewhere a.scaffold.now a.marks.now a.glues.now a.dg.now a.ds.now c.loop-strand.strand) _ (out-is ∙ w.left)), c.loop-strand.invariant.1),
+        omega (arith, first-later t a.strands c.loop-strand.strand c.loop-strand-test.true (fitting (somewhere a.scaffold.now a.marks.now a.glues.now a.dg.now a.ds.now c.loop-strand.strand) _ (out-is ∙ ap not w.if-not-in_range.false)), c.loop-strand.invariant.1),
       )
     ]
 
 pub returns : goal.returns
 returns c =
     let a = c.args in
-    
     let t = unfit a.scaffold.now a.marks.now a.glues.now a.dg.now a.ds.now a.potentials.now in
     omega (arith, first_past t a.strands c.loop-strand.strand c.loop-strand-test.false, c.loop-strand.invariant.1)

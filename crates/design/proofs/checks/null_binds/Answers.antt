@@ -1,5 +1,4 @@
 -- The test of what binds to null meets its contract: its tests are those of the definition, in their order. Assumes nothing.
-use borrow.Author.Rules.{rules}
 use mathlib.Core.Path.{sym, ◌∙◌, ◌≡◌}
 use borrow.Author.Tests.{eq-eqb, ne_eqb}
 use Rattle.design.specs.Checks.{null_binds, null_glued, null_cells}

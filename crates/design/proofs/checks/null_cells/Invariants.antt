@@ -1,13 +1,10 @@
 -- The loop over row and column 0 of the glue tables meets its contract. The invariant: whether a nonzero cell is left from a glue on is
 -- whether there is one. Assumes nothing.
-use mathlib.Core.Path.{◌≡◌, sym, ◌∙◌}
+use mathlib.Core.Path.{◌≡◌}
 use Prim.Native.Nat.{◌≤◌, ◌-◌}
-use native.Mathlib.Omega.{arith}
 use lib.ListN.{drop}
-use borrow.Author.Rules.{rules}
 use Rattle.lists.specs.Build.{up_to}
 use Rattle.lists.specs.Find.{any}
-use Rattle.lists.proofs.Build.{any_here, any-later, any-past}
 use Rattle.design.specs.Checks.{null_cells}
 use Rattle.design.proofs.checks.null_cells.Given as goal
 

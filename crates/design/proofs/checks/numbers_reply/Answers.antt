@@ -1,5 +1,4 @@
 -- The checks of the numbers meet their contract: the ambient's reply, and else that of the potentials. Assumes nothing.
-use borrow.Author.Rules.{rules}
 use mathlib.Core.Path.{◌≡◌, ap₂, ◌∙◌}
 use mathlib.Core.Bool.{Bool}
 use mathlib.Core.List.{[], ◌∷◌}
@@ -7,7 +6,6 @@ use Prim.Native.Nat.{ℕ}
 use Rattle.lists.proofs.Any.{found_below}
 use Rattle.reply.specs.First.{first_of, ◌if◌at◌, ◌or_else◌}
 use Rattle.reply.specs.declared.Refusal.TheVariants.{AmbientOut, PotentialOut}
-use Rattle.reply.specs.declared.Reply.{Reply}
 use Rattle.reply.proofs.First.{joined}
 use Rattle.design.specs.Design.{Design, lent, strands}
 use Rattle.design.specs.Checks.{ambient_out, bad_ambient, unfit, potentials_out, bad_potential}

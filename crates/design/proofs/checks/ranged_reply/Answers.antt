@@ -1,12 +1,10 @@
 -- The checks of the tables meet their contract: sizes are told at once, and the rest is put together. Assumes nothing.
-use borrow.Author.Rules.{rules}
 use mathlib.Core.Path.{◌≡◌, sym, ap, ap₂, ◌∙◌}
 use mathlib.Core.Bool.{Bool, false, ◌||◌}
 use mathlib.Core.List.{[], ◌∷◌}
 use Rattle.reply.specs.First.{first_of, ◌if◌, ◌if◌at◌, ◌or_else◌}
 use Rattle.reply.specs.declared.Refusal.TheVariants.{OutOfRange, NullBinds}
 use Rattle.reply.proofs.First.{joined}
-use Rattle.design.specs.Design.{Design, design}
 use Rattle.design.specs.Checks.{wrong_sizes, cells_out, bad_cell, null_binds}
 use Rattle.design.proofs.Sizes.{tables-sized}
 use Rattle.design.proofs.checks.ranged_reply.Goals as goal

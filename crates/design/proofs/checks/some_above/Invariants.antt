@@ -1,13 +1,8 @@
 -- The test of a limit meets its contract. The invariant: some number is above if one was counted or one is left. Assumes nothing.
-use mathlib.Core.Path.{refl, sym, ◌∙◌}
-use mathlib.Core.Logic.{inl, inr}
 use Prim.Native.Nat.{◌≤◌, ◌-◌}
-use native.Mathlib.Omega.{arith}
 use lib.Dec.{ltb}
 use lib.ListN.{length}
-use borrow.Author.Rules.{rules}
-use borrow.Author.Tests.{lt-ltb, le-ltb}
-use Rattle.lists.proofs.Any.{CountedOrLeft, here, later, past}
+use Rattle.lists.proofs.Any.{CountedOrLeft}
 use Rattle.design.proofs.checks.some_above.Given as goal
 
 abbrev pub invariant-loop-i : goal.invariant-loop-i

@@ -1,5 +1,4 @@
 -- `is_friend` meets its contract: the cell is that of the glue and the strand's bottom. Assumes nothing.
-use borrow.Author.Rules.{rules}
 use mathlib.Core.Path.{ap, ◌∙◌}
 use Rattle.design.specs.Design.{befriends, binding}
 use Rattle.design.proofs.friends.is_friend.Goals as goal

@@ -2,7 +2,6 @@
 use Prim.Native.Nat.{◌+◌, ◌*◌, ◌-◌, ◌<◌}
 use native.Mathlib.Omega.{arith}
 use lib.ListN.{length}
-use borrow.Author.Rules.{rules}
 use Rattle.ensemble.proofs.Lent.{bounds}
 use Rattle.design.specs.Design.{strand_bond}
 use Rattle.design.proofs.Held.{part-among, closing-held}
@@ -10,7 +9,6 @@ use Rattle.design.proofs.needed.fill_closing_bonds.Goals as goal
 
 pub overflow_add-left_end : goal.overflow_add-left_end
 overflow_add-left_end c =
-    
     let last : length c.args.counts.now - 1 < length c.args.counts.now = let some = c.requires.counts_nonzero in omega arith in
     let end = bounds c.requires.searchable (length c.args.counts.now - 1) last in
     let start = bounds c.requires.searchable 0 c.requires.counts_nonzero in
@@ -19,7 +17,6 @@ overflow_add-left_end c =
 
 pub overflow_sub-right_end : goal.overflow_sub-right_end
 overflow_sub-right_end c =
-    
     let last : length c.args.counts.now - 1 < length c.args.counts.now = let some = c.requires.counts_nonzero in omega arith in
     let end = bounds c.requires.searchable (length c.args.counts.now - 1) last in
     let start = bounds c.requires.searchable 0 c.requires.counts_nonzero in
@@ -29,7 +26,6 @@ overflow_sub-right_end c =
 
 pub slice_bounds-fill_neighbours-end : goal.slice_bounds-fill_neighbours-end
 slice_bounds-fill_neighbours-end c =
-    
     let last : length c.args.counts.now - 1 < length c.args.counts.now = let some = c.requires.counts_nonzero in omega arith in
     let end = bounds c.requires.searchable (length c.args.counts.now - 1) last in
     let start = bounds c.requires.searchable 0 c.requires.counts_nonzero in
@@ -39,7 +35,6 @@ slice_bounds-fill_neighbours-end c =
 
 pub slice_bounds-fill_neighbours-end-2 : goal.slice_bounds-fill_neighbours-end-2
 slice_bounds-fill_neighbours-end-2 c =
-    
     let last : length c.args.counts.now - 1 < length c.args.counts.now = let some = c.requires.counts_nonzero in omega arith in
     let end = bounds c.requires.searchable (length c.args.counts.now - 1) last in
     let start = bounds c.requires.searchable 0 c.requires.counts_nonzero in
@@ -49,7 +44,6 @@ slice_bounds-fill_neighbours-end-2 c =
 
 pub fill_neighbours-requires : goal.fill_neighbours-requires
 fill_neighbours-requires c =
-    
     let last : length c.args.counts.now - 1 < length c.args.counts.now = let some = c.requires.counts_nonzero in omega arith in
     let end = bounds c.requires.searchable (length c.args.counts.now - 1) last in
     let start = bounds c.requires.searchable 0 c.requires.counts_nonzero in
@@ -66,7 +60,6 @@ fill_neighbours-requires c =
 
 pub returns : goal.returns
 returns c =
-    
     let last : length c.args.counts.now - 1 < length c.args.counts.now = let some = c.requires.counts_nonzero in omega arith in
     let end = bounds c.requires.searchable (length c.args.counts.now - 1) last in
     let start = bounds c.requires.searchable 0 c.requires.counts_nonzero in
@@ -78,5 +71,5 @@ returns c =
     let m = c.wide-right_end.result - 1 - 0 in
     record {
       kept = filled.kept;
-      closing_held = closing-held bond c.requires.searchable c.fill_neighbours.new.friends.1.1.1.1.1.1.0 c.requires.counts_nonzero n m (omega arith) (omega arith) filled.by_index;
+      closing_held = closing-held bond c.requires.searchable c.fill_neighbours.new.cells c.requires.counts_nonzero n m (omega arith) (omega arith) filled.by_index;
     }

@@ -1,12 +1,11 @@
 use mathlib.Core.Path.{◌≡◌, refl, ◌∙◌}
-use Prim.Native.Nat.{◌+◌, ◌*◌, ◌-◌, ◌≤◌}
+use Prim.Native.Nat.{◌+◌, ◌*◌, ◌-◌}
 use native.Mathlib.Nat.{not-suc-le-zero}
 use native.Mathlib.Omega.{arith}
 use lib.ListN.{length}
-use borrow.Author.Rules.{rules}
 use Rattle.lists.proofs.Grid.{row-end}
 use Rattle.ensemble.proofs.Lent.{bounds}
-use Rattle.design.specs.Filling.{site_bond, SitesHeld}
+use Rattle.design.specs.Filling.{site_bond}
 use Rattle.design.proofs.Held.{part-among, sites-more}
 use Rattle.design.proofs.needed.fill_needed_scaffold_bonds.Goals as goal
 

@@ -1,14 +1,8 @@
 -- The filling of the scaffold bonds that are read meets its contract. The invariant: those of the positions passed hold. Assumes nothing.
-use mathlib.Core.Path.{◌≡◌, refl, ◌∙◌}
-use Prim.Native.Nat.{◌+◌, ◌*◌, ◌-◌, ◌≤◌}
-use native.Mathlib.Nat.{not-suc-le-zero}
-use native.Mathlib.Omega.{arith}
+use mathlib.Core.Path.{◌≡◌}
+use Prim.Native.Nat.{◌-◌, ◌≤◌}
 use lib.ListN.{length}
-use borrow.Author.Rules.{rules}
-use Rattle.lists.proofs.Grid.{row-end}
-use Rattle.ensemble.proofs.Lent.{bounds}
 use Rattle.design.specs.Filling.{site_bond, SitesHeld}
-use Rattle.design.proofs.Held.{part-among, sites-more}
 use Rattle.design.proofs.needed.fill_needed_scaffold_bonds.Given as goal
 
 abbrev pub invariant-loop-position : goal.invariant-loop-position

@@ -1,12 +1,10 @@
 use mathlib.Core.Path.{◌≡◌, refl, ◌∙◌}
-use Prim.Native.Nat.{◌+◌, ◌*◌, ◌-◌, ◌<◌, ◌≤◌}
+use Prim.Native.Nat.{◌+◌, ◌*◌, ◌-◌, ◌<◌}
 use native.Mathlib.Nat.{not-suc-le-zero}
 use native.Mathlib.Omega.{arith}
 use lib.ListN.{length}
-use borrow.Author.Rules.{rules}
 use Rattle.ensemble.proofs.Lent.{bounds}
 use Rattle.design.specs.Design.{strand_bond}
-use Rattle.design.specs.Filling.{PairsHeld}
 use Rattle.design.proofs.Held.{part-among, pairs-more}
 use Rattle.design.proofs.needed.fill_needed_strand_bonds.Goals as goal
 

@@ -1,14 +1,9 @@
 -- The filling of the strand bonds that are read meets its contract. The invariant: those of the neighbours passed hold. Assumes nothing.
-use mathlib.Core.Path.{◌≡◌, refl, ◌∙◌}
-use Prim.Native.Nat.{◌+◌, ◌*◌, ◌-◌, ◌<◌, ◌≤◌}
-use native.Mathlib.Nat.{not-suc-le-zero}
-use native.Mathlib.Omega.{arith}
+use mathlib.Core.Path.{◌≡◌}
+use Prim.Native.Nat.{◌-◌, ◌≤◌}
 use lib.ListN.{length}
-use borrow.Author.Rules.{rules}
-use Rattle.ensemble.proofs.Lent.{bounds}
 use Rattle.design.specs.Design.{strand_bond}
 use Rattle.design.specs.Filling.{PairsHeld}
-use Rattle.design.proofs.Held.{part-among, pairs-more}
 use Rattle.design.proofs.needed.fill_needed_strand_bonds.Given as goal
 
 abbrev pub invariant-loop-position : goal.invariant-loop-position

@@ -1,12 +1,11 @@
 use mathlib.Core.Path.{◌≡◌}
-use Prim.Native.Nat.{ℕ, ◌-◌, ◌<◌, ◌≤◌}
+use Prim.Native.Nat.{ℕ}
 use native.Mathlib.Nat.{not-suc-le-zero}
 use native.Mathlib.Omega.{arith}
 use lib.ListN.{length, get_or}
 use borrow.Author.Count.{below_more}
-use borrow.Author.Rules.{rules}
 use Rattle.design.specs.Design.{strand_bond}
-use Rattle.design.specs.Filling.{Kept, HeldAt}
+use Rattle.design.specs.Filling.{HeldAt}
 use Rattle.design.proofs.Held.{kept-none, kept_then, held_kept}
 use Rattle.design.proofs.needed.fill_neighbours.Goals as goal
 
@@ -15,18 +14,18 @@ loop-j-init c = (omega arith, kept-none (strand_bond c.args.glues.now c.args.dg.
 
 pub fill_pairs_of-requires : goal.fill_pairs_of-requires
 fill_pairs_of-requires c = let sized = c.loop-j.invariant.1.sized in record {
-      x_lt_strands = c.requires.among c.loop-j.j c.loop-j-test.true;
-      strands_bound = c.requires.strands_bound;
-      among = c.requires.among_2;
-      strands_in_bounds = omega (arith, c.requires.strands_in_bounds);
-    }
+  x_lt_strands = c.requires.among c.loop-j.j c.loop-j-test.true;
+  strands_bound = c.requires.strands_bound;
+  among = c.requires.among_2;
+  strands_in_bounds = omega (arith, c.requires.strands_in_bounds);
+}
 
 pub loop-j-preserved : goal.loop-j-preserved
 loop-j-preserved c =
     let bond = (strand_bond c.args.glues.now c.args.dg.now c.args.ds.now c.args.ambient) in
     let left = c.args.left.now in
     let friends = c.args.friends.now in
-    let cells = c.fill_pairs_of.new.glues.1.1.1.1.1.1.0 in (
+    let cells = c.fill_pairs_of.new.cells in (
       omega arith,
       kept_then bond c.args.strands c.loop-j.invariant.1 c.fill_pairs_of.ensures.kept,
       below_more (λ (i : ℕ). HeldAt bond c.args.strands cells (get_or left i 0) friends (length friends)) c.loop-j.j

@@ -1,15 +1,9 @@
 -- The filling of the cells of two neighbouring positions meets its contract. The invariant: those of the left options passed hold their bonds, and
 -- what held its bond still does. Assumes nothing.
-use mathlib.Core.Path.{◌≡◌}
 use Prim.Native.Nat.{ℕ, ◌-◌, ◌<◌, ◌≤◌}
-use native.Mathlib.Nat.{not-suc-le-zero}
-use native.Mathlib.Omega.{arith}
 use lib.ListN.{length, get_or}
-use borrow.Author.Count.{below_more}
-use borrow.Author.Rules.{rules}
 use Rattle.design.specs.Design.{strand_bond}
 use Rattle.design.specs.Filling.{Kept, HeldAt}
-use Rattle.design.proofs.Held.{kept-none, kept_then, held_kept}
 use Rattle.design.proofs.needed.fill_neighbours.Given as goal
 
 abbrev pub invariant-loop-j : goal.invariant-loop-j

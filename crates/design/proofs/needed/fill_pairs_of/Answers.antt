@@ -1,12 +1,10 @@
 use mathlib.Core.Path.{◌≡◌, ap}
-use Prim.Native.Nat.{ℕ, ◌+◌, ◌*◌, ◌-◌, ◌<◌, ◌≤◌}
+use Prim.Native.Nat.{ℕ, ◌+◌, ◌*◌, ◌<◌, ◌≤◌}
 use native.Mathlib.Nat.{not-suc-le-zero}
 use native.Mathlib.Omega.{arith}
 use lib.ListN.{length, get_or}
-use borrow.Author.Rules.{rules}
 use Rattle.lists.proofs.Grid.{row-end}
 use Rattle.design.specs.Design.{strand_bond}
-use Rattle.design.specs.Filling.{Kept, HeldAt}
 use Rattle.design.proofs.Held.{kept-none, kept_then, stored-kept, held_more}
 use Rattle.design.proofs.needed.fill_pairs_of.Goals as goal
 
@@ -21,7 +19,7 @@ overflow_mul-cells c =
     let sized = c.loop-k.invariant.1.sized in
     let end = row-end c.args.strands c.requires.x_lt_strands in let area = c.requires.strands_in_bounds in
     let room : c.args.x * c.args.strands + c.args.strands ≤ length c.args.cells.now = omega arith in
-    let known = c.well-formed in omega arith
+    let known = c.well_formed in omega arith
 
 pub overflow_add-cells : goal.overflow_add-cells
 overflow_add-cells c =
@@ -31,7 +29,7 @@ overflow_add-cells c =
     let sized = c.loop-k.invariant.1.sized in
     let end = row-end c.args.strands c.requires.x_lt_strands in let area = c.requires.strands_in_bounds in
     let room : c.args.x * c.args.strands + c.args.strands ≤ length c.args.cells.now = omega arith in
-    let known = c.well-formed in let y = c.wide-in-loop-k.ensures in omega arith
+    let known = c.well_formed in let y = c.wide-in-loop-k.ensures in omega arith
 
 pub offset_bounds-cells-wide : goal.offset_bounds-cells-wide
 offset_bounds-cells-wide c =
@@ -41,7 +39,7 @@ offset_bounds-cells-wide c =
     let sized = c.loop-k.invariant.1.sized in
     let end = row-end c.args.strands c.requires.x_lt_strands in let area = c.requires.strands_in_bounds in
     let room : c.args.x * c.args.strands + c.args.strands ≤ length c.args.cells.now = omega arith in
-    let known = c.well-formed in let y = c.wide-in-loop-k.ensures in omega arith
+    let known = c.well_formed in let y = c.wide-in-loop-k.ensures in omega arith
 
 pub bounds-cells-wide : goal.bounds-cells-wide
 bounds-cells-wide c =

@@ -1,5 +1,4 @@
 -- The choice between the whole table and the bonds that are read meets its contract: both hold what is read. Assumes nothing.
-use borrow.Author.Rules.{rules}
 use Rattle.design.specs.Design.{strand_bond}
 use Rattle.design.proofs.Held.{table-pairs}
 use Rattle.design.proofs.needed.fill_read_strand_bonds.Goals as goal

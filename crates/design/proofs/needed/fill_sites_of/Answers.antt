@@ -1,11 +1,10 @@
 use mathlib.Core.Path.{◌≡◌, ap, ◌∙◌}
-use Prim.Native.Nat.{ℕ, ◌+◌, ◌*◌, ◌-◌, ◌<◌, ◌≤◌}
+use Prim.Native.Nat.{ℕ, ◌+◌, ◌*◌, ◌<◌, ◌≤◌}
 use native.Mathlib.Nat.{not-suc-le-zero}
 use native.Mathlib.Omega.{arith}
 use lib.ListN.{length, get_or}
-use borrow.Author.Rules.{rules}
 use Rattle.design.specs.Design.{scaffold_bond}
-use Rattle.design.specs.Filling.{site_bond, Kept, HeldAt}
+use Rattle.design.specs.Filling.{site_bond}
 use Rattle.design.proofs.Held.{kept-none, kept_then, stored-kept, held_more}
 use Rattle.design.proofs.needed.fill_sites_of.Goals as goal
 
@@ -18,7 +17,7 @@ overflow_mul-cells c =
     let low = c.requires.among c.loop-k.k here in
     let sized = c.loop-k.invariant.1.sized in
     let room : c.args.position * c.args.strands + c.args.strands ≤ length c.args.cells.now = c.requires.strands_in_bounds in
-    let known = c.well-formed in omega arith
+    let known = c.well_formed in omega arith
 
 pub overflow_add-cells : goal.overflow_add-cells
 overflow_add-cells c =
@@ -26,7 +25,7 @@ overflow_add-cells c =
     let low = c.requires.among c.loop-k.k here in
     let sized = c.loop-k.invariant.1.sized in
     let room : c.args.position * c.args.strands + c.args.strands ≤ length c.args.cells.now = c.requires.strands_in_bounds in
-    let known = c.well-formed in let y = c.wide.ensures in omega arith
+    let known = c.well_formed in let y = c.wide.ensures in omega arith
 
 pub offset_bounds-cells-position : goal.offset_bounds-cells-position
 offset_bounds-cells-position c =
@@ -34,7 +33,7 @@ offset_bounds-cells-position c =
     let low = c.requires.among c.loop-k.k here in
     let sized = c.loop-k.invariant.1.sized in
     let room : c.args.position * c.args.strands + c.args.strands ≤ length c.args.cells.now = c.requires.strands_in_bounds in
-    let known = c.well-formed in let y = c.wide.ensures in omega arith
+    let known = c.well_formed in let y = c.wide.ensures in omega arith
 
 pub bounds-cells-position : goal.bounds-cells-position
 bounds-cells-position c =

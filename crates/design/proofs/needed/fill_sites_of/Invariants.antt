@@ -1,14 +1,8 @@
 -- The filling of a row's cells that are read meets its contract. The invariant: those of the friends passed hold their bonds, and what held its bond
 -- still does. Assumes nothing.
-use mathlib.Core.Path.{◌≡◌, ap, ◌∙◌}
-use Prim.Native.Nat.{ℕ, ◌+◌, ◌*◌, ◌-◌, ◌<◌, ◌≤◌}
-use native.Mathlib.Nat.{not-suc-le-zero}
-use native.Mathlib.Omega.{arith}
-use lib.ListN.{length, get_or}
-use borrow.Author.Rules.{rules}
-use Rattle.design.specs.Design.{scaffold_bond}
+use Prim.Native.Nat.{◌-◌, ◌≤◌}
+use lib.ListN.{length}
 use Rattle.design.specs.Filling.{site_bond, Kept, HeldAt}
-use Rattle.design.proofs.Held.{kept-none, kept_then, stored-kept, held_more}
 use Rattle.design.proofs.needed.fill_sites_of.Given as goal
 
 abbrev pub invariant-loop-k : goal.invariant-loop-k

@@ -1,9 +1,6 @@
 -- The count of the strand bonds that are read meets its contract: each two neighbouring positions add at most 255 * 255. Assumes nothing.
 use Prim.Native.Nat.{◌*◌, ◌-◌, ◌≤◌}
-use native.Mathlib.Nat.{mul-le-mul}
-use native.Mathlib.Omega.{arith}
 use lib.ListN.{length}
-use borrow.Author.Rules.{rules}
 use Rattle.design.proofs.needed.pairs_read.Given as goal
 
 abbrev pub invariant-loop-position : goal.invariant-loop-position

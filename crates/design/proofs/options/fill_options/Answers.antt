@@ -1,12 +1,11 @@
 use mathlib.Core.Path.{◌≡◌, refl, ◌∙◌}
-use Prim.Native.Nat.{ℕ, ◌+◌, ◌*◌, ◌-◌, ◌<◌, ◌≤◌}
+use Prim.Native.Nat.{◌+◌, ◌*◌, ◌-◌, ◌≤◌}
 use native.Mathlib.Nat.{not-suc-le-zero}
 use native.Mathlib.Omega.{arith}
 use lib.ListN.{length, length-set}
-use borrow.Author.Rules.{rules}
 use Rattle.design.specs.Design.{friends_in}
 use Rattle.design.proofs.Parts.{part_length}
-use Rattle.design.proofs.Optioned.{RowAt, rows_more, all-searchable, all-options}
+use Rattle.design.proofs.Optioned.{rows_more, all-searchable, all-options}
 use Rattle.design.proofs.options.fill_options.Goals as goal
 
 pub loop-position-init : goal.loop-position-init
@@ -17,18 +16,18 @@ slice_bounds-fill_row-end c = let room = c.requires in omega arith
 
 pub fill_row-requires : goal.fill_row-requires
 fill_row-requires c = record {
-      strands_nonzero = c.requires.strands_nonzero;
-      strands_bound = c.requires.strands_bound;
-      row_len = let size = c.loop-position in omega arith;
-      ds_value = c.requires.null_nowhere c.loop-position.position c.loop-position-test.true;
-    }
+  strands_nonzero = c.requires.strands_nonzero;
+  strands_bound = c.requires.strands_bound;
+  row_len = let size = c.loop-position in omega arith;
+  ds_value = c.requires.null_nowhere c.loop-position.position c.loop-position-test.true;
+}
 
 pub loop-position-preserved : goal.loop-position-preserved
 loop-position-preserved c =
     let a = c.args in
     let l = c.loop-position in
     let i = l.position in
-    let row = c.fill_row.new.dg.1.1.1.1.1.0 in
+    let row = c.fill_row.new.row in
     let room : 64 * i + 64 ≤ length l.rows = omega arith in
     let full : length row ≡ 64 = let sized = c.fill_row in omega arith in
     let size : 64 * i + 64 - 64 * i ≡ 64 = omega arith in

@@ -1,13 +1,9 @@
 -- The filling of all rows of options meets its contract. The invariant: the rows before `position` are filled. Assumes nothing.
-use mathlib.Core.Path.{◌≡◌, refl, ◌∙◌}
-use Prim.Native.Nat.{ℕ, ◌+◌, ◌*◌, ◌-◌, ◌<◌, ◌≤◌}
-use native.Mathlib.Nat.{not-suc-le-zero}
-use native.Mathlib.Omega.{arith}
-use lib.ListN.{length, length-set}
-use borrow.Author.Rules.{rules}
+use mathlib.Core.Path.{◌≡◌}
+use Prim.Native.Nat.{ℕ, ◌-◌, ◌<◌, ◌≤◌}
+use lib.ListN.{length}
 use Rattle.design.specs.Design.{friends_in}
-use Rattle.design.proofs.Parts.{part_length}
-use Rattle.design.proofs.Optioned.{RowAt, rows_more, all-searchable, all-options}
+use Rattle.design.proofs.Optioned.{RowAt}
 use Rattle.design.proofs.options.fill_options.Given as goal
 
 abbrev pub invariant-loop-position : goal.invariant-loop-position

@@ -2,7 +2,6 @@
 use mathlib.Core.Path.{refl}
 use mathlib.Core.List.{[]}
 use native.Mathlib.Omega.{arith}
-use borrow.Author.Rules.{rules}
 use Rattle.design.specs.Design.{friends_to}
 use Rattle.design.proofs.Optioned.{friends-few, optioned}
 use Rattle.design.proofs.options.fill_row.Goals as goal

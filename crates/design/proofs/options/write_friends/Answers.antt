@@ -1,11 +1,7 @@
 use mathlib.Core.Path.{◌≡◌, sym, ◌∙◌}
-use mathlib.Core.Logic.{inl, inr}
 use mathlib.Core.List.{[]}
-use Prim.Native.Nat.{◌≤◌, ◌-◌}
 use native.Mathlib.Omega.{arith}
-use lib.ListN.{length, drop}
-use borrow.Author.Rules.{rules}
-use Rattle.lists.specs.Build.{up_to, keep}
+use lib.ListN.{length}
 use Rattle.lists.proofs.Build.{keep-here, keep-later, keep-past}
 use Rattle.lists.proofs.Front.{Front, front-none, front_length, front-whole, front-count, front-step, front_same}
 use Rattle.design.specs.Design.{befriends, friends_to}
@@ -17,27 +13,23 @@ loop-strand-init c = (omega arith, omega arith, front-none _ _)
 
 pub bounds-entries-count : goal.bounds-entries-count
 bounds-entries-count c =
-    
-    
     let e : length c.loop-strand.entries ≡ length c.args.entries.now = front_length c.loop-strand.invariant.2 (omega (arith, c.requires)) in
     omega (arith, c.requires)
 
 pub loop-strand-preserved : goal.loop-strand-preserved
 loop-strand-preserved c =
-    
     let a = c.args in
-    
     let t = befriends a.scaffold_glue a.glues.now a.dg.now a.ds.now in
     elim c.if-is_friend.branch [
-      | inl w ↦ (
+      | goal.then-is_friend w ↦ (
         omega arith,
-        omega (arith, w.2),
-        front-step c.loop-strand.invariant.2 (keep-here t a.strands c.loop-strand.strand c.loop-strand-test.true (sym c.is_friend.ensures ∙ w.0.taken)) (omega (arith, c.requires)) w.1 w.2,
+        omega (arith, w.count-is),
+        front-step c.loop-strand.invariant.2 (keep-here t a.strands c.loop-strand.strand c.loop-strand-test.true (sym c.is_friend.ensures ∙ w.if-is_friend.true)) (omega (arith, c.requires)) w.entries-is w.count-is,
       )
-      | inr w ↦ (
+      | goal.else-is_friend w ↦ (
         omega arith,
-        omega (arith, w.2),
-        front_same c.loop-strand.invariant.2 (keep-later t a.strands c.loop-strand.strand c.loop-strand-test.true (sym c.is_friend.ensures ∙ w.0.left)) w.1 w.2,
+        omega (arith, w.count-is),
+        front_same c.loop-strand.invariant.2 (keep-later t a.strands c.loop-strand.strand c.loop-strand-test.true (sym c.is_friend.ensures ∙ w.if-is_friend.false)) w.entries-is w.count-is,
       )
     ]
 
@@ -47,7 +39,6 @@ shape_of-entries c = front_length c.loop-strand.invariant.2 (omega (arith, c.req
 pub returns : goal.returns
 returns c =
     let a = c.args in
-    
     let t = befriends a.scaffold_glue a.glues.now a.dg.now a.ds.now in
     let past = keep-past t a.strands c.loop-strand.strand c.loop-strand-test.false in
     let w : Front a.entries.now (friends_to a.scaffold_glue a.glues.now a.dg.now a.ds.now a.strands) [] c.loop-strand.count c.loop-strand.entries = rw past at c.loop-strand.invariant.2 in

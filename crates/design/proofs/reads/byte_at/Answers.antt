@@ -1,5 +1,4 @@
 -- A read with 0 past the end meets its contract. Assumes nothing.
-use borrow.Author.Rules.{rules}
 use mathlib.Core.Path.{sym}
 use lib.ListN.{get_or-eq_default}
 use Rattle.design.proofs.reads.byte_at.Goals as goal

@@ -1,5 +1,4 @@
 -- A read with 0.0 past the end meets its contract. Assumes nothing.
-use borrow.Author.Rules.{rules}
 use mathlib.Core.Path.{sym}
 use lib.ListN.{get_or-eq_default}
 use lib.Ieee.{nan, of_bits}

@@ -2,11 +2,7 @@ use mathlib.Core.Path.{◌≡◌, refl}
 use Prim.Native.Nat.{◌+◌, ◌*◌, ◌-◌, ◌≤◌}
 use native.Mathlib.Omega.{arith}
 use lib.ListN.{length, drop, length-take}
-use lib.Ieee.{nan}
-use borrow.Author.Rules.{rules}
-use Rattle.lists.specs.Grid.{Grid}
 use Rattle.lists.proofs.Grid.{grid-none, row-end}
-use Rattle.design.specs.Filling.{site_bond}
 use Rattle.design.proofs.Parts.{grid-row}
 use Rattle.design.proofs.tables.fill_scaffold_bonds.Goals as goal
 
@@ -14,13 +10,13 @@ pub loop-position-init : goal.loop-position-init
 loop-position-init c = (omega arith, grid-none refl)
 
 pub overflow_mul-start : goal.overflow_mul-start
-overflow_mul-start c = let inside = row-end c.args.strands c.loop-position-test.true in let room = c.requires in let known = c.well-formed in omega arith
+overflow_mul-start c = let inside = row-end c.args.strands c.loop-position-test.true in let room = c.requires in let known = c.well_formed in omega arith
 
 pub overflow_add-end : goal.overflow_add-end
-overflow_add-end c = let inside = row-end c.args.strands c.loop-position-test.true in let room = c.requires in let known = c.well-formed in omega arith
+overflow_add-end c = let inside = row-end c.args.strands c.loop-position-test.true in let room = c.requires in let known = c.well_formed in omega arith
 
 pub offset_bounds-cells-start : goal.offset_bounds-cells-start
-offset_bounds-cells-start c = let inside = row-end c.args.strands c.loop-position-test.true in let room = c.requires in let known = c.well-formed in omega arith
+offset_bounds-cells-start c = let inside = row-end c.args.strands c.loop-position-test.true in let room = c.requires in let known = c.well_formed in omega arith
 
 pub slice_bounds-fill_scaffold_row-end : goal.slice_bounds-fill_scaffold_row-end
 slice_bounds-fill_scaffold_row-end c = let inside = row-end c.args.strands c.loop-position-test.true in let room = c.requires in let sized = c.loop-position.invariant.1.sized in omega arith

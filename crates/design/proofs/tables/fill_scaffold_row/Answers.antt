@@ -1,11 +1,10 @@
 use mathlib.Core.Path.{◌≡◌, ap, ◌∙◌}
 use mathlib.Core.List.{List}
-use Prim.Native.Nat.{◌-◌, ◌<◌, ◌≤◌}
+use Prim.Native.Nat.{◌<◌}
 use native.Mathlib.Omega.{arith}
 use lib.ListN.{length, set}
 use lib.Ieee.{Float}
-use borrow.Author.Rules.{rules}
-use Rattle.lists.proofs.Counted.{stored, stored-none, stored-length, stored_more, stored-whole}
+use Rattle.lists.proofs.Counted.{stored-none, stored-length, stored_more, stored-whole}
 use Rattle.design.specs.Design.{scaffold_bond}
 use Rattle.design.proofs.tables.fill_scaffold_row.Goals as goal
 

@@ -1,12 +1,8 @@
 -- The filling of a row of bonds meets its contract. The invariant: the first cells are stored. Assumes nothing.
-use mathlib.Core.Path.{◌≡◌, ap, ◌∙◌}
-use mathlib.Core.List.{List}
-use Prim.Native.Nat.{◌-◌, ◌<◌, ◌≤◌}
-use native.Mathlib.Omega.{arith}
-use lib.ListN.{length, set}
-use lib.Ieee.{Float}
-use borrow.Author.Rules.{rules}
-use Rattle.lists.proofs.Counted.{stored, stored-none, stored-length, stored_more, stored-whole}
+use mathlib.Core.Path.{◌≡◌}
+use Prim.Native.Nat.{◌-◌, ◌≤◌}
+use lib.ListN.{length}
+use Rattle.lists.proofs.Counted.{stored}
 use Rattle.design.specs.Design.{scaffold_bond}
 use Rattle.design.proofs.tables.fill_scaffold_row.Given as goal
 

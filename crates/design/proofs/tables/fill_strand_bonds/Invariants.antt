@@ -1,14 +1,9 @@
 -- A table of bonds meets its contract. The invariant: the rows before `x` are filled. Assumes nothing.
-use mathlib.Core.Path.{◌≡◌, refl}
-use Prim.Native.Nat.{◌+◌, ◌*◌, ◌-◌, ◌≤◌}
-use native.Mathlib.Omega.{arith}
-use lib.ListN.{length, drop, length-take}
+use Prim.Native.Nat.{◌-◌, ◌≤◌}
+use lib.ListN.{length}
 use lib.Ieee.{nan}
-use borrow.Author.Rules.{rules}
 use Rattle.lists.specs.Grid.{Grid}
-use Rattle.lists.proofs.Grid.{grid-none, row-end}
 use Rattle.design.specs.Design.{strand_bond}
-use Rattle.design.proofs.Parts.{grid-row}
 use Rattle.design.proofs.tables.fill_strand_bonds.Given as goal
 
 abbrev pub invariant-loop-x : goal.invariant-loop-x

@@ -1,13 +1,10 @@
 use mathlib.Core.Path.{◌≡◌, ap, ◌∙◌}
 use mathlib.Core.List.{List}
-use Prim.Native.Nat.{ℕ, ◌+◌, ◌-◌, ◌≤◌}
+use Prim.Native.Nat.{ℕ}
 use native.Mathlib.Omega.{arith}
 use lib.ListN.{length, get_or, set}
 use lib.Ieee.{Float, nan}
-use borrow.Author.Rules.{rules}
-use Rattle.doubles.specs.Decimal.{zero}
-use Rattle.lists.proofs.Counted.{stored, stored-none, stored-length, stored_more}
-use Rattle.units.specs.declared.Ambient.{Ambient}
+use Rattle.lists.proofs.Counted.{stored-none, stored-length, stored_more}
 use Rattle.design.specs.Design.{scaffold_bond, strand_bond, model_of}
 use Rattle.design.proofs.Parts.{stored_at}
 use Rattle.design.proofs.terms.fill_terms.Invariants.{site_term, pair_term, log_term}
@@ -27,7 +24,7 @@ bounds-pairs-position c =
     omega (arith, c.requires.configuration_in_bounds_2)
 
 pub offset_bounds-logs-position : goal.offset_bounds-logs-position
-offset_bounds-logs-position c = let here = c.loop-position-test.true in let room = c.requires.configuration_in_bounds_3 in let known = c.well-formed in omega arith
+offset_bounds-logs-position c = let here = c.loop-position-test.true in let room = c.requires.configuration_in_bounds_3 in let known = c.well_formed in omega arith
 
 pub bounds-logs-position : goal.bounds-logs-position
 bounds-logs-position c =
@@ -35,7 +32,7 @@ bounds-logs-position c =
     omega (arith, c.requires.configuration_in_bounds_3)
 
 pub overflow_add-position-in-loop-position : goal.overflow_add-position-in-loop-position
-overflow_add-position-in-loop-position c = let here = c.loop-position-test.true in let room = c.requires.configuration_in_bounds_3 in let known = c.well-formed in omega arith
+overflow_add-position-in-loop-position c = let here = c.loop-position-test.true in let room = c.requires.configuration_in_bounds_3 in let known = c.well_formed in omega arith
 
 pub loop-position-preserved : goal.loop-position-preserved
 loop-position-preserved c =
@@ -63,7 +60,7 @@ unfolding model_of
 returns c =
     let l = c.loop-position in
     let past = c.loop-position-test.false in
-    record {
+    λ marks. record {
       site = λ i h _. rw l.invariant.1 (stored_at (site_term c.args.scaffold.now c.args.glues.now c.args.dg.now c.args.ds.now c.args.ambient c.args.configuration.now) l.position c.args.sites.now nan i (omega arith));
       pair = λ i h. rw l.invariant.2 (stored_at (pair_term c.args.glues.now c.args.dg.now c.args.ds.now c.args.ambient c.args.configuration.now) l.position c.args.pairs.now nan i (omega arith));
       log = λ i h _. rw l.invariant.3 (stored_at (log_term c.args.potentials.now c.args.configuration.now) l.position c.args.logs.now nan i (omega arith));

@@ -1,16 +1,13 @@
 -- The filling of a configuration's terms meets its contract. The invariant: those of the places passed are stored. Assumes nothing.
-use mathlib.Core.Path.{◌≡◌, ap, ◌∙◌}
+use mathlib.Core.Path.{◌≡◌}
 use mathlib.Core.List.{List}
 use Prim.Native.Nat.{ℕ, ◌+◌, ◌-◌, ◌≤◌}
-use native.Mathlib.Omega.{arith}
-use lib.ListN.{length, get_or, set}
-use lib.Ieee.{Float, nan}
-use borrow.Author.Rules.{rules}
+use lib.ListN.{length, get_or}
+use lib.Ieee.{Float}
 use Rattle.doubles.specs.Decimal.{zero}
-use Rattle.lists.proofs.Counted.{stored, stored-none, stored-length, stored_more}
+use Rattle.lists.proofs.Counted.{stored}
 use Rattle.units.specs.declared.Ambient.{Ambient}
-use Rattle.design.specs.Design.{scaffold_bond, strand_bond, model_of}
-use Rattle.design.proofs.Parts.{stored_at}
+use Rattle.design.specs.Design.{scaffold_bond, strand_bond}
 use Rattle.design.proofs.terms.fill_terms.Given as goal
 
 abbrev pub site_term : List ℕ → List ℕ → List Float → List Float → Ambient → List ℕ → ℕ → Float

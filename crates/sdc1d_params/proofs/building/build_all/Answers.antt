@@ -1,5 +1,4 @@
 -- `sdc1d_params::build_all` meets its contract: a refusal leaves what was lent, and an admitted set is written. Assumes nothing.
-use borrow.Author.Rules.{rules}
 use mathlib.Core.Path.{◌≡◌, refl, sym, ◌∙◌}
 use Prim.Native.Nat.{◌*◌}
 use Rattle.reply.specs.First.{first_of}

@@ -2,7 +2,7 @@ use borrow.Author.Rules.{rules}
 use mathlib.Core.Path.{◌≡◌, refl, ap, sym, ◌∙◌}
 use mathlib.Core.Bool.{Bool, true, false}
 use mathlib.Core.List.{List}
-use Prim.Native.Nat.{ℕ, ◌-◌, ◌≤◌}
+use Prim.Native.Nat.{ℕ}
 use native.Mathlib.Omega.{arith}
 use lib.ListN.{length, replicate}
 use Rattle.lists.specs.Find.{any}
@@ -13,7 +13,7 @@ use Rattle.sdc1d_params.specs.Entries.{same_pair}
 use Rattle.sdc1d_params.specs.Tables.{duplicated}
 use Rattle.sdc1d_params.specs.inner.Cells.{cell_at, mark_both, is_marked}
 use Rattle.sdc1d_params.proofs.Pairs.{duplicated-more, duplicated-found}
-use Rattle.sdc1d_params.proofs.Marked.{seen_after, seen-length, marked-is}
+use Rattle.sdc1d_params.proofs.Marked.{seen-length, marked-is}
 use Rattle.sdc1d_params.proofs.cells.any_repeated.Goals as goal
 
 pub loop-i-init : goal.loop-i-init

@@ -1,6 +1,5 @@
 -- `sdc1d_params::cell_at` meets its contract: the first name is always there, and numbers are at most two for each base. Assumes nothing.
-use borrow.Author.Rules.{rules}
-use mathlib.Core.Path.{◌≡◌, refl, ap, ◌∙◌}
+use mathlib.Core.Path.{◌≡◌, ap, ◌∙◌}
 use Prim.Native.Nat.{◌<◌}
 use native.Mathlib.Omega.{arith}
 use Rattle.sdc_common.specs.Lent.{part_of, glue_of}

@@ -1,5 +1,4 @@
 -- `sdc1d_params::cell_of` meets its contract: of the two numbers of a base, the odd one is the base. Assumes nothing.
-use borrow.Author.Rules.{rules}
 use mathlib.Core.Path.{◌≡◌, sym, ap}
 use Prim.Native.Nat.{◌+◌, ◌-◌, ◌<◌}
 use native.Mathlib.Omega.{arith}

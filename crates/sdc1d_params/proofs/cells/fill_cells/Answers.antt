@@ -1,12 +1,11 @@
-use borrow.Author.Rules.{rules}
 use mathlib.Core.Path.{◌≡◌, refl, ap, ◌∙◌}
-use Prim.Native.Nat.{ℕ, ◌-◌, ◌≤◌}
+use Prim.Native.Nat.{ℕ}
 use native.Mathlib.Omega.{arith}
 use lib.ListN.{length}
 use Rattle.lists.specs.Build.{tabulate}
-use Rattle.lists.proofs.Counted.{stored, stored-none, stored-length, stored_more, stored-whole}
+use Rattle.lists.proofs.Counted.{stored-none, stored-length, stored_more, stored-whole}
 use Rattle.sdc_common.specs.inner.Table.{held}
-use Rattle.sdc1d_params.specs.Entries.{Cell, entry_at, entry_rows}
+use Rattle.sdc1d_params.specs.Entries.{Cell, entry_at}
 use Rattle.sdc1d_params.specs.inner.Cells.{cell_found, cell_among, row_of, column_of}
 use Rattle.sdc1d_params.specs.declared.Entry.{Entry}
 use Rattle.sdc1d_params.proofs.cells.fill_cells.Goals as goal
@@ -35,7 +34,7 @@ pub offset_bounds-rows-i : goal.offset_bounds-rows-i
 offset_bounds-rows-i c =
     let n = c.loop-i.invariant.5 in
     let t = c.loop-i-test.true in
-    omega (arith, c.well-formed, n, t)
+    omega (arith, c.well_formed, n, t)
 
 pub bounds-rows-i : goal.bounds-rows-i
 bounds-rows-i c =
@@ -47,7 +46,7 @@ pub offset_bounds-columns-i : goal.offset_bounds-columns-i
 offset_bounds-columns-i c =
     let n = c.loop-i.invariant.5 in
     let t = c.loop-i-test.true in
-    omega (arith, c.well-formed, n, t)
+    omega (arith, c.well_formed, n, t)
 
 pub bounds-columns-i : goal.bounds-columns-i
 bounds-columns-i c =
@@ -59,7 +58,7 @@ pub overflow_add-i : goal.overflow_add-i
 overflow_add-i c =
     let n = c.loop-i.invariant.5 in
     let t = c.loop-i-test.true in
-    omega (arith, c.well-formed, n, t)
+    omega (arith, c.well_formed, n, t)
 
 pub loop-i-smaller : goal.loop-i-smaller
 loop-i-smaller c = let t = c.loop-i-test.true in omega (arith, t)
@@ -70,9 +69,9 @@ loop-i-preserved c =
     let l = c.loop-i in
     let n = l.invariant.3 in
     let m = l.invariant.4 in
-    let made : cell_found c.Cell-at.result ≡ cell_among (held a.text.now a.heads.now a.sizes.now a.count) a.text.now (entry_at a.entries.now a.energies.now l.i) = c.Cell-at.ensures ∙ ap (λ (e : Entry). cell_among (held a.text.now a.heads.now a.sizes.now a.count) a.text.now e) c.entry_at.ensures in
+    let made : cell_found c.cell_at-place.result ≡ cell_among (held a.text.now a.heads.now a.sizes.now a.count) a.text.now (entry_at a.entries.now a.energies.now l.i) = c.cell_at-place.ensures ∙ ap (λ (e : Entry). cell_among (held a.text.now a.heads.now a.sizes.now a.count) a.text.now e) c.entry_at.ensures in
     let t = c.loop-i-test.true in
-    (omega (arith, t), rw l.invariant.1 (stored_more (row_of (held a.text.now a.heads.now a.sizes.now a.count) a.text.now a.entries.now a.energies.now) l.i a.rows.now c.Cell-at.result.0 (omega (arith, t, n)) (ap (λ (x : Cell). x.row) made)), rw l.invariant.2 (stored_more (column_of (held a.text.now a.heads.now a.sizes.now a.count) a.text.now a.entries.now a.energies.now) l.i a.columns.now c.Cell-at.result.1 (omega (arith, t, m)) (ap (λ (x : Cell). x.column) made)), l.invariant.3, l.invariant.4, l.invariant.5)
+    (omega (arith, t), rw l.invariant.1 (stored_more (row_of (held a.text.now a.heads.now a.sizes.now a.count) a.text.now a.entries.now a.energies.now) l.i a.rows.now c.cell_at-place.result.0 (omega (arith, t, n)) (ap (λ (x : Cell). x.row) made)), rw l.invariant.2 (stored_more (column_of (held a.text.now a.heads.now a.sizes.now a.count) a.text.now a.entries.now a.energies.now) l.i a.columns.now c.cell_at-place.result.1 (omega (arith, t, m)) (ap (λ (x : Cell). x.column) made)), l.invariant.3, l.invariant.4, l.invariant.5)
 
 pub shape_of-rows : goal.shape_of-rows
 shape_of-rows c =

@@ -1,15 +1,11 @@
 -- `sdc1d_params::fill_cells` meets its contract: the cells of the entries passed are stored. Assumes nothing.
-use borrow.Author.Rules.{rules}
-use mathlib.Core.Path.{◌≡◌, refl, ap, ◌∙◌}
-use Prim.Native.Nat.{ℕ, ◌-◌, ◌≤◌}
-use native.Mathlib.Omega.{arith}
+use mathlib.Core.Path.{◌≡◌}
+use Prim.Native.Nat.{◌-◌, ◌≤◌}
 use lib.ListN.{length}
-use Rattle.lists.specs.Build.{tabulate}
-use Rattle.lists.proofs.Counted.{stored, stored-none, stored-length, stored_more, stored-whole}
+use Rattle.lists.proofs.Counted.{stored}
 use Rattle.sdc_common.specs.inner.Table.{held}
-use Rattle.sdc1d_params.specs.Entries.{Cell, entry_at, entry_rows}
-use Rattle.sdc1d_params.specs.inner.Cells.{cell_found, cell_among, row_of, column_of}
-use Rattle.sdc1d_params.specs.declared.Entry.{Entry}
+use Rattle.sdc1d_params.specs.Entries.{entry_rows}
+use Rattle.sdc1d_params.specs.inner.Cells.{row_of, column_of}
 use Rattle.sdc1d_params.proofs.cells.fill_cells.Given as goal
 
 abbrev pub invariant-loop-i : goal.invariant-loop-i

@@ -1,10 +1,9 @@
 -- `sdc1d_params::check` meets its contract: each return is the first check that holds, and the last leaves what is written. Assumes nothing.
 use borrow.Author.Rules.{rules}
 use mathlib.Core.Path.{◌≡◌, ap, sym, ◌∙◌}
-use mathlib.Core.Bool.{true, false}
+use mathlib.Core.Bool.{false}
 use Prim.Native.Nat.{◌*◌}
 use native.Mathlib.Omega.{arith}
-use lib.ListN.{length}
 use Rattle.lists.specs.Find.{any}
 use Rattle.reply.specs.declared.Refusal.TheVariants.{WrongSize, NotABase, TooShort, UnknownName, TooManyGlues, DuplicatePair, OutOfRange}
 use Rattle.sdc_common.specs.Lent.{glues_of}
@@ -15,7 +14,7 @@ use Rattle.sdc_common.proofs.Held.{held-length}
 use Rattle.sdc1d_params.specs.Entries.{has_bad_base, is_short}
 use Rattle.sdc1d_params.specs.Tables.{cells_of, duplicated, out_of_range}
 use Rattle.sdc1d_params.specs.Params.{Params, Outcome, params_of, lent_of, energies_of, strand_names, bases, writes_of, wrong_size}
-use Rattle.sdc1d_params.proofs.Lengths.{Sized, sized, fit-entries}
+use Rattle.sdc1d_params.proofs.Lengths.{sized, fit-entries}
 use Rattle.sdc1d_params.proofs.Found.{numbers-among, numbers-length, unknown-found}
 use Rattle.sdc1d_params.proofs.Passed as passed
 use Rattle.sdc1d_params.proofs.Passed.{never, reply-size, reply-base, reply-short, reply-unknown, reply-glues, reply-twice, reply-range, reply-none, few-bases, many-bases, twice_found, writes_found, cells-within, checked}

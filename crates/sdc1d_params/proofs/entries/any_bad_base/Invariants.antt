@@ -1,15 +1,11 @@
 -- `sdc1d_params::any_bad_base` meets its contract: no sequence that was passed over is one with another byte than a base. Assumes nothing.
-use borrow.Author.Rules.{rules}
-use mathlib.Core.Path.{◌≡◌, refl, sym, ap, ◌∙◌}
-use mathlib.Core.Bool.{true, false}
-use Prim.Native.Nat.{ℕ, ◌≤◌, ◌-◌}
-use native.Mathlib.Omega.{arith}
+use mathlib.Core.Path.{◌≡◌}
+use mathlib.Core.Bool.{false}
+use Prim.Native.Nat.{◌≤◌, ◌-◌}
 use Rattle.lists.specs.Find.{any}
 use Rattle.lists.specs.Build.{tabulate}
-use Rattle.lists.proofs.Counted.{any-more, any_found, map-tabulate}
-use Rattle.sdc1d_params.specs.Entries.{energy_of, entry_at, entry_rows, unfit_energy, has_bad_base}
+use Rattle.sdc1d_params.specs.Entries.{entry_rows, has_bad_base}
 use Rattle.sdc1d_params.specs.inner.Fit.{energy_at}
-use Rattle.sdc1d_params.proofs.Lengths.{energy-fit}
 use Rattle.sdc1d_params.proofs.entries.any_bad_base.Given as goal
 
 abbrev pub invariant-loop-i : goal.invariant-loop-i

@@ -1,5 +1,4 @@
 -- `sdc1d_params::gs_or_seq` meets its contract. Assumes nothing.
-use borrow.Author.Rules.{rules}
 use borrow.Author.Tests.{eq-eqb, ne_eqb}
 use Rattle.sdc1d_params.specs.Entries.{energy_of}
 use Rattle.sdc1d_params.proofs.entries.gs_or_seq.Goals as goal

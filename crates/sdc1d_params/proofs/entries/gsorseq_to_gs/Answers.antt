@@ -1,5 +1,4 @@
 -- `sdc1d_params::gsorseq_to_gs` meets its contract: the part of the text is handed to the sequence call. Assumes nothing.
-use borrow.Author.Rules.{rules}
 use mathlib.Core.Path.{◌≡◌, sym, ap, ◌∙◌}
 use mathlib.Core.Bool.{false}
 use native.Mathlib.Omega.{arith}
@@ -14,31 +13,31 @@ use Rattle.sdc1d_params.proofs.entries.gsorseq_to_gs.Goals as goal
 
 pub overflow_add-end : goal.overflow_add-end
 overflow_add-end c =
-    let v = c.energy-in-Sequence-1.given.0 in
+    let v = c.in-Sequence in
     let text = c.args.text.now in
-    let fit : unfit_energy text (Sequence v.0 v.1.0) ≡ false = sym (ap (unfit_energy text) c.in-Sequence.is) ∙ c.requires in
-    omega (arith, sequence-fits text v.0 v.1.0 fit)
+    let fit : unfit_energy text (Sequence v.start v.length) ≡ false = sym (ap (unfit_energy text) c.in-Sequence.is) ∙ c.requires in
+    omega (arith, sequence-fits text v.start v.length fit)
 
 pub slice_bounds-string_dna_dg_ds-end : goal.slice_bounds-string_dna_dg_ds-end
 slice_bounds-string_dna_dg_ds-end c =
-    let v = c.energy-in-Sequence-1.given.0 in
+    let v = c.in-Sequence in
     let text = c.args.text.now in
-    let fit : unfit_energy text (Sequence v.0 v.1.0) ≡ false = sym (ap (unfit_energy text) c.in-Sequence.is) ∙ c.requires in
-    omega (arith, sequence-fits text v.0 v.1.0 fit)
+    let fit : unfit_energy text (Sequence v.start v.length) ≡ false = sym (ap (unfit_energy text) c.in-Sequence.is) ∙ c.requires in
+    omega (arith, sequence-fits text v.start v.length fit)
 
 pub returns-in-Given-string_dna_dg_ds : goal.returns-in-Given-string_dna_dg_ds
 returns-in-Given-string_dna_dg_ds c =
-    let v = c.energy-in-Sequence-1.given.0 in
+    let v = c.in-Sequence in
     let text = c.args.text.now in
-    let fit : unfit_energy text (Sequence v.0 v.1.0) ≡ false = sym (ap (unfit_energy text) c.in-Sequence.is) ∙ c.requires in
-    let said = sym (ap dg_ds_figures c.in-Given-string_dna_dg_ds.is) ∙ c.string_dna_dg_ds.ensures ∙ ap string_dna_dg_ds (part-is text v.0 v.1.0) in
+    let fit : unfit_energy text (Sequence v.start v.length) ≡ false = sym (ap (unfit_energy text) c.in-Sequence.is) ∙ c.requires in
+    let said = sym (ap dg_ds_figures c.in-Given-string_dna_dg_ds.is) ∙ c.string_dna_dg_ds.ensures ∙ ap string_dna_dg_ds (part-is text v.start v.length) in
     (ap (λ (f : DgDsFigures). f.dg) said ∙ sym (ap (entry_dg text) c.in-Sequence.is), ap (λ (f : DgDsFigures). f.ds) said ∙ sym (ap (entry_ds text) c.in-Sequence.is))
 
 pub returns-in-Refused : goal.returns-in-Refused
 unfolding of_bits
 returns-in-Refused c =
-    let v = c.energy-in-Sequence-1.given.0 in
+    let v = c.in-Sequence in
     let text = c.args.text.now in
-    let fit : unfit_energy text (Sequence v.0 v.1.0) ≡ false = sym (ap (unfit_energy text) c.in-Sequence.is) ∙ c.requires in
-    let said = sym (ap dg_ds_figures c.in-Refused.is) ∙ c.string_dna_dg_ds.ensures ∙ ap string_dna_dg_ds (part-is text v.0 v.1.0) in
+    let fit : unfit_energy text (Sequence v.start v.length) ≡ false = sym (ap (unfit_energy text) c.in-Sequence.is) ∙ c.requires in
+    let said = sym (ap dg_ds_figures c.in-Refused.is) ∙ c.string_dna_dg_ds.ensures ∙ ap string_dna_dg_ds (part-is text v.start v.length) in
     (ap (λ (f : DgDsFigures). f.dg) said ∙ sym (ap (entry_dg text) c.in-Sequence.is), ap (λ (f : DgDsFigures). f.ds) said ∙ sym (ap (entry_ds text) c.in-Sequence.is))

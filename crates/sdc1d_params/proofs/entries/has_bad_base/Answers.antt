@@ -1,5 +1,4 @@
 -- `sdc1d_params::has_bad_base` meets its contract: the sequence call refuses a byte that is no base. Assumes nothing.
-use borrow.Author.Rules.{rules}
 use mathlib.Core.Path.{◌≡◌, sym, ap, ap₂, ◌∙◌}
 use lib.Dec.{eqb}
 use mathlib.Core.Bool.{false}
@@ -15,30 +14,30 @@ use Rattle.sdc1d_params.proofs.entries.has_bad_base.Goals as goal
 
 pub overflow_add-end : goal.overflow_add-end
 overflow_add-end c =
-    let v = c.energy-1.given.0 in
+    let v = c.in-Sequence in
     let text = c.args.text.now in
-    let fit : unfit_energy text (Sequence v.0 v.1.0) ≡ false = sym (ap (unfit_energy text) c.in-Sequence.is) ∙ c.requires in
-    omega (arith, sequence-fits text v.0 v.1.0 fit)
+    let fit : unfit_energy text (Sequence v.start v.length) ≡ false = sym (ap (unfit_energy text) c.in-Sequence.is) ∙ c.requires in
+    omega (arith, sequence-fits text v.start v.length fit)
 
 pub slice_bounds-string_dna_dg_ds-end : goal.slice_bounds-string_dna_dg_ds-end
 slice_bounds-string_dna_dg_ds-end c =
-    let v = c.energy-1.given.0 in
+    let v = c.in-Sequence in
     let text = c.args.text.now in
-    let fit : unfit_energy text (Sequence v.0 v.1.0) ≡ false = sym (ap (unfit_energy text) c.in-Sequence.is) ∙ c.requires in
-    omega (arith, sequence-fits text v.0 v.1.0 fit)
+    let fit : unfit_energy text (Sequence v.start v.length) ≡ false = sym (ap (unfit_energy text) c.in-Sequence.is) ∙ c.requires in
+    omega (arith, sequence-fits text v.start v.length fit)
 
 pub returns-in-Given-string_dna_dg_ds : goal.returns-in-Given-string_dna_dg_ds
 returns-in-Given-string_dna_dg_ds c =
-    let v = c.energy-1.given.0 in
+    let v = c.in-Sequence in
     let text = c.args.text.now in
-    let fit : unfit_energy text (Sequence v.0 v.1.0) ≡ false = sym (ap (unfit_energy text) c.in-Sequence.is) ∙ c.requires in
-    let said = sym (ap dg_ds_figures c.in-Given-string_dna_dg_ds.is) ∙ c.string_dna_dg_ds.ensures ∙ ap string_dna_dg_ds (part-is text v.0 v.1.0) in
-    sym (ap (has_bad_base text) c.in-Sequence.is ∙ given-good (part_of text v.0 v.1.0) (not-long text v.0 v.1.0 fit) _ _ said)
+    let fit : unfit_energy text (Sequence v.start v.length) ≡ false = sym (ap (unfit_energy text) c.in-Sequence.is) ∙ c.requires in
+    let said = sym (ap dg_ds_figures c.in-Given-string_dna_dg_ds.is) ∙ c.string_dna_dg_ds.ensures ∙ ap string_dna_dg_ds (part-is text v.start v.length) in
+    sym (ap (has_bad_base text) c.in-Sequence.is ∙ given-good (part_of text v.start v.length) (not-long text v.start v.length fit) _ _ said)
 
 pub returns-in-Refused : goal.returns-in-Refused
 returns-in-Refused c =
-    let v = c.energy-1.given.0 in
+    let v = c.in-Sequence in
     let text = c.args.text.now in
-    let fit : unfit_energy text (Sequence v.0 v.1.0) ≡ false = sym (ap (unfit_energy text) c.in-Sequence.is) ∙ c.requires in
-    let said = sym (ap dg_ds_figures c.in-Refused.is) ∙ c.string_dna_dg_ds.ensures ∙ ap string_dna_dg_ds (part-is text v.0 v.1.0) in
-    ap₂ eqb c.number.ensures c.number-in-Refused.ensures ∙ refused-bad (part_of text v.0 v.1.0) (not-long text v.0 v.1.0 fit) c.in-Refused.refusal said ∙ sym (ap (has_bad_base text) c.in-Sequence.is)
+    let fit : unfit_energy text (Sequence v.start v.length) ≡ false = sym (ap (unfit_energy text) c.in-Sequence.is) ∙ c.requires in
+    let said = sym (ap dg_ds_figures c.in-Refused.is) ∙ c.string_dna_dg_ds.ensures ∙ ap string_dna_dg_ds (part-is text v.start v.length) in
+    ap₂ eqb c.number.ensures c.number-in-Refused.ensures ∙ refused-bad (part_of text v.start v.length) (not-long text v.start v.length fit) c.in-Refused.refusal said ∙ sym (ap (has_bad_base text) c.in-Sequence.is)

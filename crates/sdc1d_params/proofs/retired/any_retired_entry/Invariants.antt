@@ -1,13 +1,10 @@
 -- `sdc1d_params::any_retired_entry` meets its contract: no entry that was passed over has a name that retires. Assumes nothing.
-use borrow.Author.Rules.{rules}
-use mathlib.Core.Path.{◌≡◌, refl, sym, ap, ◌∙◌}
-use mathlib.Core.Bool.{true, false}
-use Prim.Native.Nat.{ℕ, ◌≤◌, ◌-◌}
-use native.Mathlib.Omega.{arith}
+use mathlib.Core.Path.{◌≡◌}
+use mathlib.Core.Bool.{false}
+use Prim.Native.Nat.{◌≤◌, ◌-◌}
 use Rattle.lists.specs.Find.{any}
 use Rattle.lists.specs.Build.{tabulate}
-use Rattle.lists.proofs.Counted.{any-more, any_found}
-use Rattle.sdc1d_params.specs.Entries.{entry_at, entry_rows, unfit_entry}
+use Rattle.sdc1d_params.specs.Entries.{entry_at, entry_rows}
 use Rattle.sdc1d_params.specs.Params.{is_retired_entry}
 use Rattle.sdc1d_params.proofs.retired.any_retired_entry.Given as goal
 

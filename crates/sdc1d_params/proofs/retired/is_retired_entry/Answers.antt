@@ -1,5 +1,4 @@
 -- `sdc1d_params::is_retired_entry` meets its contract: the first name is always there. Assumes nothing.
-use borrow.Author.Rules.{rules}
 use mathlib.Core.Path.{◌≡◌, sym, ap, ◌∙◌}
 use mathlib.Core.Bool.{true, false}
 use Rattle.sdc_common.specs.Names.{is_retired}

@@ -1,5 +1,4 @@
 -- `sdc1d_params::refuses_names` meets its contract: only an ordinary build looks at the names. Assumes nothing.
-use borrow.Author.Rules.{rules}
 use mathlib.Core.Path.{◌≡◌, sym, ap, ◌∙◌}
 use mathlib.Core.Bool.{true, false}
 use Rattle.lists.specs.Find.{any}

@@ -1,5 +1,4 @@
 -- `sdc1d_params::is_unknown` meets its contract: the stars are counted from the base. Assumes nothing.
-use borrow.Author.Rules.{rules}
 use mathlib.Core.Path.{◌≡◌, sym, ap, ◌∙◌}
 use mathlib.Core.Bool.{false}
 use native.Mathlib.Omega.{arith}
@@ -23,15 +22,15 @@ pub overflow_sub-result : goal.overflow_sub-result
 overflow_sub-result c =
     let a = c.args in
     let fit : unfit_name a.text.now a.name.start a.name.size ≡ false = present-fit a.text.now a.name c.if-name-eq-ABSENT.false c.requires in
-    let v = c.base-1.given.0 in
-    omega (arith, base-inside a.text.now a.name.start a.name.size fit v.1.0 (base-given a.text.now a.name.start a.name.size fit v.0 v.1.0 v.1.1.0 (sym (ap name_figures c.in-Given.is) ∙ c.self_and_inverse.ensures)))
+    let v = c.in-Given in
+    omega (arith, base-inside a.text.now a.name.start a.name.size fit v.base (base-given a.text.now a.name.start a.name.size fit v.field-0 v.base v.field-2 (sym (ap name_figures c.in-Given.is) ∙ c.self_and_inverse.ensures)))
 
 pub returns-in-Given : goal.returns-in-Given
 returns-in-Given c =
     let a = c.args in
     let fit : unfit_name a.text.now a.name.start a.name.size ≡ false = present-fit a.text.now a.name c.if-name-eq-ABSENT.false c.requires in
-    let v = c.base-1.given.0 in
-    by-stars a.text.now a.name a.number c.if-name-eq-ABSENT.false c.if-number-eq0.false _ (stars-given a.text.now a.name.start a.name.size fit v.1.0 (base-given a.text.now a.name.start a.name.size fit v.0 v.1.0 v.1.1.0 (sym (ap name_figures c.in-Given.is) ∙ c.self_and_inverse.ensures)))
+    let v = c.in-Given in
+    by-stars a.text.now a.name a.number c.if-name-eq-ABSENT.false c.if-number-eq0.false _ (stars-given a.text.now a.name.start a.name.size fit v.base (base-given a.text.now a.name.start a.name.size fit v.field-0 v.base v.field-2 (sym (ap name_figures c.in-Given.is) ∙ c.self_and_inverse.ensures)))
 
 pub returns-in-Refused : goal.returns-in-Refused
 returns-in-Refused c =

@@ -1,11 +1,8 @@
 -- `sdc1d_params::write_scaffold` meets its contract: the numbers passed over are stored. Assumes nothing.
-use borrow.Author.Rules.{rules}
-use mathlib.Core.Path.{◌≡◌, refl, ap, sym, ◌∙◌}
-use Prim.Native.Nat.{ℕ, ◌-◌, ◌≤◌}
-use native.Mathlib.Omega.{arith}
+use mathlib.Core.Path.{◌≡◌}
+use Prim.Native.Nat.{◌-◌, ◌≤◌}
 use lib.ListN.{length, get_or}
-use Rattle.lists.proofs.Places.{tabulate-get_or}
-use Rattle.lists.proofs.Counted.{stored, stored-none, stored-length, stored_more, stored-whole}
+use Rattle.lists.proofs.Counted.{stored}
 use Rattle.sdc1d_params.proofs.scaffold.write_scaffold.Given as goal
 
 abbrev pub invariant-loop-i : goal.invariant-loop-i

@@ -1,5 +1,4 @@
 -- `sdc1d_params::unfit_copied` meets its contract. Assumes nothing.
-use borrow.Author.Rules.{rules}
 use borrow.Author.Tests.{ne_eqb}
 use Rattle.sdc1d_params.proofs.sizes.unfit_copied.Goals as goal
 

@@ -1,5 +1,4 @@
 -- `sdc1d_params::unfit_lengths` meets its contract: each test is one of the definition. Assumes nothing.
-use borrow.Author.Rules.{rules}
 use borrow.Author.Tests.{eq-eqb, ne_eqb}
 use Rattle.sdc1d_params.proofs.sizes.unfit_lengths.Goals as goal
 

@@ -1,5 +1,4 @@
 -- `sdc1d_params::wrong_size` meets its contract: each test is one of the definition. Assumes nothing.
-use borrow.Author.Rules.{rules}
 use mathlib.Core.Path.{◌≡◌, sym, ◌∙◌}
 use mathlib.Core.Bool.{true, false}
 use lib.ListN.{length}

@@ -1,5 +1,4 @@
 -- `sdc1d_params::reporter_sides` meets its contract: strand k has its glues from 3 k on. Assumes nothing.
-use borrow.Author.Rules.{rules}
 use mathlib.Core.Path.{refl, ap, sym, ◌∙◌}
 use native.Mathlib.Omega.{arith}
 use lib.ListN.{drop}

@@ -1,5 +1,4 @@
 -- `sdc1d_params::write_sides` meets its contract. Assumes nothing.
-use borrow.Author.Rules.{rules}
 use Rattle.sdc1d_params.proofs.Laid.{three-set}
 use Rattle.sdc1d_params.proofs.strands.write_sides.Goals as goal
 

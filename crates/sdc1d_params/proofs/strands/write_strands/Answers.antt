@@ -1,5 +1,4 @@
 -- `sdc1d_params::write_strands` meets its contract: the four parts follow each other. Assumes nothing.
-use borrow.Author.Rules.{rules}
 use mathlib.Core.Path.{◌∙◌}
 use native.Mathlib.Omega.{arith}
 use Rattle.sdc_common.specs.Lent.{Names, names_of, glues_of}

@@ -1,11 +1,9 @@
-use borrow.Author.Rules.{rules}
-use mathlib.Core.Path.{◌≡◌, refl, ap, ◌∙◌}
-use Prim.Native.Nat.{◌-◌, ◌≤◌}
+use mathlib.Core.Path.{refl, ap, ◌∙◌}
 use native.Mathlib.Omega.{arith}
 use lib.Ieee.{of_bits}
 use lib.ListN.{length}
 use Rattle.doubles.specs.Decimal.{zero}
-use Rattle.lists.proofs.Counted.{stored, stored-none, stored-length, stored_more, stored-whole}
+use Rattle.lists.proofs.Counted.{stored-none, stored-length, stored_more, stored-whole}
 use Rattle.sdc1d_params.proofs.Writes.{tabulate-same-value}
 use Rattle.sdc1d_params.proofs.tables.clear.Goals as goal
 

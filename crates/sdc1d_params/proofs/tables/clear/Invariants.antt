@@ -1,13 +1,9 @@
 -- `sdc1d_params::clear` meets its contract. Assumes nothing.
-use borrow.Author.Rules.{rules}
-use mathlib.Core.Path.{◌≡◌, refl, ap, ◌∙◌}
+use mathlib.Core.Path.{◌≡◌}
 use Prim.Native.Nat.{◌-◌, ◌≤◌}
-use native.Mathlib.Omega.{arith}
-use lib.Ieee.{of_bits}
 use lib.ListN.{length}
 use Rattle.doubles.specs.Decimal.{zero}
-use Rattle.lists.proofs.Counted.{stored, stored-none, stored-length, stored_more, stored-whole}
-use Rattle.sdc1d_params.proofs.Writes.{tabulate-same-value}
+use Rattle.lists.proofs.Counted.{stored}
 use Rattle.sdc1d_params.proofs.tables.clear.Given as goal
 
 abbrev pub invariant-loop-i : goal.invariant-loop-i

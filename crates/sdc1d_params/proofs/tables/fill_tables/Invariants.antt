@@ -1,19 +1,12 @@
 -- `sdc1d_params::fill_tables` meets its contract: the entries passed are written. Assumes nothing.
-use borrow.Author.Rules.{rules}
-use mathlib.Core.Path.{◌≡◌, refl, sym, ap, ap₂, ◌∙◌}
-use mathlib.Core.List.{List}
-use Prim.Native.Nat.{ℕ, ◌≤◌, ◌<◌, ◌-◌}
-use native.Mathlib.Omega.{arith}
-use lib.Ieee.{Float}
-use lib.ListN.{length, get_or}
+use mathlib.Core.Path.{◌≡◌}
+use Prim.Native.Nat.{◌≤◌, ◌-◌}
+use lib.ListN.{length}
 use Rattle.lists.specs.Fold.{foldl}
 use Rattle.lists.specs.Build.{tabulate}
-use Rattle.lists.proofs.Counted.{fold_more}
-use Rattle.sdc1d_params.specs.Entries.{cell, energy_of, entry_at, entry_rows, unfit_energy}
-use Rattle.sdc1d_params.specs.Tables.{Write, write_dg, write_ds}
+use Rattle.sdc1d_params.specs.Entries.{entry_rows}
+use Rattle.sdc1d_params.specs.Tables.{write_dg, write_ds}
 use Rattle.sdc1d_params.specs.inner.Cells.{write_at}
-use Rattle.sdc1d_params.proofs.Lengths.{energy-fit}
-use Rattle.sdc1d_params.proofs.Writes.{same_write, set-length}
 use Rattle.sdc1d_params.proofs.tables.fill_tables.Given as goal
 
 abbrev pub invariant-loop-i : goal.invariant-loop-i

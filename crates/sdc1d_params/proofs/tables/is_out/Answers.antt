@@ -1,8 +1,6 @@
 -- `sdc1d_params::is_out` meets its contract: each range is that of its unit. Assumes nothing.
-use borrow.Author.Rules.{rules}
 use mathlib.Core.Path.{◌≡◌, refl, sym, ap, ◌∙◌}
 use mathlib.Core.Bool.{true, false, not}
-use Prim.Native.Nat.{◌-◌}
 use lib.Ieee.{Float, binary64, of_bits}
 use Rattle.doubles.specs.Decimal.{nearest}
 use Rattle.doubles.specs.Range.{in_range}

@@ -1,5 +1,4 @@
 -- `sdc1d_params::with_penalty` meets its contract. Assumes nothing.
-use borrow.Author.Rules.{rules}
 use mathlib.Core.Path.{ap, ◌∙◌}
 use lib.Ieee.{Float, binary64, add}
 use Rattle.sdc1d_params.proofs.tables.with_penalty.Goals as goal

@@ -1,12 +1,8 @@
 -- `utils::first_not_a_base` meets its contract: the loop has passed over what `first_index` passes over. Assumes nothing.
-use mathlib.Core.Path.{◌≡◌, ap, sym, ◌∙◌}
-use mathlib.Core.Bool.{true, false, not}
+use mathlib.Core.Path.{◌≡◌}
 use Prim.Native.Nat.{◌≤◌, ◌+◌, ◌-◌}
-use native.Mathlib.Omega.{arith}
-use lib.ListN.{length, drop, get_or}
-use borrow.Author.Rules.{rules}
+use lib.ListN.{length, drop}
 use Rattle.lists.specs.Find.{first_index}
-use Rattle.lists.proofs.Find.{first-here, first-later, first_past}
 use Rattle.utils.specs.Bases.{not_a_base}
 use Rattle.utils.proofs.bases.first_not_a_base.Given as goal
 

@@ -5,15 +5,10 @@ use lib.IntN.{pos}
 use Rattle.utils.specs.inner.Tables.{hundredths}
 use Rattle.utils.proofs.ByBase.{at-bases3}
 use Rattle.utils.proofs.Divided.{by_hundred, mismatch-divided}
-use borrow.Author.Rules.{rules}
 use Rattle.utils.proofs.tables.calc_penalty.Goals as goal
 
 pub returns : goal.returns
 returns c =
-    
-    
-    
-    
     let args = c.args in
     let entry = at-bases3 (pos 0) hundredths args.penalties.now args.prior args.x args.y c.index-p.result c.index-i.result c.index-j.result c.requires c.index-p.ensures.0 c.index-i.ensures.0 c.index-j.ensures.0 in
     ap by_hundred entry ∙ mismatch-divided args.prior args.x args.y

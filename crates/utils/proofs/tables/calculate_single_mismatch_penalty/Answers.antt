@@ -2,7 +2,6 @@
 use mathlib.Core.Path.{sym, ◌∙◌}
 use lib.Ieee.{of_bits}
 use Rattle.utils.specs.Figures.{mismatch_dg}
-use borrow.Author.Rules.{rules}
 use Rattle.utils.proofs.tables.calculate_single_mismatch_penalty.Goals as goal
 
 pub returns-then-good_match : goal.returns-then-good_match
@@ -14,7 +13,6 @@ returns-then-good_match c =
 pub returns-then-good_match-2 : goal.returns-then-good_match-2
 unfolding mismatch_dg
 returns-then-good_match-2 c =
-    
     let first = sym c.good_match.ensures ∙ c.if-good_match.false in
     let second = sym c.good_match-2.ensures ∙ c.if-good_match-2.true in
     simp (first, second) c.calc_penalty-then-good_match-2.ensures
@@ -22,7 +20,6 @@ returns-then-good_match-2 c =
 pub returns : goal.returns
 unfolding mismatch_dg of_bits
 returns c =
-    
     let first = sym c.good_match.ensures ∙ c.if-good_match.false in
     let second = sym c.good_match-2.ensures ∙ c.if-good_match-2.false in
     simp (first, second)

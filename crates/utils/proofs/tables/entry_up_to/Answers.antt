@@ -1,8 +1,5 @@
-use mathlib.Core.Path.{◌≡◌}
-use Prim.Native.Nat.{◌≤◌, ◌+◌, ◌-◌}
 use native.Mathlib.Omega.{arith}
-use borrow.Author.Rules.{rules}
-use Rattle.utils.proofs.Lengths.{UpTo, up-to-first, up-to-more, up-to-here, up-to-last}
+use Rattle.utils.proofs.Lengths.{up-to-first, up-to-more, up-to-here, up-to-last}
 use Rattle.utils.proofs.tables.entry_up_to.Goals as goal
 
 pub loop-at-init : goal.loop-at-init

@@ -1,9 +1,6 @@
 -- `utils::entry_up_to` meets its contract: the rows that are left give the entry. Assumes nothing.
-use mathlib.Core.Path.{◌≡◌}
-use Prim.Native.Nat.{◌≤◌, ◌+◌, ◌-◌}
-use native.Mathlib.Omega.{arith}
-use borrow.Author.Rules.{rules}
-use Rattle.utils.proofs.Lengths.{UpTo, up-to-first, up-to-more, up-to-here, up-to-last}
+use Prim.Native.Nat.{◌≤◌, ◌-◌}
+use Rattle.utils.proofs.Lengths.{UpTo}
 use Rattle.utils.proofs.tables.entry_up_to.Given as goal
 
 abbrev pub invariant-loop-at : goal.invariant-loop-at

@@ -4,23 +4,14 @@ use native.Mathlib.Omega.{arith}
 use Rattle.logarithm.specs.Figure.{fixed}
 use Rattle.logarithm.proofs.Double.{held, unit-is}
 use Rattle.utils.proofs.LoopCode.{own_at, base-at, between-at}
-use borrow.Author.Rules.{rules}
-use Rattle.utils.proofs.tables.loop_energy.Reads as reads
-use Rattle.utils.proofs.tables.loop_energy.Lts as lts
-use Rattle.utils.proofs.tables.entry_up_to.Reads as entry-up-to-reads
-use Rattle.utils.proofs.tables.loop_entry.Reads as loop-entry-reads
-use Rattle.utils.proofs.tables.loop_tenths.Reads as loop-tenths-reads
-use Rattle.utils.proofs.tables.loop_units.Reads as loop-units-reads
 use Rattle.utils.proofs.tables.loop_energy.Goals as goal
 
 pub returns-then-base-length : goal.returns-then-base-length
 returns-then-base-length c =
-    
     c.loop_entry.ensures ∙ own_at c.args.length c.entry_up_to-at.result c.entry_up_to-at.ensures.1 c.args.kind c.if-base-length.true
 
 pub loop_units-requires : goal.loop_units-requires
 loop_units-requires c =
-    
     let b = base-at c.args.length c.entry_up_to-at.result c.entry_up_to-at.ensures.1 (omega arith) (omega arith) c.if-base-length.false in
     (c.loop_tenths-tenths.ensures.1, b.0, b.1, omega arith)
 
@@ -30,6 +21,4 @@ int_to_float-result c = held c.loop_units.result c.loop_units.ensures.1
 pub returns : goal.returns
 unfolding fixed
 returns c =
-    
-    
     rw unit-is (between-at c.args.length c.entry_up_to-at.result c.entry_up_to-at.ensures.1 c.args.kind c.loop_tenths-tenths.result c.loop_units.result c.if-base-length.false c.loop_tenths-tenths.ensures.0 c.loop_units.ensures.0)

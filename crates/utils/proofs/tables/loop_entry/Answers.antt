@@ -10,5 +10,4 @@ use Rattle.utils.proofs.tables.loop_entry.Goals as goal
 pub returns : goal.returns
 unfolding loop_rows keep table4
 returns c =
-    
     entry-in-row c.args.kind c.index-row.result c.args.at c.index-row.ensures.0 (search rules)

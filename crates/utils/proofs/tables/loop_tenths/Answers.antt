@@ -5,20 +5,14 @@ use Rattle.lists.specs.Build.{keep}
 use Rattle.utils.specs.Paper.{table4}
 use Rattle.utils.specs.Figures.{loop_rows}
 use Rattle.utils.proofs.Loops.{tenths-in-row, tenths-small, narrow}
-use borrow.Author.Rules.{rules}
-use Rattle.utils.proofs.tables.loop_tenths.Reads as reads
-use Rattle.utils.proofs.tables.loop_tenths.Lts as lts
-use Rattle.utils.proofs.tables.LoopKind.index.Reads as index_Reads
 use Rattle.utils.proofs.tables.loop_tenths.Goals as goal
 
 pub overflow_cast-result : goal.overflow_cast-result
 unfolding loop_rows keep table4
 overflow_cast-result c =
-    
     rw (tenths-in-row c.args.kind c.index-row.result c.args.at c.index-row.ensures.0 (omega arith), narrow c.args.kind c.args.at) (tt, omega (arith, tenths-small c.args.kind c.args.at))
 
 pub returns : goal.returns
 unfolding loop_rows keep table4
 returns c =
-    
     rw (tenths-in-row c.args.kind c.index-row.result c.args.at c.index-row.ensures.0 (omega arith), narrow c.args.kind c.args.at) (refl, tenths-small c.args.kind c.args.at)

@@ -6,7 +6,6 @@ use native.Mathlib.Omega.{arith}
 use lib.Dec.{lit≤}
 use Rattle.utils.specs.Figures.{between_units}
 use Rattle.utils.proofs.LoopsNear.{log-room, between-small}
-use borrow.Author.Rules.{rules}
 use Rattle.utils.proofs.tables.loop_units.Reads as reads
 use Rattle.utils.proofs.tables.loop_units.Lts as lts
 use Rattle.logarithm.proofs.ln_whole.Reads as ln-whole-reads

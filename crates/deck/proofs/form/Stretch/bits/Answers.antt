@@ -7,7 +7,6 @@ use Rattle.deck.specs.Forms.{form_of}
 use Rattle.deck.specs.declared.DeckForm.{DeckForm}
 use Rattle.deck.specs.declared.DeckForm.TheVariants.{Singles, Runs}
 use Rattle.deck.specs.declared.form.Stretch.{Stretch}
-use borrow.Author.Rules.{rules}
 use Rattle.deck.proofs.form.Stretch.bits.Goals as goal
 
 -- empties have the same word in both forms

@@ -1,5 +1,4 @@
 -- `deck::form::Stretch::of` meets its contract. Assumes nothing.
-use borrow.Author.Rules.{rules}
 use Rattle.deck.proofs.form.Stretch.of.Goals as goal
 
 pub returns-in-Singles : goal.returns-in-Singles

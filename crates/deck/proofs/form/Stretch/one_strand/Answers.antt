@@ -1,6 +1,5 @@
 -- `deck::form::Stretch::one_strand` meets its contract. Assumes nothing.
 use native.Mathlib.Omega.{arith}
-use borrow.Author.Rules.{rules}
 use borrow.Author.Tests.{le-leb, lt-leb}
 use Rattle.deck.proofs.form.Stretch.one_strand.Goals as goal
 

@@ -1,6 +1,5 @@
 -- `deck::form::Stretch::strand_run` meets its contract. Assumes nothing.
 use native.Mathlib.Omega.{arith}
-use borrow.Author.Rules.{rules}
 use borrow.Author.Tests.{eq-eqb, ne_eqb}
 use Prim.Native.Nat.{◌%◌}
 use Rattle.deck.proofs.form.Stretch.strand_run.Goals as goal
