@@ -1,6 +1,6 @@
 -- What the reply of a design's checks says of a call. Assumes nothing.
 use mathlib.Core.Path.{◌≡◌, sym, ap, ◌∙◌}
-use mathlib.Core.Bool.{Bool, true, false, not}
+use mathlib.Core.Bool.{Bool, false, not}
 use mathlib.Core.List.{List, [], ◌∷◌}
 use Prim.Native.Nat.{ℕ, ◌<◌, ◌≤◌, min}
 use native.Mathlib.Omega.{arith}
@@ -13,7 +13,6 @@ use Rattle.reply.specs.First.{first_of, ◌if◌}
 use Rattle.reply.specs.declared.Refusal.TheVariants.{TooManyStates, RankTooHigh}
 use Rattle.reply.specs.declared.Reply.{Reply}
 use Rattle.reply.proofs.First.{none-holds}
-use Rattle.reply.specs.declared.Reply.TheVariants as Reply
 use Rattle.ensemble.specs.Layout.{OptionRows}
 use Rattle.design.specs.Design.{Design, positions, friends_of, model_of}
 use Rattle.design.specs.Checks.{design_checks, own_energy_checks, energy_checks}

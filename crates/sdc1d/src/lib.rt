@@ -3,6 +3,7 @@
 // What the Rust reads off `self` is lent in seven parameters, in one order: the scaffold's glues, a mark for each position, which the Rust lacks,
 // three glues for each strand, the dG and the dS table, a potential for each strand, and the ambient.
 #![tactic(auto)]
+
 mod strangers;
 
 ghost use Rattle.std.specs.Prelude.{◌||◌, ◌≡◌, ◌*◌, ◌≤◌, min, length};

@@ -1,6 +1,5 @@
 -- `bond_between_strands` meets its contract. Assumes nothing.
-use borrow.Author.Rules.{rules}
-use mathlib.Core.Path.{◌≡◌, sym, ap, ◌∙◌}
+use mathlib.Core.Path.{ap, ◌∙◌}
 use Rattle.doubles.specs.Decimal.{zero}
 use Rattle.reply.specs.Figures.{given}
 use Rattle.reply.proofs.Figures.{answered-by, refused-by}

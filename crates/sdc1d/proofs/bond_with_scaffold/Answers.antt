@@ -1,6 +1,5 @@
 -- `bond_with_scaffold` meets its contract. Assumes nothing.
-use borrow.Author.Rules.{rules}
-use mathlib.Core.Path.{◌≡◌, sym, ap, ◌∙◌}
+use mathlib.Core.Path.{ap, ◌∙◌}
 use Prim.Native.Nat.{ℕ}
 use Rattle.doubles.specs.Decimal.{zero}
 use Rattle.reply.specs.Figures.{given}

@@ -1,6 +1,5 @@
 -- `energy_reply` meets its contract: the tables' reply, and else the stranger's, and else that of the numbers. Assumes nothing.
-use borrow.Author.Rules.{rules}
-use mathlib.Core.Path.{◌≡◌, sym, ap, ap₂, ◌∙◌}
+use mathlib.Core.Path.{sym, ap, ap₂, ◌∙◌}
 use mathlib.Core.Bool.{Bool, not}
 use mathlib.Core.List.{[], ◌∷◌}
 use lib.Dec.{eqb}

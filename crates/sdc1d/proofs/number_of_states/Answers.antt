@@ -1,12 +1,10 @@
 -- `number_of_states` meets its contract. Assumes nothing.
-use borrow.Author.Rules.{rules}
-use mathlib.Core.Path.{◌≡◌, sym, ap, ap₂, ◌∙◌}
+use mathlib.Core.Path.{sym, ap, ap₂, ◌∙◌}
 use mathlib.Core.Bool.{Bool, false}
 use mathlib.Core.List.{[], ◌∷◌}
 use Prim.Native.Nat.{ℕ, ◌-◌}
 use native.Mathlib.Omega.{arith}
-use lib.Dec.{ltb}
-use lib.ListN.{length, replicate, length-take}
+use lib.ListN.{replicate, length-take}
 use borrow.Author.Tests.{ltb-false}
 use Rattle.reply.specs.First.{first_of, ◌if◌, ◌or_else◌}
 use Rattle.reply.specs.Figures.{given}

@@ -1,13 +1,10 @@
 use mathlib.Core.Path.{◌≡◌, sym, ◌∙◌}
 use mathlib.Core.Bool.{Bool}
 use mathlib.Core.List.{List}
-use Prim.Native.Nat.{ℕ, ◌≤◌, ◌+◌, ◌-◌}
+use Prim.Native.Nat.{ℕ}
 use native.Mathlib.Omega.{arith}
-use lib.ListN.{length, drop}
+use lib.ListN.{length}
 use lib.Ieee.{Float}
-use borrow.Author.Rules.{rules}
-use Rattle.lists.specs.Build.{up_to}
-use Rattle.lists.specs.Find.{first_index}
 use Rattle.lists.proofs.Build.{first-here, first-later, first_past}
 use Rattle.design.specs.Checks.{no_friend, stranger}
 use Rattle.sdc1d.proofs.strangers.first_stranger.Goals as goal

@@ -1,5 +1,4 @@
 -- The test of an occupant meets its contract: its tests are those of the definition, in their order. Assumes nothing.
-use borrow.Author.Rules.{rules}
 use borrow.Author.Tests.{eq-eqb, ne_eqb, lt-ltb, le-ltb}
 use Rattle.sdc1d.proofs.strangers.is_stranger.Goals as goal
 
