@@ -9,7 +9,7 @@ use native.Mathlib.Decide.{dec_lt}
 use lib.Dec.{T, is_le, compare_is_eq, eqb, leb→le, nleb→lt, eqb→eq, eqb_refl}
 use lib.Arith.{lt_of_le-ne}
 use lib.Pow.{pow_pos, pow_mono}
-use lib.Ieee.{Float, Format, prec, low, down, size, nearest, round}
+use lib.Ieee.{Float, Format, prec, low, size, nearest, round}
 use lib.Ieee.Digits.{size-le}
 use lib.Ieee.Nearest.{closest}
 use lib.Ieee.Order.{drop}

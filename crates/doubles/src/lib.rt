@@ -1,5 +1,6 @@
 // Doubles: their bits, and the test of a range; specs/ has decimals as papers print them, and sums.
 #![tactic(auto)]
+
 ghost use Rattle.std.specs.Prelude.{◌≡◌};
 ghost use Rattle.std.specs.Float.Ieee as Ieee;
 ghost use Rattle.std.specs.Float.{binary64};

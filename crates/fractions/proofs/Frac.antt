@@ -1,9 +1,9 @@
 -- Laws of fractions. Assumes nothing.
 use mathlib.Core.Path.{◌≡◌, subst}
-use Prim.Native.Nat.{ℕ, ◌+◌, ◌*◌, ◌≤◌, ◌<◌}
-use native.Mathlib.Nat.{le_trans, le_of_eq, mul-le-mul, mul-le-mul_right, le_of_mul-le-mul_right, mul-pos, mul-one, mul_assoc, mul_comm, mul-mul-mul_comm}
+use Prim.Native.Nat.{ℕ, ◌+◌, ◌*◌, ◌<◌}
+use native.Mathlib.Nat.{le_trans, le_of_eq, mul-le-mul, mul-le-mul_right, le_of_mul-le-mul_right, mul-one, mul_assoc, mul_comm, mul-mul-mul_comm}
 use native.Mathlib.Omega.{arith}
-use Rattle.fractions.specs.Frac.{Frac, frac, none, one, plus, times, inverse, LeFrac}
+use Rattle.fractions.specs.Frac.{Frac, none, one, plus, times, inverse, LeFrac}
 
 -- ---- the order
 pub le-frac-refl : (x : Frac) → LeFrac x x

@@ -1,11 +1,9 @@
 -- One error rule for weights, their sums, products, quotients and roundings: sums keep the factors between which a fraction lies of its number, and the
 -- others multiply them. Assumes nothing.
-use mathlib.Core.Path.{◌≡◌}
-use Prim.Native.Nat.{ℕ, zero, suc, ◌+◌, ◌*◌, ◌≤◌, ◌<◌}
-use native.Mathlib.Nat.{mul-pos, zero-lt-suc}
-use native.Mathlib.Omega.{arith}
-use Rattle.fractions.specs.Frac.{Frac, frac, none, one, plus, times, inverse, LeFrac}
-use Rattle.fractions.specs.Number.{Number, Sound, exactly, sum_of, product_of, quotient_of, Within}
+use Prim.Native.Nat.{ℕ, ◌<◌}
+use native.Mathlib.Nat.{mul-pos}
+use Rattle.fractions.specs.Frac.{Frac, plus, times, inverse, LeFrac}
+use Rattle.fractions.specs.Number.{Number, Sound, sum_of, product_of, quotient_of, Within}
 use Rattle.fractions.proofs.Frac.{le-frac-refl, le-frac-trans, plus-mono, times-mono, times-assoc, times-swap, share, gather, inverse-le}
 
 -- ---- sums

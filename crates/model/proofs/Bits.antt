@@ -2,7 +2,7 @@
 use mathlib.Core.Path.{◌≡◌, refl}
 use mathlib.Core.Logic.{◌⊎◌, inr}
 use mathlib.Core.List.Memᴰ
-use mathlib.Core.List.{List, [], ◌∷◌}
+use mathlib.Core.List.{[], ◌∷◌}
 use Prim.Native.Nat.{ℕ, zero, suc, ◌<◌}
 use native.Mathlib.Omega.{arith}
 use lib.Ieee.{Float, binary64, add, sub, neg, mul, lt, to_bits}
@@ -12,7 +12,7 @@ use Rattle.doubles.specs.Decimal.{nearest}
 use Rattle.doubles.specs.Sum.{sum_from}
 use Rattle.doubles.specs.Least.{pick}
 use Rattle.model.specs.Model.{State, Friend, occupant}
-use Rattle.model.specs.States.{each_before, listing, states, choices, choice_at, state_at, count}
+use Rattle.model.specs.States.{each_before, listing, choices, choice_at, count}
 use Rattle.model.specs.Energy.{state_terms, state_energy, chain_terms, chain_energy, chain_product, walk}
 use Rattle.model.specs.Search.{least_left, left_choice, traced, search_over, search}
 use Rattle.model.specs.LowestConfiguration.{LowestConfiguration}

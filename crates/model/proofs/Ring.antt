@@ -2,26 +2,25 @@
 -- search over fewer options, whose last step, closing the ring, never turns the order of two sums round, so that `search-optimal` holds of it;
 -- and the least of all first occupants is at most what any state has with its own. Assumes nothing.
 use mathlib.Core.Path.{◌≡◌, refl, sym, ap, ap₂, ◌∙◌, subst}
-use mathlib.Core.Logic.{◌⊎◌, inl, inr}
+use mathlib.Core.Logic.{◌⊎◌}
 use mathlib.Core.Bool.{Bool, true, false, cond, ◌||◌}
 use mathlib.Core.List.{List, [], ◌∷◌, Memᴰ}
-use Prim.Native.Nat.{ℕ, zero, suc, ◌+◌, ◌-◌, ◌*◌, ◌^◌, ◌<◌, ◌≤◌, zero-le}
+use Prim.Native.Nat.{ℕ, zero, suc, ◌+◌, ◌-◌, ◌*◌, ◌<◌, ◌≤◌, zero-le}
 use native.Mathlib.Nat.{le_refl, le_trans}
 use native.Mathlib.Omega.{arith}
 use lib.Dec.{T, eqb, lit≤}
 use lib.ListN.{length}
-use lib.Ieee.{Float, binary64, add, le}
+use lib.Ieee.{Float, binary64, add}
 use Rattle.doubles.specs.Size.{Real, Within}
 use Rattle.doubles.specs.Order.{Le}
-use Rattle.doubles.specs.Least.{pick, or_earlier, first_least}
+use Rattle.doubles.specs.Least.{or_earlier}
 use Rattle.doubles.proofs.Order.{Le-refl, Le-trans, Le→le}
 use Rattle.doubles.proofs.Sums.{weaken, add-mono, add-within}
-use Rattle.doubles.proofs.Products.{mul_mono, mul-within}
+use Rattle.doubles.proofs.Products.{mul-within}
 use Rattle.doubles.proofs.Least.{Least, pick-least, earlier-better}
 use Rattle.model.specs.Model.{Model, State, Friend, occupant, positions}
-use Rattle.model.specs.Energy.{chain_energy}
 use Rattle.model.specs.Bounds.{Bounded}
-use Rattle.model.specs.Search.{SearchResult, search_over, options_at, left_choice, last_strand, traced}
+use Rattle.model.specs.Search.{SearchResult, search_over, options_at, left_choice, last_strand}
 use Rattle.model.specs.Ring.{closed, closed_times_rt, ring_energy, with_first, ring_from, ring_least, ring_first, ring_search, LowestRing}
 use Rattle.model.proofs.Optimal.{score, below, Optimal, search-optimal, score-sum}
 use Rattle.model.proofs.Search.{chain-score, rt, own, an-option, some-option, times-mono}

@@ -1,5 +1,5 @@
 -- Small rings on which two readings of document 02 part, and what its definitions give there; proofs/RingCases.antt works each of them out.
-use Rattle.std.specs.Prelude.{◌≡◌, cond, ◌||◌, List, [], ◌∷◌, ℕ, suc, eqb}
+use Rattle.std.specs.Prelude.{◌≡◌, cond, ◌||◌, List, [], ◌∷◌, suc, eqb}
 use Rattle.std.specs.Float.{binary64}
 use Rattle.std.specs.Float.Ieee.{to_bits}
 use Rattle.doubles.specs.Decimal.{Decimal, plus, minus, nearest, zero}

@@ -1,12 +1,11 @@
 -- What the product and the sum of two terms lose, cut to 31 digits: at most one part in 2^30 each. Assumes nothing.
-use mathlib.Core.Path.{◌≡◌, refl, sym, ap, ap₂, ◌∙◌, subst}
+use mathlib.Core.Path.{◌≡◌, refl, sym, ap, ◌∙◌, subst}
 use mathlib.Core.Bool.{Bool, true, false, cond, not}
-use Prim.Native.Nat.{ℕ, zero, suc, ◌+◌, ◌-◌, ◌*◌, ◌/◌, ◌%◌, ◌^◌, ◌≤◌, ◌<◌, zero-le}
-use native.Mathlib.Nat.{le_trans, le_of_eq, le_of_lt, le_refl, lt_of_not-le, mul-le-mul, mul-le-mul_right, mul-le-mul_left, mul-lt-mul_of_pos_right, mul-pos, mul_assoc, mul_comm, mul_left_comm, mul_right_comm, mul-mul-mul_comm, pow-suc, pow-zero, one-mul, mul-one, sub-add_cancel, add_comm, div-mul-le_self, lt-div-mul-add, div-lt_iff_lt-mul, le-div_iff_mul-le, div-eq_of_lt, lt_of_lt_of_le, add-zero}
+use Prim.Native.Nat.{ℕ, suc, ◌+◌, ◌-◌, ◌*◌, ◌/◌, ◌^◌, ◌≤◌, ◌<◌}
+use native.Mathlib.Nat.{le_trans, le_of_eq, le_of_lt, le_refl, mul-le-mul, mul-le-mul_right, mul-le-mul_left, mul_assoc, mul_comm, mul-mul-mul_comm, pow-suc, pow-zero, one-mul, sub-add_cancel, add_comm, div-mul-le_self, lt-div-mul-add, div-lt_iff_lt-mul, le-div_iff_mul-le, div-eq_of_lt, lt_of_lt_of_le, add-zero}
 use native.Mathlib.Numerals.{add-one}
 use native.Mathlib.Omega.{arith}
-use native.Mathlib.Decide.{dec_le}
-use lib.Dec.{T, ltb, leb, ltb→lt, nltb→le, lit≤, lit<}
+use lib.Dec.{T, ltb, ltb→lt, nltb→le, lit<}
 use lib.Pow.{pow_pos, pow-add, pow_mono}
 use borrow.Author.Tests.{lt-ltb}
 use Rattle.partition.specs.declared.Term.{Term}

@@ -1,7 +1,7 @@
 -- Sums over states in whole numbers: over the listing of the states, and the same position by position. Assumes nothing.
 use mathlib.Core.Path.{◌≡◌, refl, sym, ap, ap₂, ◌∙◌}
 use mathlib.Core.List.{List, [], ◌∷◌, ◌++◌, map}
-use Prim.Native.Nat.{ℕ, zero, suc, ◌+◌, ◌*◌}
+use Prim.Native.Nat.{ℕ, suc, ◌+◌, ◌*◌}
 use native.Mathlib.Nat.{mul-add, mul-zero, add-zero, add_assoc, zero-add}
 use Rattle.model.specs.States.{each_before, listing}
 

@@ -1,15 +1,13 @@
 -- Document 02's sums: the pass over the options that a constraint leaves gives zero exactly if no state meets it, and else lies within one part in 2^15
 -- of the exact sum. Assumes nothing.
-use mathlib.Core.Path.{◌≡◌, refl, sym, ap, ap₂, ◌∙◌, subst}
-use mathlib.Core.Logic.{◌⊎◌, inl, inr}
-use mathlib.Core.Bool.{Bool, true, false, true≢false, cond, not, ◌||◌}
-use mathlib.Core.List.{List, [], ◌∷◌, Memᴰ}
-use Prim.Native.Nat.{ℕ, zero, suc, ◌+◌, ◌-◌, ◌*◌, ◌^◌, ◌≤◌, ◌<◌, zero-le}
+use mathlib.Core.Path.{◌≡◌, refl, sym, ap, ◌∙◌, subst}
+use mathlib.Core.Bool.{Bool, true, false, true≢false, cond, ◌||◌}
+use mathlib.Core.List.{List, [], ◌∷◌}
+use Prim.Native.Nat.{ℕ, suc, ◌*◌, ◌^◌, ◌≤◌, ◌<◌, zero-le}
 use native.Mathlib.Nat.{le_trans, le_of_eq, not-suc-le-zero, suc-ne-zero, suc_inj}
 use native.Mathlib.Omega.{arith}
 use borrow.Author.Tests.{eq-eqb}
 use lib.Dec.{eqb, lit≤, lit<}
-use lib.IntN.{ℤ, pos, negsuc}
 use lib.ListN.{length}
 use Rattle.lists.specs.Build.{keep}
 use Rattle.lists.proofs.Keep.{of-keep}
@@ -19,11 +17,11 @@ use Rattle.fractions.specs.declared.Weight.{Weight}
 use Rattle.fractions.specs.Weight.{worth, InForm}
 use Rattle.model.specs.States.{listing}
 use Rattle.partition.specs.declared.Term.{Term}
-use Rattle.partition.specs.Terms.{size, Normal}
+use Rattle.partition.specs.Terms.{size}
 use Rattle.partition.specs.Constraint.{allows, meets}
-use Rattle.partition.specs.Pass.{passed_whole, allowed, none_left}
-use Rattle.partition.specs.Sum.{place_factor, pair_factor, sum_over, zero_weight, SumAnswered, SumWithin}
-use Rattle.partition.specs.Summed.{lifted, lifted_term, one_term, lowered, factors, place_term, pair_term, passed_sum, summed}
+use Rattle.partition.specs.Pass.{allowed, none_left}
+use Rattle.partition.specs.Sum.{place_factor, pair_factor, sum_over, zero_weight, SumWithin}
+use Rattle.partition.specs.Summed.{lifted_term, one_term, place_term, pair_term, passed_sum, summed}
 use Rattle.partition.specs.inner.Used.{Fit, Weighs, PlaceFit, PairFit, Used}
 use Rattle.partition.proofs.Constraint.{keep-listing, none_left_lem, some-state}
 use Rattle.partition.proofs.Passed.{Usable, Some, whole-holds}

@@ -1,10 +1,10 @@
 -- The figures of a model and lent weights are document 02's sums. Assumes nothing.
-use mathlib.Core.Path.{◌≡◌, refl, sym, ap, ap₂, ◌∙◌, subst}
+use mathlib.Core.Path.{◌≡◌, refl, sym, ap, ap₂, ◌∙◌}
 use mathlib.Core.Logic.{◌⊎◌, inl, inr}
-use mathlib.Core.Bool.{Bool, true, false, cond, not, ◌&&◌, ◌||◌}
+use mathlib.Core.Bool.{Bool, true, false, ◌&&◌}
 use mathlib.Core.List.Memᴰ
-use mathlib.Core.List.{List, [], ◌∷◌, ◌++◌, map, Memᴰ}
-use Prim.Native.Nat.{ℕ, zero, suc, ◌+◌, ◌*◌, ◌^◌, ◌≤◌, ◌<◌}
+use mathlib.Core.List.{List, [], ◌∷◌, map, Memᴰ}
+use Prim.Native.Nat.{ℕ, suc, ◌+◌, ◌*◌, ◌^◌, ◌≤◌, ◌<◌}
 use native.Mathlib.Nat.{suc-ne-zero, suc_inj, zero-lt-suc, add-zero, zero-add}
 use native.Mathlib.Numerals.{add-one}
 use native.Mathlib.Omega.{arith}
@@ -12,19 +12,17 @@ use borrow.Author.Tests.{leb-true, ltb-true, not-false}
 use lib.Dec.{leb, ltb, lit≤}
 use lib.IntN.{ℤ, pos, negsuc}
 use lib.ListN.{length, get_or, length-map, length-append}
-use Rattle.lists.specs.Build.{up_to, tabulate, keep}
+use Rattle.lists.specs.Build.{up_to, keep}
 use Rattle.lists.specs.Find.{any}
-use Rattle.lists.specs.Each.{Each}
 use Rattle.lists.proofs.Tests.{both, neither}
 use Rattle.lists.proofs.Any.{none_below}
-use Rattle.lists.proofs.Each.{none_each}
 use Rattle.fractions.specs.declared.Weight.{Weight}
-use Rattle.model.specs.Model.{Model, positions, friends_at, options, options_of}
+use Rattle.model.specs.Model.{positions, options, options_of}
 use Rattle.partition.specs.Constraint.{allows}
 use Rattle.partition.specs.Pass.{allowed}
 use Rattle.partition.specs.Weights.{Weights, place_weight, pair_weight, exponent_fits, unformed, place_out, pair_out, pairs_out, places_out_at, pairs_out_at, weights_out}
-use Rattle.partition.specs.Summed.{lifted, sum_of_weights, free_figure, constrained_figure}
-use Rattle.partition.specs.Laws.{Sums, SumsOfModels}
+use Rattle.partition.specs.Summed.{lifted, sum_of_weights}
+use Rattle.partition.specs.Laws.{SumsOfModels}
 use Rattle.partition.specs.inner.Used.{Reaches, Weighs, PlaceFit, PairFit, Used, InUse}
 use Rattle.partition.proofs.Summed.{Few, summed-right, constrained-right}
 

@@ -1,7 +1,7 @@
 -- From fractions to whole numbers of units: a weight is so many parts in u, a state's product so many in a power of u. Assumes nothing.
-use mathlib.Core.Path.{◌≡◌, refl, sym, ap, ap₂, ◌∙◌}
+use mathlib.Core.Path.{◌≡◌, refl, ap, ap₂, ◌∙◌}
 use mathlib.Core.List.{List, [], ◌∷◌, map, Memᴰ}
-use Prim.Native.Nat.{ℕ, zero, suc, ◌+◌, ◌*◌, ◌^◌, ◌<◌}
+use Prim.Native.Nat.{ℕ, suc, ◌+◌, ◌*◌, ◌^◌, ◌<◌}
 use native.Mathlib.Nat.{mul-pos, mul-mul-mul_comm, pow-suc, pow-zero, one-mul, zero-lt-suc}
 use native.Mathlib.Omega.{arith}
 use lib.ListN.{length}

@@ -1,19 +1,19 @@
 -- Factors as the code makes them, and what a product with one is. Assumes nothing.
 use mathlib.Core.Path.{◌≡◌, refl}
-use mathlib.Core.Bool.{Bool, true, false, cond, ◌||◌}
+use mathlib.Core.Bool.{Bool, true, false, ◌||◌}
 use mathlib.Core.List.{List}
-use Prim.Native.Nat.{ℕ, ◌*◌, ◌^◌, ◌≤◌, ◌<◌}
+use Prim.Native.Nat.{ℕ, ◌*◌, ◌^◌, ◌≤◌}
 use native.Mathlib.Omega.{arith}
 use borrow.Author.Tests.{eq-eqb, ne_eqb}
 use lib.Dec.{eqb, lit≤, lit<}
 use lib.IntN.{ℤ, pos, negsuc}
 use lib.ListN.{get_or}
-use Rattle.partition.specs.Terms.{term, times}
+use Rattle.partition.specs.Terms.{term}
 use Rattle.partition.specs.Weights.{signed, weight_at}
 use Rattle.partition.specs.Summed.{factor_term, lifted}
 use Rattle.partition.specs.inner.Used.{Reaches, Fit, Weighs}
 use Rattle.partition.proofs.Cuts.{times_cut}
-use Rattle.partition_sums.specs.inner.Rows.{Low, factor_of, row_term, joined, RowTerms, Joins}
+use Rattle.partition_sums.specs.inner.Rows.{Low, factor_of, row_term, joined, Joins}
 
 -- a weight in form has an exponent that can be moved up
 exponent-low : (z : ℤ) → Reaches 400000 z → lifted 400000 z ≤ 2 * 400000 → Low z

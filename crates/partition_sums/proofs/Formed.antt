@@ -1,13 +1,13 @@
 -- The form of a weight, test by test. Assumes nothing.
 use mathlib.Core.Path.{◌≡◌, refl, sym, ap, ◌∙◌}
 use mathlib.Core.Bool.{Bool, true, false, true≢false, not, ◌&&◌}
-use Prim.Native.Nat.{ℕ, suc, ◌^◌, ◌≤◌, ◌<◌}
+use Prim.Native.Nat.{ℕ, ◌^◌, ◌≤◌, ◌<◌}
 use borrow.Author.Tests.{le-leb, lt-leb, lt-ltb, le-ltb}
 use lib.Dec.{T, leb, ltb, ltb→lt, nltb→le}
 use lib.IntN.{ℤ, pos, negsuc}
 use lib.Signed.{le_z, lt_z}
 use Rattle.fractions.specs.declared.Weight.{Weight}
-use Rattle.partition.specs.Weights.{exponent_fits, unformed}
+use Rattle.partition.specs.Weights.{unformed}
 
 below_or_not : (a b : ℕ) → ltb a b ≡ not (leb b a)
 below_or_not a b = go (ltb a b) (ltb→lt a b) (nltb→le a b)

@@ -1,8 +1,7 @@
 -- Options that are lent of a model are the model's. Assumes nothing.
 use mathlib.Core.Path.{◌≡◌, refl, sym, ap, ◌∙◌}
 use mathlib.Core.List.{List, [], map}
-use Prim.Native.Nat.{ℕ, ◌*◌, ◌-◌, ◌<◌}
-use lib.ListN.{length, get_or, drop, take}
+use Prim.Native.Nat.{ℕ}
 use Rattle.lists.specs.Build.{tabulate}
 use Rattle.lists.proofs.Counted.{tabulate-same, map-tabulate}
 use Rattle.lists.proofs.Places.{tabulate-get_or}

@@ -1,31 +1,28 @@
 -- The rows of the pass, position by position: what is read for one is there, and what is written is the definition's. Assumes nothing.
 use mathlib.Core.Path.{◌≡◌, refl, sym, ap, ap₂, ◌∙◌, subst}
-use mathlib.Core.Bool.{Bool, true, false, cond, ◌||◌}
+use mathlib.Core.Bool.{Bool, false, cond, ◌||◌}
 use mathlib.Core.List.{List, [], ◌∷◌, Memᴰ}
 use Prim.Native.Nat.{ℕ, zero, suc, ◌+◌, ◌*◌, ◌-◌, ◌^◌, ◌≤◌, ◌<◌}
 use native.Mathlib.Nat.{le_trans, not-suc-le-zero, add-zero, zero-add, add_comm, add-sub_cancel_left, mul-le-mul}
 use native.Mathlib.Numerals.{add-one}
 use native.Mathlib.Omega.{arith}
-use borrow.Author.Tests.{eqb-false}
 use lib.Dec.{eqb, lit≤}
 use lib.IntN.{ℤ, pos}
-use lib.ListN.{length, get_or, take, drop, length-take, length-drop}
+use lib.ListN.{length, get_or, take, drop, length-drop}
 use lib.Seq.{get_or-take, get_or-drop, length-take-le, drop-drop}
 use Rattle.lists.specs.Build.{tabulate}
-use Rattle.lists.proofs.Tests.{neither}
 use Rattle.lists.proofs.Build.{length-tabulate, get_d_tabulate, drop-tabulate, tabulate-past}
 use Rattle.lists.proofs.Grid.{row-end}
 use Rattle.lists.proofs.Places.{mem-get_or}
-use Rattle.ensemble.specs.Layout.{Searchable, option_in}
+use Rattle.ensemble.specs.Layout.{Searchable}
 use Rattle.fractions.specs.Weight.{weight}
 use Rattle.partition.specs.declared.Term.{Term}
-use Rattle.partition.specs.Terms.{times}
 use Rattle.partition.specs.Pass.{sum_terms, passed, passed_whole, none_left}
 use Rattle.partition.specs.Weights.{Weights, signed, weight_at, place_weight, pair_weight}
 use Rattle.partition.specs.Sum.{zero_weight}
 use Rattle.partition.specs.Summed.{factor_term, place_term, pair_term, factors, lowered, passed_sum, summed, sum_of_weights}
-use Rattle.partition.specs.inner.Used.{Fit, Weighs, PlaceFit, PairFit, Used, InUse}
-use Rattle.partition.proofs.Passed.{Usable, Holds, passed-holds, whole-holds}
+use Rattle.partition.specs.inner.Used.{PlaceFit, PairFit, Used, InUse}
+use Rattle.partition.proofs.Passed.{Usable, passed-holds, whole-holds}
 use Rattle.partition.proofs.Summed.{Few, not-zero, or_left, or_right, usable}
 use Rattle.partition_sums.specs.Layout.{options_at, options_in, Celled}
 use Rattle.partition_sums.specs.inner.Rows.{row_of, factor_of, row_term, PlaceAt, RowTerms, Joins, step_of, StepAt, Written}

@@ -4,14 +4,14 @@ use mathlib.Core.Logic.{◌⊎◌, inl, inr, ◌≢◌}
 use mathlib.Core.Bool.{false}
 use mathlib.Core.List.Memᴰ
 use mathlib.Core.List.{List, [], ◌∷◌, Memᴰ}
-use Prim.Native.Nat.{ℕ, zero, suc, ◌+◌, ◌*◌, ◌^◌, ◌≤◌, ◌<◌}
+use Prim.Native.Nat.{ℕ, suc, ◌+◌, ◌*◌, ◌^◌, ◌≤◌, ◌<◌}
 use native.Mathlib.Nat.{zero-lt-suc, not-suc-le-zero, lt_of_not-le}
 use native.Mathlib.Numerals.{add-one}
 use native.Mathlib.Omega.{arith}
 use native.Mathlib.Decide.{dec_le, ℕ_discrete}
 use lib.Dec.{eqb}
 use lib.IntN.{ℤ}
-use lib.ListN.{length, get_or, set, length-set, take, drop, drop_of_length-le}
+use lib.ListN.{length, get_or, set, length-set, drop, drop_of_length-le}
 use lib.Seq.{drop-cons, get_or-set_same, get_or-set_other, get_or-take, get_or-drop}
 use Rattle.partition.specs.declared.Term.{Term}
 use Rattle.partition.specs.Terms.{size, times, plus}

@@ -1,6 +1,7 @@
 // The code of the sums over a model's states: it reads options and weights that are lent, and knows no glues. What it gives is defined, and shown to be
 // document 02's, in `partition`.
 #![tactic(auto)]
+
 mod allowed;
 mod factors;
 pub mod forms;

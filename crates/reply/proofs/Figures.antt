@@ -3,7 +3,7 @@ use mathlib.Core.Path.{◌≡◌, refl, ap}
 use Prim.Native.Nat.{ℕ}
 use native.Mathlib.Omega.{arith}
 use Rattle.reply.specs.Number.{answered}
-use Rattle.reply.specs.Figures.{Figures, given, refused_with, figures_of, entries_of}
+use Rattle.reply.specs.Figures.{given, refused_with, figures_of, entries_of}
 use Rattle.reply.specs.declared.Refusal.{Refusal}
 use Rattle.reply.specs.declared.Place.{Place}
 use Rattle.reply.specs.declared.Reply.{Reply}

@@ -8,7 +8,7 @@ use Rattle.reply.specs.First.{Check, first_of, refused_if, ◌or_else◌}
 use Rattle.reply.specs.declared.Refusal.{Refusal}
 use Rattle.reply.specs.declared.Place.{Place}
 use Rattle.reply.specs.declared.Reply.{Reply}
-use Rattle.reply.specs.declared.Reply.TheVariants.{Admitted, Refused}
+use Rattle.reply.specs.declared.Reply.TheVariants.{Admitted}
 
 passes-step : (holds : Bool) (refusal : Refusal) (place : Place) (rest : Reply) → refused_if holds refusal place rest ≡ Admitted → (holds ≡ false) × (rest ≡ Admitted)
 passes-step true refusal place rest e = absurd (let z : ◌≡◌ {A = ℕ} 0 1 = cc in omega arith)

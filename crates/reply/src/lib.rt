@@ -1,5 +1,6 @@
 // Refusals: why a call is not answered, under the numbers of documents 01 and 02, which stand nowhere else.
 #![tactic(auto)]
+
 pub mod limits;
 
 ghost use Rattle.std.specs.Prelude.{◌≡◌, [], ◌∷◌};

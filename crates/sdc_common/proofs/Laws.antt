@@ -1,6 +1,6 @@
 -- Names, bases and numbers are to one another as specs/Laws.antt says. Assumes nothing.
 use mathlib.Core.Path.{◌≡◌, refl, ap, sym, ◌∙◌}
-use mathlib.Core.Bool.{Bool, true, false, cond, not, ◌&&◌, ◌||◌}
+use mathlib.Core.Bool.{Bool, true, false, cond, ◌&&◌, ◌||◌}
 use mathlib.Core.List.{List, [], ◌∷◌, ◌++◌}
 use mathlib.Core.Option.{none, some}
 use Prim.Native.Nat.{ℕ, zero, suc, ◌+◌, ◌%◌, ◌<◌}
@@ -10,7 +10,7 @@ use lib.Dec.{eqb, ltb}
 use lib.ListN.{length, get_or, length-append, get_or-append}
 use lib.Seq.{get_or-append_seam}
 use borrow.Author.Tests.{ne_eqb, le-ltb, ltb-true, ltb-false}
-use Rattle.lists.specs.Find.{any, first_index}
+use Rattle.lists.specs.Find.{first_index}
 use Rattle.lists.specs.Fold.{foldl}
 use Rattle.lists.specs.Each.{Each}
 use Rattle.lists.specs.Order.{Distinct}

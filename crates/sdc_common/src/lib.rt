@@ -1,5 +1,6 @@
 // Names of glues, as sdc_common.rs reads them, and their numbers.
 #![tactic(auto)]
+
 pub mod names;
 pub mod retired;
 pub mod table;

@@ -6,7 +6,6 @@ use Prim.Native.Nat.{ℕ, zero, suc, ◌≤◌, ◌<◌}
 use native.Mathlib.Decide.{dec_le}
 use native.Mathlib.Nat.{lt_of_not-le, not-suc-le-zero}
 use native.Mathlib.Omega.{arith}
-use lib.Dec.{eqb}
 use lib.ListN.{length, get_or}
 use borrow.Author.Tests.{eq-eqb, ne_eqb, eqb-false}
 use Rattle.lists.specs.Build.{tabulate}
@@ -19,14 +18,13 @@ use Rattle.reply.specs.declared.Refusal.TheVariants.{BareScaffold, WeightOut}
 use Rattle.reply.specs.declared.Place.{Place}
 use Rattle.reply.specs.declared.Place.TheVariants.{Nowhere}
 use Rattle.reply.specs.declared.Reply.{Reply}
-use Rattle.reply.specs.declared.Reply.TheVariants as Reply
 use Rattle.reply.proofs.First.{none-holds, reply-append}
 use Rattle.reply.proofs.Figures.{refused-by, number-admitted}
 use Rattle.fractions.specs.declared.Weight.{Weight}
 use Rattle.model.specs.Model as Model
 use Rattle.ensemble.specs.Layout.{OptionRows}
-use Rattle.design.specs.Design.{Design, positions, strands, blocked_at, scaffold_glue, friends_to, friends_in, friends_of, model_of}
-use Rattle.design.specs.Checks.{Admitted, TablesPass, sizes_out, design_checks}
+use Rattle.design.specs.Design.{Design, positions, strands, blocked_at, scaffold_glue, friends_to, friends_of, model_of}
+use Rattle.design.specs.Checks.{TablesPass, sizes_out, design_checks}
 use Rattle.design.proofs.Sizes.{sized}
 use Rattle.design.proofs.Cells.{null-nowhere}
 use Rattle.design.proofs.Optioned.{friends-few}

@@ -2,6 +2,7 @@
 // allowed occupants leave. A weight is a whole number of 31 digits times a power of two, one for each position and strand, and one for each left
 // and right strand.
 #![tactic(auto)]
+
 mod sizes;
 
 ghost use Rattle.std.specs.Prelude.{◌≡◌, ◌*◌, ◌<◌, ◌≤◌, length};

@@ -1,5 +1,6 @@
 // The units of units.rs as one-field structs, with the sums and products that it allows among them, and the ambient of a design.
 #![tactic(auto)]
+
 ghost use Rattle.std.specs.Prelude.{◌≡◌};
 ghost use Rattle.std.specs.Float.Ieee as Ieee;
 ghost use Rattle.std.specs.Float.{binary64};

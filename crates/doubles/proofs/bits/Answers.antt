@@ -4,7 +4,6 @@ use mathlib.Core.Bool.{true, false, not}
 use lib.Dec.{T}
 use lib.Ieee.{Float, nan, inf, fin, eq, ne, is_nan, to_bits, binary64}
 use lib.Ieee.Compare.{differs_from_itself}
-use borrow.Author.Rules.{rules}
 use Rattle.doubles.proofs.bits.Goals as goal
 
 equal-not-nan : (x : Float) → eq x x ≡ true → T (not (is_nan x))

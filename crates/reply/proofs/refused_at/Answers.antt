@@ -1,5 +1,4 @@
 -- Assumes nothing.
-use borrow.Author.Rules.{rules}
 use Rattle.reply.proofs.refused_at.Goals as goal
 
 pub returns-then-holds : goal.returns-then-holds

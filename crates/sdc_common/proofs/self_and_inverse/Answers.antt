@@ -1,5 +1,4 @@
 -- `sdc_common::self_and_inverse` meets its contract: the part of the text is the name as spelled. Assumes nothing.
-use borrow.Author.Rules.{rules}
 use mathlib.Core.Path.{◌≡◌, sym, ◌∙◌}
 use mathlib.Core.Bool.{true}
 use native.Mathlib.Omega.{arith}

@@ -1,5 +1,4 @@
 -- `sdc_common::unfit_strands` meets its contract. Assumes nothing.
-use borrow.Author.Rules.{rules}
 use borrow.Author.Tests.{lt-ltb, le-ltb}
 use Rattle.sdc_common.proofs.unfit_strands.Goals as goal
 

@@ -1,9 +1,8 @@
 -- The constrained sum meets its contract: its reply is that of the first check that holds, and its figure document 02's sum. Assumes nothing.
-use mathlib.Core.Path.{◌≡◌, sym, ap₂, ◌∙◌}
-use mathlib.Core.Bool.{Bool, false, ◌||◌}
+use mathlib.Core.Path.{◌≡◌, ap₂, ◌∙◌}
+use mathlib.Core.Bool.{false, ◌||◌}
 use Prim.Native.Nat.{ℕ, ◌-◌}
 use native.Mathlib.Omega.{arith}
-use borrow.Author.Rules.{rules}
 use lib.ListN.{length, replicate, length-take}
 use Rattle.lists.proofs.Tests.{neither}
 use Rattle.design.specs.Design.{Design, lent, positions, model_of}

@@ -3,7 +3,6 @@
 use mathlib.Core.Path.{◌≡◌, sym, ◌∙◌}
 use mathlib.Core.Bool.{true, false}
 use lib.Ieee.{div, of_bits}
-use borrow.Author.Rules.{rules}
 use borrow.Author.Tests.{not-true, not-false}
 use Rattle.doubles.specs.Decimal.{plus, nearest}
 use Rattle.doubles.specs.Range.{in_range}
@@ -20,7 +19,6 @@ returns-then-not-in_range c =
 pub returns : goal.returns
 unfolding ambient_at in_range nearest of_bits div gas_constant excess_over37_c
 returns c =
-    
     let kelvin = c.args.temperature.0 in
     let good : in_range (plus 200 0) (plus 500 0) kelvin ≡ true = sym c.in_range.ensures ∙ not-false _ c.if-not-in_range.false-raw in
     simp good (cc)

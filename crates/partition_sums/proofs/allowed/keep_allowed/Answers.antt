@@ -1,13 +1,12 @@
-use mathlib.Core.Path.{◌≡◌, refl, sym, ap, ◌∙◌}
-use Prim.Native.Nat.{ℕ, ◌+◌, ◌*◌, ◌-◌, ◌<◌, ◌≤◌, zero-le}
+use mathlib.Core.Path.{◌≡◌, refl, ap, ◌∙◌}
+use Prim.Native.Nat.{ℕ, ◌+◌, ◌*◌, ◌-◌, ◌≤◌, zero-le}
 use native.Mathlib.Nat.{not-suc-le-zero}
 use native.Mathlib.Omega.{arith}
-use borrow.Author.Rules.{rules}
-use lib.ListN.{length, get_or, length-set}
+use lib.ListN.{length, length-set}
 use Rattle.partition.specs.Constraint.{list_at}
 use Rattle.partition_sums.specs.Layout.{options_at}
 use Rattle.partition_sums.proofs.Positions.{part-is}
-use Rattle.partition_sums.proofs.Keeping.{KeptAt, part_length, kept_more, options-few, list-part}
+use Rattle.partition_sums.proofs.Keeping.{part_length, kept_more, options-few, list-part}
 use Rattle.partition_sums.proofs.allowed.keep_allowed.Goals as goal
 
 pub loop-position-init : goal.loop-position-init

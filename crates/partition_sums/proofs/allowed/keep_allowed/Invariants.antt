@@ -1,14 +1,10 @@
 -- The filling of all rows of the options left meets its contract. The invariant: the rows before `position` are filled. Assumes nothing.
-use mathlib.Core.Path.{◌≡◌, refl, sym, ap, ◌∙◌}
-use Prim.Native.Nat.{ℕ, ◌+◌, ◌*◌, ◌-◌, ◌<◌, ◌≤◌, zero-le}
-use native.Mathlib.Nat.{not-suc-le-zero}
-use native.Mathlib.Omega.{arith}
-use borrow.Author.Rules.{rules}
-use lib.ListN.{length, get_or, length-set}
+use mathlib.Core.Path.{◌≡◌}
+use Prim.Native.Nat.{ℕ, ◌-◌, ◌<◌, ◌≤◌}
+use lib.ListN.{length}
 use Rattle.partition.specs.Constraint.{list_at}
 use Rattle.partition_sums.specs.Layout.{options_at}
-use Rattle.partition_sums.proofs.Positions.{part-is}
-use Rattle.partition_sums.proofs.Keeping.{KeptAt, part_length, kept_more, options-few, list-part}
+use Rattle.partition_sums.proofs.Keeping.{KeptAt}
 use Rattle.partition_sums.proofs.allowed.keep_allowed.Given as goal
 
 abbrev pub invariant-loop-position : goal.invariant-loop-position

@@ -1,13 +1,9 @@
 -- The question whether a count is 0 meets its contract. Assumes nothing.
-use mathlib.Core.Path.{◌≡◌, refl, sym, ◌∙◌}
-use Prim.Native.Nat.{◌-◌, ◌≤◌, zero-le}
-use native.Mathlib.Omega.{arith}
-use borrow.Author.Rules.{rules}
-use borrow.Author.Tests.{eq-eqb, ne_eqb}
+use mathlib.Core.Path.{◌≡◌}
+use Prim.Native.Nat.{◌-◌, ◌≤◌}
 use lib.Dec.{eqb}
 use lib.ListN.{length, drop}
 use Rattle.lists.specs.Find.{any}
-use Rattle.partition_sums.proofs.Keeping.{any_here, any-later, any-past}
 use Rattle.partition_sums.proofs.allowed.none_left.Given as goal
 
 abbrev pub invariant-loop-position : goal.invariant-loop-position

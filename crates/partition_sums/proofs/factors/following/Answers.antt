@@ -1,10 +1,7 @@
-use mathlib.Core.Path.{◌≡◌, refl, sym, ◌∙◌}
-use Prim.Native.Nat.{ℕ, ◌+◌, ◌-◌, ◌*◌, ◌^◌, ◌<◌, ◌≤◌}
+use mathlib.Core.Path.{sym, ◌∙◌}
+use Prim.Native.Nat.{◌+◌, ◌^◌, ◌≤◌}
 use native.Mathlib.Omega.{arith}
-use borrow.Author.Rules.{rules}
-use lib.ListN.{length, get_or, drop}
-use Rattle.partition.specs.Pass.{sum_terms, sum_from}
-use Rattle.partition.specs.inner.Used.{Fit}
+use lib.ListN.{get_or}
 use Rattle.partition.proofs.Cuts.{plus-cut}
 use Rattle.partition_sums.specs.inner.Rows.{joined}
 use Rattle.partition_sums.proofs.Factored.{joined-fit}

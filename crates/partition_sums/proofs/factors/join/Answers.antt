@@ -1,7 +1,6 @@
 -- A pair's factor times what follows meets its contract. Assumes nothing.
 use mathlib.Core.Path.{refl}
 use native.Mathlib.Omega.{arith}
-use borrow.Author.Rules.{rules}
 use Rattle.partition_sums.specs.inner.Rows.{joined}
 use Rattle.partition_sums.proofs.Factored.{factor-fit}
 use Rattle.partition_sums.proofs.factors.join.Goals as goal

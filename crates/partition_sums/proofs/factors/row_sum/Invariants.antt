@@ -1,14 +1,10 @@
 -- The sum over a row meets its contract. The invariant: the whole sum is that from the sum so far over the options left. Assumes nothing.
-use mathlib.Core.Path.{◌≡◌, sym, ◌∙◌}
-use Prim.Native.Nat.{ℕ, ◌+◌, ◌-◌, ◌^◌, ◌≤◌}
-use native.Mathlib.Omega.{arith}
-use borrow.Author.Rules.{rules}
-use lib.ListN.{length, get_or, drop}
+use mathlib.Core.Path.{◌≡◌}
+use Prim.Native.Nat.{◌+◌, ◌-◌, ◌^◌, ◌≤◌}
+use lib.ListN.{length, drop}
 use Rattle.partition.specs.Pass.{sum_terms, sum_from}
 use Rattle.partition.specs.inner.Used.{Fit}
-use Rattle.partition.proofs.Cuts.{plus-cut}
 use Rattle.partition_sums.specs.inner.Rows.{row_term}
-use Rattle.partition_sums.proofs.Rowed.{sum_first, sum_more, sum_done}
 use Rattle.partition_sums.proofs.factors.row_sum.Given as goal
 
 abbrev pub invariant-loop-k : goal.invariant-loop-k

@@ -1,6 +1,5 @@
 -- The reading of a row's term meets its contract. Assumes nothing.
 use mathlib.Core.Path.{refl}
-use borrow.Author.Rules.{rules}
 use Rattle.partition_sums.proofs.factors.term_at.Goals as goal
 
 pub returns : goal.returns

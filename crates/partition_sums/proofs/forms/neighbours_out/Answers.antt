@@ -1,14 +1,11 @@
 use mathlib.Core.Path.{◌≡◌, refl, sym, ap, ◌∙◌}
-use mathlib.Core.List.{List}
-use Prim.Native.Nat.{ℕ, ◌+◌, ◌*◌, ◌-◌, ◌<◌, ◌≤◌, zero-le}
+use Prim.Native.Nat.{ℕ, ◌+◌, ◌*◌, ◌-◌, ◌<◌}
 use native.Mathlib.Omega.{arith}
-use borrow.Author.Rules.{rules}
-use lib.IntN.{ℤ}
 use lib.ListN.{length, get_or, take, drop}
 use Rattle.lists.specs.Build.{up_to}
 use Rattle.lists.specs.Find.{any}
 use Rattle.lists.proofs.Build.{any_here, any-later}
-use Rattle.partition.specs.Weights.{Weights, pairs_out_at}
+use Rattle.partition.specs.Weights.{pairs_out_at}
 use Rattle.partition_sums.specs.Layout.{friends_at, friends_in}
 use Rattle.partition_sums.proofs.Positions.{inside}
 use Rattle.partition_sums.proofs.Outs.{friends-part, friends-below, pairs-at, pairs_end}

@@ -1,18 +1,13 @@
 -- The search of the pairs of neighbours for a weight outside its form meets its contract. Assumes nothing.
-use mathlib.Core.Path.{◌≡◌, refl, sym, ap, ◌∙◌}
+use mathlib.Core.Path.{◌≡◌}
 use mathlib.Core.List.{List}
-use Prim.Native.Nat.{ℕ, ◌+◌, ◌*◌, ◌-◌, ◌<◌, ◌≤◌, zero-le}
-use native.Mathlib.Omega.{arith}
-use borrow.Author.Rules.{rules}
+use Prim.Native.Nat.{ℕ, ◌-◌, ◌≤◌}
 use lib.IntN.{ℤ}
-use lib.ListN.{length, get_or, take, drop}
+use lib.ListN.{length, drop}
 use Rattle.lists.specs.Build.{up_to}
 use Rattle.lists.specs.Find.{any}
-use Rattle.lists.proofs.Build.{any_here, any-later}
 use Rattle.partition.specs.Weights.{Weights, pairs_out_at}
-use Rattle.partition_sums.specs.Layout.{friends_at, friends_in}
-use Rattle.partition_sums.proofs.Positions.{inside}
-use Rattle.partition_sums.proofs.Outs.{friends-part, friends-below, pairs-at, pairs_end}
+use Rattle.partition_sums.specs.Layout.{friends_in}
 use Rattle.partition_sums.proofs.forms.neighbours_out.Given as goal
 
 abbrev pub lent : List ℕ → List ℤ → List ℕ → List ℤ → ℕ → Weights

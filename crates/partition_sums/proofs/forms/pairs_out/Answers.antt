@@ -1,10 +1,7 @@
-use mathlib.Core.Path.{◌≡◌, refl, sym, ap, ◌∙◌}
-use Prim.Native.Nat.{ℕ, ◌+◌, ◌*◌, ◌-◌, ◌<◌, ◌≤◌, zero-le}
+use mathlib.Core.Path.{refl, sym, ap, ◌∙◌}
+use Prim.Native.Nat.{ℕ, ◌+◌, ◌*◌, ◌<◌, ◌≤◌, zero-le}
 use native.Mathlib.Nat.{mul-le-mul, le_trans}
 use native.Mathlib.Omega.{arith}
-use borrow.Author.Rules.{rules}
-use lib.ListN.{length, get_or, drop}
-use Rattle.lists.specs.Find.{any}
 use Rattle.lists.proofs.Grid.{row-end}
 use Rattle.partition_sums.specs.inner.Kept.{pairs_out_in}
 use Rattle.partition_sums.proofs.Positions.{cells_are, row-length}

@@ -1,15 +1,9 @@
 -- The search of the pairs of several left strands for a weight outside its form meets its contract. Assumes nothing.
-use mathlib.Core.Path.{◌≡◌, refl, sym, ap, ◌∙◌}
-use Prim.Native.Nat.{ℕ, ◌+◌, ◌*◌, ◌-◌, ◌<◌, ◌≤◌, zero-le}
-use native.Mathlib.Nat.{mul-le-mul, le_trans}
-use native.Mathlib.Omega.{arith}
-use borrow.Author.Rules.{rules}
-use lib.ListN.{length, get_or, drop}
+use mathlib.Core.Path.{◌≡◌}
+use Prim.Native.Nat.{◌-◌, ◌≤◌}
+use lib.ListN.{length, drop}
 use Rattle.lists.specs.Find.{any}
-use Rattle.lists.proofs.Grid.{row-end}
 use Rattle.partition_sums.specs.inner.Kept.{pairs_out_in}
-use Rattle.partition_sums.proofs.Positions.{cells_are, row-length}
-use Rattle.partition_sums.proofs.Keeping.{any_here, any-later, any-past}
 use Rattle.partition_sums.proofs.forms.pairs_out.Given as goal
 
 abbrev pub invariant-loop-k : goal.invariant-loop-k

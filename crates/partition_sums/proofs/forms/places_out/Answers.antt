@@ -1,14 +1,9 @@
-use mathlib.Core.Path.{◌≡◌, refl, sym, ap, ◌∙◌}
-use mathlib.Core.List.{List}
-use Prim.Native.Nat.{ℕ, ◌+◌, ◌*◌, ◌-◌, ◌<◌, ◌≤◌, zero-le}
+use mathlib.Core.Path.{refl, sym, ap, ◌∙◌}
+use Prim.Native.Nat.{ℕ, ◌+◌, ◌*◌, ◌-◌, zero-le}
 use native.Mathlib.Omega.{arith}
-use borrow.Author.Rules.{rules}
-use lib.IntN.{ℤ}
-use lib.ListN.{length, get_or, drop}
-use Rattle.lists.specs.Build.{up_to}
-use Rattle.lists.specs.Find.{any}
+use lib.ListN.{length}
 use Rattle.lists.proofs.Build.{any_here, any-later, any-past}
-use Rattle.partition.specs.Weights.{Weights, places_out_at, pairs_out_at}
+use Rattle.partition.specs.Weights.{places_out_at}
 use Rattle.partition_sums.specs.Layout.{friends_in}
 use Rattle.partition_sums.proofs.Positions.{cells_are, row-length, inside}
 use Rattle.partition_sums.proofs.Outs.{friends-part, friends-below, places-at}

@@ -1,9 +1,6 @@
-use mathlib.Core.Path.{◌≡◌, refl, sym, ap, ◌∙◌}
-use Prim.Native.Nat.{◌-◌, ◌≤◌, zero-le}
+use mathlib.Core.Path.{refl, sym, ap, ◌∙◌}
+use Prim.Native.Nat.{zero-le}
 use native.Mathlib.Omega.{arith}
-use borrow.Author.Rules.{rules}
-use lib.ListN.{length, drop}
-use Rattle.lists.specs.Find.{any}
 use Rattle.partition_sums.specs.inner.Kept.{out_in}
 use Rattle.partition_sums.proofs.Keeping.{any_here, any-later, any-past}
 use Rattle.partition_sums.proofs.forms.row_out.Goals as goal

@@ -1,12 +1,9 @@
 -- The search of a row for a weight outside its form meets its contract. Assumes nothing.
-use mathlib.Core.Path.{◌≡◌, refl, sym, ap, ◌∙◌}
-use Prim.Native.Nat.{◌-◌, ◌≤◌, zero-le}
-use native.Mathlib.Omega.{arith}
-use borrow.Author.Rules.{rules}
+use mathlib.Core.Path.{◌≡◌}
+use Prim.Native.Nat.{◌-◌, ◌≤◌}
 use lib.ListN.{length, drop}
 use Rattle.lists.specs.Find.{any}
 use Rattle.partition_sums.specs.inner.Kept.{out_in}
-use Rattle.partition_sums.proofs.Keeping.{any_here, any-later, any-past}
 use Rattle.partition_sums.proofs.forms.row_out.Given as goal
 
 abbrev pub invariant-loop-k : goal.invariant-loop-k

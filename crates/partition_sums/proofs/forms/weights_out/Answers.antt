@@ -1,9 +1,8 @@
 -- The search for a weight outside its form meets its contract. Assumes nothing.
-use mathlib.Core.Path.{◌≡◌, sym, ◌∙◌}
+use mathlib.Core.Path.{sym, ◌∙◌}
 use mathlib.Core.List.{List}
 use Prim.Native.Nat.{ℕ}
 use lib.IntN.{ℤ}
-use borrow.Author.Rules.{rules}
 use Rattle.partition.specs.Weights.{Weights}
 use Rattle.partition_sums.proofs.Outs.{place-decides, pairs_decide}
 use Rattle.partition_sums.proofs.forms.weights_out.Goals as goal

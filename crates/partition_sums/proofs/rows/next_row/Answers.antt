@@ -1,9 +1,8 @@
-use mathlib.Core.Path.{◌≡◌, refl, sym, ap, ◌∙◌, subst}
+use mathlib.Core.Path.{◌≡◌, refl, sym, ◌∙◌, subst}
 use mathlib.Core.Bool.{false}
 use lib.Dec.{eqb}
-use Prim.Native.Nat.{ℕ, ◌+◌, ◌-◌, ◌*◌, ◌^◌, ◌<◌, ◌≤◌, zero-le}
+use Prim.Native.Nat.{ℕ, zero-le}
 use native.Mathlib.Omega.{arith}
-use borrow.Author.Rules.{rules}
 use lib.ListN.{length, get_or}
 use Rattle.partition_sums.specs.inner.Rows.{row_of, joined, step_of, Written}
 use Rattle.partition_sums.proofs.Factored.{factor-fit, joined-fit}
@@ -27,9 +26,9 @@ after-sum-requires c =
 
 pub factor_term-place-requires : goal.factor_term-place-requires
 factor_term-place-requires c = let s = (c.requires.by_index c.loop-k.k c.loop-k-test.true) in record {
-      strand_in_bounds = (s.place.digit-cells, s.place.power-cells, s.place.few);
-      weighs = s.place.form;
-    }
+  strand_in_bounds = (s.place.digit-cells, s.place.power-cells, s.place.few);
+  weighs = s.place.form;
+}
 
 pub term_times-t-requires : goal.term_times-t-requires
 term_times-t-requires c =

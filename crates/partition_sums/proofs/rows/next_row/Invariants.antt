@@ -1,13 +1,6 @@
-use mathlib.Core.Path.{◌≡◌, refl, sym, ap, ◌∙◌, subst}
-use mathlib.Core.Bool.{false}
-use lib.Dec.{eqb}
-use Prim.Native.Nat.{ℕ, ◌+◌, ◌-◌, ◌*◌, ◌^◌, ◌<◌, ◌≤◌, zero-le}
-use native.Mathlib.Omega.{arith}
-use borrow.Author.Rules.{rules}
-use lib.ListN.{length, get_or}
-use Rattle.partition_sums.specs.inner.Rows.{row_of, joined, step_of, Written}
-use Rattle.partition_sums.proofs.Factored.{factor-fit, joined-fit}
-use Rattle.partition_sums.proofs.Rowed.{written_none, written-more, sum-fit}
+use Prim.Native.Nat.{◌-◌, ◌≤◌}
+use lib.ListN.{length}
+use Rattle.partition_sums.specs.inner.Rows.{step_of, Written}
 use Rattle.partition_sums.proofs.rows.next_row.Given as goal
 
 abbrev pub invariant-loop-k : goal.invariant-loop-k

@@ -1,9 +1,8 @@
-use mathlib.Core.Path.{◌≡◌, refl, sym, ap, ◌∙◌, subst}
+use mathlib.Core.Path.{◌≡◌, refl, ap, ◌∙◌, subst}
 use mathlib.Core.List.{List}
-use Prim.Native.Nat.{ℕ, ◌+◌, ◌-◌, ◌*◌, ◌<◌, ◌≤◌}
+use Prim.Native.Nat.{ℕ, ◌+◌, ◌-◌, ◌*◌, ◌<◌}
 use native.Mathlib.Omega.{arith}
 use borrow.Author.Rules.{rules}
-use lib.IntN.{ℤ}
 use lib.ListN.{length, get_or, take, drop}
 use Rattle.lists.proofs.Places.{mem-get_or}
 use Rattle.ensemble.specs.Layout.{Searchable}
@@ -12,8 +11,8 @@ use Rattle.partition.specs.Weights.{Weights}
 use Rattle.partition.specs.Summed.{factors, lowered}
 use Rattle.partition.specs.inner.Used.{InUse}
 use Rattle.partition_sums.specs.Layout.{options_at, options_in, Celled}
-use Rattle.partition_sums.specs.inner.Rows.{row_of, row_term}
-use Rattle.partition_sums.proofs.Positions.{Row, sum_of_row, some_at, few-at, row-terms, place_at, step-at, row_last, row_next, row-whole, sum-bounded, sum-lowered, part-is, cells_are, Inside, inside}
+use Rattle.partition_sums.specs.inner.Rows.{row_term}
+use Rattle.partition_sums.proofs.Positions.{Row, sum_of_row, some_at, few-at, row-terms, place_at, step-at, row_last, row_next, row-whole, sum-bounded, sum-lowered, part-is, cells_are, inside}
 use Rattle.partition_sums.proofs.sums.free_sum.Invariants.{lent}
 use Rattle.partition_sums.proofs.sums.free_sum.Goals as goal
 

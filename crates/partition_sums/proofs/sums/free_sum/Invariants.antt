@@ -1,20 +1,11 @@
 -- The pass meets its contract. The invariant: the row is that of the position reached, and holds the definition's terms. Assumes nothing.
-use mathlib.Core.Path.{◌≡◌, refl, sym, ap, ◌∙◌, subst}
+use mathlib.Core.Path.{◌≡◌}
 use mathlib.Core.List.{List}
-use Prim.Native.Nat.{ℕ, ◌+◌, ◌-◌, ◌*◌, ◌<◌, ◌≤◌}
-use native.Mathlib.Omega.{arith}
-use borrow.Author.Rules.{rules}
+use Prim.Native.Nat.{ℕ, ◌+◌, ◌*◌, ◌<◌}
 use lib.IntN.{ℤ}
-use lib.ListN.{length, get_or, take, drop}
-use Rattle.lists.proofs.Places.{mem-get_or}
-use Rattle.ensemble.specs.Layout.{Searchable}
-use Rattle.partition.specs.Pass.{sum_terms}
+use lib.ListN.{length, get_or}
 use Rattle.partition.specs.Weights.{Weights}
-use Rattle.partition.specs.Summed.{factors, lowered}
-use Rattle.partition.specs.inner.Used.{InUse}
-use Rattle.partition_sums.specs.Layout.{options_at, options_in, Celled}
-use Rattle.partition_sums.specs.inner.Rows.{row_of, row_term}
-use Rattle.partition_sums.proofs.Positions.{Row, sum_of_row, some_at, few-at, row-terms, place_at, step-at, row_last, row_next, row-whole, sum-bounded, sum-lowered, part-is, cells_are, Inside, inside}
+use Rattle.partition_sums.proofs.Positions.{Row}
 use Rattle.partition_sums.proofs.sums.free_sum.Given as goal
 
 abbrev pub lent : List ℕ → List ℤ → List ℕ → List ℤ → ℕ → Weights

@@ -1,7 +1,5 @@
-use mathlib.Core.Path.{◌≡◌, refl, sym, ap, ◌∙◌}
-use Prim.Native.Nat.{ℕ}
+use mathlib.Core.Path.{refl}
 use native.Mathlib.Omega.{arith}
-use lib.IntN.{ℤ, nat_abs}
 use mir.Facts.{to_z-of_z}
 use Rattle.partition_sums.proofs.Signed.{low_fits, lift-fits, lift-read, lifted-low}
 use Rattle.partition_sums.proofs.terms.lift.Goals as goal

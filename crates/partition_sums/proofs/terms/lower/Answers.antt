@@ -1,6 +1,5 @@
 use mir.Facts.{to_z-of_z}
 use Rattle.partition_sums.proofs.Signed.{back_fits, back_read, back-narrow}
-use borrow.Author.Rules.{rules}
 use Rattle.partition_sums.proofs.terms.lower.Goals as goal
 
 pub overflow_sub-result : goal.overflow_sub-result

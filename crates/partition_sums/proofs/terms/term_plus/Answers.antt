@@ -1,4 +1,3 @@
-use borrow.Author.Rules.{rules}
 use borrow.Author.Tests.{lt-ltb, le-ltb}
 use Rattle.partition.specs.Terms.{plus}
 use Rattle.partition_sums.proofs.terms.term_plus.Goals as goal

@@ -1,4 +1,3 @@
-use borrow.Author.Rules.{rules}
 use borrow.Author.Tests.{lt-ltb, le-ltb}
 use Prim.Native.Nat.{◌^◌, ◌-◌}
 use native.Mathlib.Nat.{div-le_self}

@@ -1,5 +1,4 @@
 -- Each refusal is told apart, and has its number. Assumes nothing.
-use borrow.Author.Rules.{rules}
 use mathlib.Core.Path.{ap, sym}
 use Rattle.reply.specs.Number.{number_of}
 use Rattle.reply.proofs.Refusal.number.Goals as goal

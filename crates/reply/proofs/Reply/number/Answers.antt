@@ -1,5 +1,4 @@
 -- A refused reply has its refusal's number. Assumes nothing.
-use borrow.Author.Rules.{rules}
 use mathlib.Core.Path.{ap, sym, ◌∙◌}
 use Rattle.reply.specs.Number.{reply_number}
 use Rattle.reply.proofs.Reply.number.Goals as goal

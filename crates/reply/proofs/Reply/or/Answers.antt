@@ -1,6 +1,4 @@
 -- Assumes nothing.
-use borrow.Author.Rules.{rules}
-use Rattle.reply.specs.First.{◌or_else◌}
 use Rattle.reply.proofs.Reply.or.Goals as goal
 
 pub returns-in-Admitted : goal.returns-in-Admitted

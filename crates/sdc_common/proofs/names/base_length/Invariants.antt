@@ -1,12 +1,8 @@
 -- `sdc_common::base_length` meets its contract: what was passed over from the end is stars. Assumes nothing.
-use borrow.Author.Rules.{rules}
-use mathlib.Core.Path.{◌≡◌, sym, ap, ◌∙◌}
-use Prim.Native.Nat.{ℕ, ◌≤◌, ◌+◌, ◌-◌}
-use native.Mathlib.Omega.{arith}
+use mathlib.Core.Path.{◌≡◌}
+use Prim.Native.Nat.{◌≤◌}
 use lib.ListN.{length, take}
-use lib.Seq.{take-length}
 use Rattle.sdc_common.specs.Names.{base_length}
-use Rattle.sdc_common.proofs.Bases.{base-none, strip-star, strip-none}
 use Rattle.sdc_common.proofs.names.base_length.Given as goal
 
 abbrev pub invariant-loop-n : goal.invariant-loop-n

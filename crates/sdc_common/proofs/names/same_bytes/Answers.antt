@@ -1,9 +1,5 @@
-use borrow.Author.Rules.{rules}
-use mathlib.Core.Path.{◌≡◌, refl, sym, ◌∙◌}
-use Prim.Native.Nat.{◌≤◌, ◌-◌}
+use mathlib.Core.Path.{refl, sym, ◌∙◌}
 use native.Mathlib.Omega.{arith}
-use lib.ListN.{length, drop}
-use Rattle.sdc_common.specs.Names.{same_name}
 use Rattle.sdc_common.proofs.Bases.{same-lengths, same_more, same_not, same-done}
 use Rattle.sdc_common.proofs.names.same_bytes.Goals as goal
 

@@ -1,5 +1,4 @@
 -- `sdc_common::unfit_glue` meets its contract: an absent name is not looked at. Assumes nothing.
-use borrow.Author.Rules.{rules}
 use borrow.Author.Tests.{eq-eqb, ne_eqb}
 use Rattle.sdc_common.specs.Lent.{unfit_glue}
 use Rattle.sdc_common.proofs.names.unfit_glue.Goals as goal

@@ -1,5 +1,4 @@
 -- `sdc_common::unfit_name` meets its contract: the difference never goes below 0, where the sum might wrap. Assumes nothing.
-use borrow.Author.Rules.{rules}
 use Prim.Native.Nat.{◌+◌, ◌<◌, ◌≤◌}
 use native.Mathlib.Omega.{arith}
 use lib.ListN.{length}

@@ -1,16 +1,12 @@
 -- `sdc_common::any_retired` meets its contract: no name that was passed over retires. Assumes nothing.
-use borrow.Author.Rules.{rules}
-use mathlib.Core.Path.{◌≡◌, refl, sym, ap, ◌∙◌}
-use mathlib.Core.Bool.{true, false}
-use Prim.Native.Nat.{ℕ, ◌≤◌, ◌-◌, ◌/◌}
-use native.Mathlib.Omega.{arith}
+use mathlib.Core.Path.{◌≡◌}
+use mathlib.Core.Bool.{false}
+use Prim.Native.Nat.{◌≤◌, ◌-◌, ◌/◌}
 use lib.ListN.{length}
 use Rattle.lists.specs.Find.{any}
 use Rattle.lists.specs.Build.{tabulate}
-use Rattle.lists.proofs.Counted.{any-more, any_found}
-use Rattle.sdc_common.specs.Lent.{glue_of, is_retired_glue}
-use Rattle.sdc_common.specs.declared.names.LentName.{LentName}
-use Rattle.sdc_common.proofs.Fit.{glue_at, glues-listed}
+use Rattle.sdc_common.specs.Lent.{is_retired_glue}
+use Rattle.sdc_common.proofs.Fit.{glue_at}
 use Rattle.sdc_common.proofs.retired.any_retired.Given as goal
 
 abbrev pub invariant-loop-i : goal.invariant-loop-i

@@ -1,6 +1,5 @@
 -- `sdc_common::is_retired` meets its contract: the stars are what the base lacks. Assumes nothing.
-use borrow.Author.Rules.{rules}
-use mathlib.Core.Path.{◌≡◌, sym, ap, ◌∙◌}
+use mathlib.Core.Path.{sym, ap, ◌∙◌}
 use native.Mathlib.Omega.{arith}
 use lib.Dec.{leb}
 use Rattle.sdc_common.specs.Lent.{is_retired_glue}

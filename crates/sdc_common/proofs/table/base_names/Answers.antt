@@ -1,7 +1,6 @@
-use borrow.Author.Rules.{rules}
 use mathlib.Core.Path.{◌≡◌, refl, sym, ap, ap₂, ◌∙◌}
 use mathlib.Core.List.{List, []}
-use Prim.Native.Nat.{ℕ, ◌+◌, ◌-◌, ◌/◌, ◌≤◌}
+use Prim.Native.Nat.{ℕ, ◌+◌, ◌/◌, ◌≤◌}
 use native.Mathlib.Omega.{arith}
 use lib.ListN.{length, get_or}
 use borrow.Author.Count.{below_none}
@@ -10,8 +9,7 @@ use Rattle.lists.specs.Build.{tabulate}
 use Rattle.lists.proofs.Counted.{fold_more}
 use Rattle.sdc_common.specs.Lent.{Glue, glue_of}
 use Rattle.sdc_common.specs.Numbers.{learn, bases_of}
-use Rattle.sdc_common.specs.inner.Fit.{Fit}
-use Rattle.sdc_common.specs.inner.Table.{Table, held}
+use Rattle.sdc_common.specs.inner.Table.{held}
 use Rattle.sdc_common.proofs.Fit.{glue_at, glues-listed}
 use Rattle.sdc_common.proofs.table.base_names.Goals as goal
 

@@ -1,19 +1,13 @@
 -- `sdc_common::base_names` meets its contract: the table holds the bases of the glues passed. Assumes nothing.
-use borrow.Author.Rules.{rules}
-use mathlib.Core.Path.{◌≡◌, refl, sym, ap, ap₂, ◌∙◌}
-use mathlib.Core.List.{List, []}
-use Prim.Native.Nat.{ℕ, ◌+◌, ◌-◌, ◌/◌, ◌≤◌}
-use native.Mathlib.Omega.{arith}
-use lib.ListN.{length, get_or}
-use borrow.Author.Count.{below_none}
+use mathlib.Core.Path.{◌≡◌}
+use mathlib.Core.List.{[]}
+use Prim.Native.Nat.{◌-◌, ◌/◌, ◌≤◌}
+use lib.ListN.{length}
 use Rattle.lists.specs.Fold.{foldl}
 use Rattle.lists.specs.Build.{tabulate}
-use Rattle.lists.proofs.Counted.{fold_more}
-use Rattle.sdc_common.specs.Lent.{Glue, glue_of}
-use Rattle.sdc_common.specs.Numbers.{learn, bases_of}
-use Rattle.sdc_common.specs.inner.Fit.{Fit}
+use Rattle.sdc_common.specs.Numbers.{learn}
 use Rattle.sdc_common.specs.inner.Table.{Table, held}
-use Rattle.sdc_common.proofs.Fit.{glue_at, glues-listed}
+use Rattle.sdc_common.proofs.Fit.{glue_at}
 use Rattle.sdc_common.proofs.table.base_names.Given as goal
 
 abbrev pub invariant-loop-i : goal.invariant-loop-i

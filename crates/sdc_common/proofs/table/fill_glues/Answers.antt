@@ -1,12 +1,11 @@
-use borrow.Author.Rules.{rules}
 use mathlib.Core.Path.{◌≡◌, refl, sym, ap, ◌∙◌}
 use mathlib.Core.List.{map}
-use Prim.Native.Nat.{ℕ, ◌-◌, ◌/◌, ◌≤◌}
+use Prim.Native.Nat.{ℕ, ◌/◌}
 use native.Mathlib.Omega.{arith}
 use lib.ListN.{length}
 use Rattle.lists.specs.Build.{tabulate}
-use Rattle.lists.proofs.Counted.{stored, stored-none, stored-length, stored_more, stored-whole, map-tabulate}
-use Rattle.sdc_common.specs.Lent.{Glue, glue_of}
+use Rattle.lists.proofs.Counted.{stored-none, stored-length, stored_more, stored-whole, map-tabulate}
+use Rattle.sdc_common.specs.Lent.{glue_of}
 use Rattle.sdc_common.specs.Numbers.{glue_number}
 use Rattle.sdc_common.specs.inner.Table.{held}
 use Rattle.sdc_common.proofs.Fit.{glue_at, glues-listed}

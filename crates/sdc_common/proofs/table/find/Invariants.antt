@@ -1,14 +1,9 @@
 -- `sdc_common::find` meets its contract: no base that was passed over has the name. Assumes nothing.
-use borrow.Author.Rules.{rules}
-use mathlib.Core.Path.{◌≡◌, sym, ap, ◌∙◌}
-use mathlib.Core.Bool.{true, false}
+use mathlib.Core.Path.{◌≡◌}
+use mathlib.Core.Bool.{false}
 use Prim.Native.Nat.{ℕ, ◌-◌, ◌≤◌, ◌<◌}
-use native.Mathlib.Omega.{arith}
-use borrow.Author.Count.{below_none, below_more}
-use Rattle.lists.proofs.Counted.{first_found, first-none}
 use Rattle.sdc_common.specs.Names.{same_name}
-use Rattle.sdc_common.specs.inner.Table.{held_at, held}
-use Rattle.sdc_common.proofs.Held.{part-is}
+use Rattle.sdc_common.specs.inner.Table.{held_at}
 use Rattle.sdc_common.proofs.table.find.Given as goal
 
 abbrev pub invariant-loop-k : goal.invariant-loop-k

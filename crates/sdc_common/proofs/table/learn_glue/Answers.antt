@@ -1,8 +1,7 @@
 -- `sdc_common::learn_glue` meets its contract: a base that the table lacks is put at its end. Assumes nothing.
-use borrow.Author.Rules.{rules}
 use mathlib.Core.Path.{◌≡◌, sym, ap, ◌∙◌}
 use mathlib.Core.List.{List, ◌∷◌, [], ◌++◌}
-use Prim.Native.Nat.{ℕ, ◌+◌}
+use Prim.Native.Nat.{ℕ}
 use native.Mathlib.Omega.{arith}
 use Rattle.lists.specs.Find.{first_index}
 use Rattle.sdc_common.specs.Names.{base_of, same_name}

@@ -1,5 +1,4 @@
 -- `sdc_common::number` meets its contract: the place of the base in the table gives two numbers, and the stars choose one. Assumes nothing.
-use borrow.Author.Rules.{rules}
 use mathlib.Core.Path.{◌≡◌, sym, ap, ap₂, ◌∙◌}
 use mathlib.Core.List.{List}
 use Prim.Native.Nat.{ℕ, ◌-◌}

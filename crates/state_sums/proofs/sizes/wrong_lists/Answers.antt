@@ -1,14 +1,9 @@
-use mathlib.Core.Path.{◌≡◌, refl, sym, ◌∙◌}
-use mathlib.Core.List.{List}
-use Prim.Native.Nat.{ℕ, ◌-◌, ◌≤◌, zero-le}
+use mathlib.Core.Path.{refl, sym, ◌∙◌}
+use Prim.Native.Nat.{zero-le}
 use native.Mathlib.Omega.{arith}
-use borrow.Author.Rules.{rules}
 use borrow.Author.Tests.{eq-eqb, ne_eqb}
-use lib.ListN.{drop}
-use Rattle.lists.specs.Build.{up_to}
-use Rattle.lists.specs.Find.{any}
 use Rattle.lists.proofs.Build.{any_here, any-later, any-past}
-use Rattle.state_sums.specs.Sizes.{Lists, list_out, wrong_lists}
+use Rattle.state_sums.specs.Sizes.{list_out, wrong_lists}
 use Rattle.state_sums.proofs.Lent.{lists-told}
 use Rattle.state_sums.proofs.sizes.wrong_lists.Invariants.{lent}
 use Rattle.state_sums.proofs.sizes.wrong_lists.Goals as goal

@@ -1,16 +1,11 @@
 -- The test of the lists meets its contract. The invariant: whether one from a position on leaves the numbers is whether one does. Assumes nothing.
-use mathlib.Core.Path.{◌≡◌, refl, sym, ◌∙◌}
+use mathlib.Core.Path.{◌≡◌}
 use mathlib.Core.List.{List}
-use Prim.Native.Nat.{ℕ, ◌-◌, ◌≤◌, zero-le}
-use native.Mathlib.Omega.{arith}
-use borrow.Author.Rules.{rules}
-use borrow.Author.Tests.{eq-eqb, ne_eqb}
+use Prim.Native.Nat.{ℕ, ◌-◌, ◌≤◌}
 use lib.ListN.{drop}
 use Rattle.lists.specs.Build.{up_to}
 use Rattle.lists.specs.Find.{any}
-use Rattle.lists.proofs.Build.{any_here, any-later, any-past}
-use Rattle.state_sums.specs.Sizes.{Lists, list_out, wrong_lists}
-use Rattle.state_sums.proofs.Lent.{lists-told}
+use Rattle.state_sums.specs.Sizes.{Lists, list_out}
 use Rattle.state_sums.proofs.sizes.wrong_lists.Given as goal
 
 abbrev pub lent : List ℕ → List ℕ → List ℕ → Lists
