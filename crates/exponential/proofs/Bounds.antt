@@ -4,7 +4,7 @@ use Prim.Native.Nat.{ℕ, zero, suc, ◌+◌, ◌-◌, ◌*◌, ◌^◌, ◌≤�
 use native.Mathlib.Nat.{le_trans, le_of_eq, le_of_lt, mul-le-mul_right, mul-le-mul_left, le_of_mul-le-mul_left, mul-pos, mul_assoc, mul_comm, zero-lt-suc, pow-suc, pow-zero, pow-le-pow_left, one-le-pow, mul-one, sub-add_cancel, le_dest, add-sub_cancel_left, mul-zero, mul-suc}
 use native.Mathlib.Omega.{arith}
 use lib.Pow.{pow-add}
-use Rattle.fractions.specs.Frac.{frac, one, times, LeFrac}
+use Rattle.fractions.specs.Frac.{frac, times, LeFrac}
 use Rattle.fractions.proofs.Frac.{le-frac-trans}
 use Rattle.logarithm.proofs.Series.{pow-one}
 use Rattle.logarithm.proofs.Bounds.{mul-pow}

@@ -13,7 +13,7 @@ use lib.Ieee.Positive.{num, den, den_pos}
 use mir.Syntax.{w32}
 use mir.Val.{to_z, of_z, SFits}
 use mir.Facts.{to_z-of_z, to_z_pos}
-use Rattle.fractions.specs.Frac.{frac, none, one}
+use Rattle.fractions.specs.Frac.{frac}
 use Rattle.fractions.proofs.Frac.{le-frac-trans}
 use Rattle.exponential.proofs.Steps.{weight-plus, weight-minus}
 use Rattle.fractions.specs.Weight.{weight, unit}

@@ -3,7 +3,7 @@ use mathlib.Core.Path.{◌≡◌, refl}
 use Prim.Native.Nat.{ℕ, zero, suc, ◌+◌, ◌-◌, ◌*◌, ◌^◌, ◌≤◌, ◌<◌}
 use native.Mathlib.Nat.{le_trans, le_of_eq, mul-le-mul_right, mul-le-mul_left, mul-pos, mul_comm, zero-lt-suc, one-le-pow, pow-le-pow_left, pow-suc, pow-zero, zero-mul, not-suc-le-zero}
 use native.Mathlib.Omega.{arith}
-use Rattle.fractions.specs.Frac.{frac, one, plus, LeFrac}
+use Rattle.fractions.specs.Frac.{frac, plus, LeFrac}
 use Rattle.fractions.proofs.Frac.{le-frac-trans, plus-mono}
 use Rattle.logarithm.specs.Logarithm.{lower, upper, LnAtMost, LnAtLeast}
 use Rattle.logarithm.proofs.Sums.{lower-pos, upper_pos, lower-scale, upper-scale, lower-product, upper-product, ln-least, ln-most, ln-order}

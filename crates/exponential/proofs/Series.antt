@@ -3,7 +3,6 @@ use mathlib.Core.Path.{◌≡◌, refl}
 use Prim.Native.Nat.{ℕ, zero, suc, ◌+◌, ◌*◌, ◌^◌, ◌≤◌}
 use native.Mathlib.Nat.{le_refl, mul-le-mul_right, mul-le-mul_left, pow-suc, pow-zero, pow-le-pow_left, zero-mul, suc-mul}
 use native.Mathlib.Omega.{arith}
-use Rattle.fractions.specs.Frac.{one}
 use Rattle.logarithm.proofs.Series.{whole, pow-one}
 use Rattle.logarithm.proofs.Bounds.{mul-pow}
 

@@ -7,7 +7,7 @@ use native.Mathlib.Omega.{arith}
 use lib.Dec.{lit≤, lit<}
 use lib.Pow.{pow_pos}
 use mathlib.Core.Bool.{true, false}
-use Rattle.fractions.specs.Frac.{frac, none, times}
+use Rattle.fractions.specs.Frac.{frac, times}
 use Rattle.logarithm.proofs.Series.{fact, whole}
 use Rattle.logarithm.proofs.Bounds.{mul-pow, whole_is, whole_pos}
 use Rattle.exponential.specs.Exponential.{ExpAtMost, ExpAtLeast}

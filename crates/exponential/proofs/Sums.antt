@@ -5,7 +5,7 @@ use native.Mathlib.Nat.{le_trans, le_of_eq, le_of_lt, le_refl, lt_of_le_of_lt, m
 use native.Mathlib.Omega.{arith}
 use lib.Dec.{lit≤, lit<}
 use lib.Pow.{pow_pos}
-use Rattle.fractions.specs.Frac.{Frac, frac, one, times, LeFrac}
+use Rattle.fractions.specs.Frac.{Frac, frac, times, LeFrac}
 use Rattle.fractions.proofs.Frac.{le-frac-trans, times-mono}
 use Rattle.logarithm.proofs.Series.{whole}
 use Rattle.logarithm.proofs.Bounds.{mul-pow, whole-hom, whole_pos, cancel_left, cancel_right}

@@ -4,7 +4,7 @@ use Prim.Native.Nat.{ℕ, suc, ◌+◌, ◌-◌, ◌*◌, ◌≤◌, ◌<◌}
 use native.Mathlib.Nat.{le_of_lt, lt_of_not-le, mul-le-mul_left, mul-pos, zero-lt-suc, sub-add_cancel}
 use native.Mathlib.Omega.{arith}
 use native.Mathlib.Decide.{dec_le}
-use Rattle.fractions.specs.Frac.{Frac, frac, one, times, LeFrac}
+use Rattle.fractions.specs.Frac.{Frac, frac, times, LeFrac}
 use Rattle.fractions.proofs.Frac.{le-frac-refl, le-frac-trans, times-mono}
 use Rattle.exponential.specs.Exponential.{exp_above, ExpAtMost, ExpAtLeast}
 use Rattle.exponential.proofs.Bounds.{below-pos, above-pos, exp-close}

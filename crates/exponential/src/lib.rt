@@ -1,5 +1,6 @@
 // The exponential of a double as a weight, near the exact one, which specs/Exponential.antt defines by fractions.
 #![tactic(auto)]
+
 ghost use Rattle.std.specs.Prelude.{◌≡◌, true, ◌+◌, ◌*◌, ◌^◌, ◌<◌, ◌≤◌};
 ghost use Rattle.fractions.specs.Frac.{frac};
 ghost use Rattle.exponential.specs.Exponential.{ExpAtMost, ExpAtLeast};

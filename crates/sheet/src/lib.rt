@@ -1,5 +1,6 @@
 // A design file's rows, gathered into what the calls take.
 #![tactic(auto)]
+
 pub mod faults;
 pub mod once;
 pub mod parts;

@@ -1,6 +1,6 @@
 -- The sequences of one length, and of several lengths one after the other: how many there are, and which comes at a rank. Assumes nothing.
 use mathlib.Core.Path.{◌≡◌, refl, sym, ap, ◌∙◌}
-use mathlib.Core.List.{List, [], ◌∷◌, ◌++◌}
+use mathlib.Core.List.{[], ◌∷◌, ◌++◌}
 use Prim.Native.Nat.{ℕ, zero, suc, ◌+◌, ◌-◌, ◌*◌, ◌/◌, ◌%◌, ◌^◌, ◌<◌, ◌≤◌}
 use native.Mathlib.Nat.{pow-succ'}
 use native.Mathlib.Decide.{dec_lt}
@@ -9,7 +9,7 @@ use native.Mathlib.Omega.{arith}
 use lib.ListN.{length, get_or, replicate, length-append, get_or-append}
 use lib.Seq.{get_or-append-add}
 use Rattle.lists.specs.Build.{product}
-use Rattle.model.specs.States.{choices, choice_at, listing}
+use Rattle.model.specs.States.{choices, choice_at}
 use Rattle.model.proofs.Choices.{length-listing, listing-at}
 use Rattle.short_sequences.specs.Sequences.{letters, of_length, of_lengths}
 

@@ -7,14 +7,14 @@ use Prim.Native.Nat.{ℕ, zero, suc, ◌+◌, ◌-◌, ◌^◌, ◌<◌, ◌≤�
 use native.Mathlib.Nat.{suc_inj}
 use native.Mathlib.Decide.{dec_lt}
 use native.Mathlib.Omega.{arith}
-use lib.ListN.{length, get_or, replicate, length-replicate}
+use lib.ListN.{length, get_or, replicate}
 use Rattle.lists.specs.Each.{Each}
 use Rattle.lists.specs.Order.{Rising}
 use Rattle.lists.proofs.Places.{mem-get_or}
-use Rattle.model.specs.States.{choice_at, listing}
+use Rattle.model.specs.States.{choice_at}
 use Rattle.model.proofs.Choices.{Chosen, listing-all, listing-only}
 use Rattle.short_sequences.specs.Sequences.{letters, of_length, of_lengths, sequences, sequence_count, sequence_at}
-use Rattle.short_sequences.specs.Listed.{Letter, ShortSequence, Alphabetical, Earlier, RankOf, AllListed}
+use Rattle.short_sequences.specs.Listed.{Letter, Alphabetical, Earlier, AllListed}
 use Rattle.short_sequences.proofs.Order.{in_order}
 use Rattle.short_sequences.proofs.Lengths.{count-letters, powers, length-of_length, of-length-at, length-of_lengths, shortest-at, longer-at}
 
@@ -128,6 +128,7 @@ not_earlier s t e (inr w) = not-before-itself s (rw (← e) at w.1)
 -- ---- all come
 
 rank-of : (xs : List (List ℕ)) (s : List ℕ) → Memᴰ s xs → (rank : ℕ) × (rank < length xs) × (get_or xs rank [] ≡ s)
+rank-of [] s m = elim m [ ]
 rank-of (x ∷ xs) s (Memᴰ.head e) = (0, omega arith, sym e)
 rank-of (x ∷ xs) s (Memᴰ.tail m) = let w = rank-of xs s m in (suc w.0, omega (arith, w.1), w.2)
 

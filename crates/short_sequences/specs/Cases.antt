@@ -1,5 +1,5 @@
 -- Ranks worked out by hand, and the sequences that the definitions give there; proofs/Cases.antt computes them.
-use Rattle.std.specs.Prelude.{◌≡◌, List, [], ◌∷◌, map, ℕ, replicate}
+use Rattle.std.specs.Prelude.{◌≡◌, [], ◌∷◌, replicate}
 use Rattle.short_sequences.specs.Sequences.{sequence_at}
 
 -- the first and the last of a length, and some between

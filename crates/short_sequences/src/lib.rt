@@ -1,5 +1,6 @@
 // All sequences of 2 to 8 bases, by their ranks: shorter first, then alphabetically.
 #![tactic(auto)]
+
 ghost use Rattle.std.specs.Prelude.{◌≡◌, ◌<◌, ◌≤◌, ◌^◌, length, get_or, replicate};
 ghost use Rattle.lists.specs.Front.{over};
 ghost use Rattle.model.specs.States.{choice_at};

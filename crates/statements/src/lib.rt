@@ -1,5 +1,6 @@
 // The reader of design files: the statements of a text, as rows in lent slices.
 #![tactic(auto)]
+
 pub mod grammar;
 mod rows;
 pub mod statement;

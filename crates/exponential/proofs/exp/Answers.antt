@@ -1,7 +1,6 @@
 -- The call meets its contract. Assumes nothing.
 use mathlib.Core.Path.{refl, sym, ◌∙◌}
-use lib.Ieee.{neg, of_bits, round}
-use borrow.Author.Rules.{rules}
+use lib.Ieee.{neg, of_bits}
 use Rattle.exponential.specs.Near.{least_argument, most_argument}
 use Rattle.exponential.proofs.exp.Goals as goal
 

@@ -1,9 +1,8 @@
-use Prim.Native.Nat.{◌-◌, ◌*◌}
+use Prim.Native.Nat.{◌*◌}
 use native.Mathlib.Nat.{le_of_lt}
 use native.Mathlib.Omega.{arith}
-use borrow.Author.Rules.{rules}
 use Rattle.logarithm.proofs.Steps.{mul_right}
-use Rattle.exponential.proofs.Steps.{Powered, powered-none, powered-more, powered-all}
+use Rattle.exponential.proofs.Steps.{powered-none, powered-more, powered-all}
 use Rattle.exponential.proofs.exp_rest.Goals as goal
 
 pub overflow_mul-u : goal.overflow_mul-u
@@ -32,7 +31,12 @@ loop-j-preserved c =
     powered-more s l.j l.term l.sum c.mul_units.result (omega arith) (omega arith) (rw c.mul_units.ensures product.0) (rw c.mul_units.ensures (le_of_lt product.1)) l.invariant
 
 pub overflow_add-sum : goal.overflow_add-sum
-overflow_add-sum c = omega (arith, (loop-again c).sum-small)
+overflow_add-sum c =
+    let l = c.loop-j in
+    let s = c.args.s in
+    let product = mul_right l.term (s * 256) l.invariant.power_small (omega arith) in
+    let more = powered-more s l.j l.term l.sum c.mul_units.result (omega arith) (omega arith) (rw c.mul_units.ensures product.0) (rw c.mul_units.ensures (le_of_lt product.1)) l.invariant in
+    omega (arith, more.sum-small)
 
 pub returns : goal.returns
 returns c =

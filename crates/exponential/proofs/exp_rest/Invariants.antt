@@ -1,10 +1,6 @@
 -- The series of the exponential meets its contract. Assumes nothing.
-use Prim.Native.Nat.{◌-◌, ◌*◌}
-use native.Mathlib.Nat.{le_of_lt}
-use native.Mathlib.Omega.{arith}
-use borrow.Author.Rules.{rules}
-use Rattle.logarithm.proofs.Steps.{mul_right}
-use Rattle.exponential.proofs.Steps.{Powered, powered-none, powered-more, powered-all}
+use Prim.Native.Nat.{◌-◌}
+use Rattle.exponential.proofs.Steps.{Powered}
 use Rattle.exponential.proofs.exp_rest.Given as goal
 
 abbrev pub invariant-loop-j : goal.invariant-loop-j

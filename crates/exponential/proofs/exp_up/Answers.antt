@@ -1,6 +1,4 @@
 -- The exponential of a whole number of units meets its contract. Assumes nothing.
-use native.Mathlib.Omega.{arith}
-use borrow.Author.Rules.{rules}
 use Rattle.exponential.proofs.Steps.{weighed}
 use Rattle.exponential.proofs.exp_up.Goals as goal
 

@@ -1,25 +1,22 @@
-use mathlib.Core.Path.{◌≡◌, refl, sym, ap, ◌∙◌}
-use mathlib.Core.List.{[]}
-use Prim.Native.Nat.{ℕ, ◌≤◌, ◌<◌, ◌+◌, ◌-◌, ◌*◌, ◌^◌}
+use mathlib.Core.Path.{◌≡◌, refl, ap, ◌∙◌}
+use Prim.Native.Nat.{ℕ, ◌≤◌, ◌<◌, ◌*◌, ◌^◌}
 use native.Mathlib.Nat.{pow-suc}
 use native.Mathlib.Numerals.{add-one}
 use native.Mathlib.Omega.{arith}
-use lib.ListN.{length, get_or, replicate, length-replicate}
-use borrow.Author.Rules.{rules}
+use lib.ListN.{length, replicate, length-replicate}
 use borrow.Author.Tests.{eq-eqb, ne_eqb, le-leb, lt-leb}
-use Rattle.lists.specs.Front.{over}
-use Rattle.short_sequences.specs.Sequences.{letters, of_lengths, sequences, sequence_at}
+use Rattle.short_sequences.specs.Sequences.{letters, sequence_at}
 use Rattle.short_sequences.specs.Answers.{sequence_answer, sequence_bytes}
 use Rattle.short_sequences.proofs.Order.{length-choice_at}
-use Rattle.short_sequences.proofs.Lengths.{powers, at-shortest, at-longer, longer-inside, not-longest}
+use Rattle.short_sequences.proofs.Lengths.{at-shortest, at-longer, longer-inside, not-longest}
 use Rattle.short_sequences.proofs.short_sequence.Goals as goal
 
 pub returns-then-bytes-ne-BASES : goal.returns-then-bytes-ne-BASES
 unfolding sequence_answer sequence_bytes
 returns-then-bytes-ne-BASES c = let t = ne_eqb (length c.args.bytes.now) 8 c.if-bytes-ne-BASES.true in record {
-      result_value = rw t;
-      bytes_after = rw t;
-    }
+  result_value = rw t;
+  bytes_after = rw t;
+}
 
 pub returns-then-rank-ge-SEQUENCES : goal.returns-then-rank-ge-SEQUENCES
 unfolding sequence_answer sequence_bytes
@@ -49,7 +46,6 @@ loop-count-preserved c =
 pub returns : goal.returns
 unfolding sequence_answer sequence_bytes
 returns c =
-    
     let l = c.loop-count in
     let a = c.args in
     let t = eq-eqb (length a.bytes.now) 8 c.if-bytes-ne-BASES.false in

@@ -1,17 +1,11 @@
 -- The writing of the bases meets its contract. The invariant: the letters of the places passed stand in front, and those left are the sequence of
 -- the later places at the rank left. Assumes nothing.
-use mathlib.Core.Path.{◌≡◌, refl, sym, ap, ◌∙◌}
-use mathlib.Core.List.{List, [], ◌∷◌}
-use Prim.Native.Nat.{ℕ, zero, suc, ◌≤◌, ◌<◌, ◌+◌, ◌-◌, ◌*◌, ◌/◌, ◌%◌, ◌^◌}
-use native.Mathlib.Nat.{sub-zero, pow-succ', mul-div_cancel_left, mod-lt, div-lt_iff_lt-mul}
-use native.Mathlib.Omega.{arith}
-use lib.ListN.{length, get_or, replicate, set, length-set}
-use borrow.Author.Rules.{rules}
-use Rattle.lists.specs.Front.{over}
-use Rattle.lists.proofs.Front.{Front, front-none, front-step, front-whole}
+use mathlib.Core.Path.{◌≡◌}
+use Prim.Native.Nat.{◌≤◌, ◌<◌, ◌-◌, ◌^◌}
+use lib.ListN.{length, replicate}
+use Rattle.lists.proofs.Front.{Front}
 use Rattle.model.specs.States.{choice_at}
 use Rattle.short_sequences.specs.Sequences.{letters}
-use Rattle.short_sequences.proofs.Lengths.{first-letter, some-power}
 use Rattle.short_sequences.proofs.write_bases.Given as goal
 
 abbrev pub invariant-loop-place : goal.invariant-loop-place

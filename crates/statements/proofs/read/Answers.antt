@@ -1,10 +1,17 @@
 -- `statements::read` meets its contract. Assumes nothing.
-use borrow.Author.Rules.{rules}
 use mathlib.Core.Path.{refl, sym, ◌∙◌}
 use mathlib.Core.Logic.{inl, inr}
 use native.Mathlib.Nat.{zero-add}
 use native.Mathlib.Omega.{arith}
 use lib.ListN.{length}
+use mathlib.Core.Path.{◌≡◌}
+use mathlib.Core.List.{[], ◌∷◌}
+use Prim.Native.Nat.{ℕ}
+use denote.Enum.Declared.{tag_of}
+use types.Run.{OneOf}
+use Rattle.statements.specs.contracts.ReadAnswer as answered
+use Rattle.statements.specs.declared.ReadAnswer.{ReadAnswer}
+use Rattle.statements.specs.declared.ReadAnswer.TheVariants.{Rows, Unreadable, TooManyRows, TooLong, UnequalRoom}
 use Rattle.statements.specs.Layout.{room_of}
 use Rattle.statements.specs.Words.{lines_of}
 use Rattle.statements.proofs.Reading.{rows_fit, equal-room, read-unequal, read-long, read-lines, room-laid, room-kept}
@@ -56,6 +63,14 @@ returns-in-Rows c =
       numbers_after = c.lay.ensures ∙ sym (room-laid text room _ (answer ∙ c.in-Rows.is));
     }
 
+-- any answer but rows
+other : (answer : ReadAnswer) → ((n : ℕ) → answer ≡ Rows n → ⊥) → OneOf (1 ∷ 2 ∷ 3 ∷ 4 ∷ []) (tag_of answered.the_type answer)
+other (Rows n) k = absurd (k n refl)
+other (Unreadable number word reason) k = inl refl
+other (TooManyRows number) k = inr (inl refl)
+other TooLong k = inr (inr (inl refl))
+other UnequalRoom k = inr (inr (inr refl))
+
 pub returns-in_default : goal.returns-in_default
 returns-in_default c =
     let a = c.args in
@@ -65,5 +80,5 @@ returns-in_default c =
     let answer = read-lines text room same c.if-text-gt-LONGEST.false ∙ sym c.check-answer.ensures in
     record {
       value = sym answer;
-      numbers_after = sym (room-kept text room _ c.in_default.keys2 answer);
+      numbers_after = sym (room-kept text room _ (other c.check-answer.result c.in_default.not-Rows) answer);
     }

@@ -1,5 +1,4 @@
 -- `sheet::faults::check` meets its contract. Assumes nothing.
-use borrow.Author.Rules.{rules}
 use mathlib.Core.Path.{◌∙◌, ap}
 use borrow.Author.Tests.{lt-ltb, le-ltb}
 use Rattle.sheet.specs.Faults.{fault_at, sheet_answer}

@@ -1,7 +1,5 @@
-use borrow.Author.Rules.{rules}
 use mathlib.Core.Path.{◌≡◌, sym, ◌∙◌}
 use mathlib.Core.Bool.{true, false, or-true}
-use Prim.Native.Nat.{ℕ, ◌-◌, ◌<◌, ◌≤◌}
 use native.Mathlib.Nat.{not-suc-le-zero}
 use native.Mathlib.Omega.{arith}
 use lib.ListN.{length}
@@ -16,7 +14,6 @@ loop-i-init c = (omega arith, λ k h. absurd (not-suc-le-zero h))
 pub returns-then-is_name_twice : goal.returns-then-is_name_twice
 unfolding first_faulty
 returns-then-is_name_twice c =
-    
     let a = c.args in
     let t = is_faulty a.text.now a.kinds.now a.words.now in
     let n = length a.kinds.now in
@@ -27,7 +24,6 @@ returns-then-is_name_twice c =
 pub returns-then-is_over : goal.returns-then-is_over
 unfolding first_faulty
 returns-then-is_over c =
-    
     let a = c.args in
     let t = is_faulty a.text.now a.kinds.now a.words.now in
     let n = length a.kinds.now in
@@ -37,7 +33,6 @@ returns-then-is_over c =
 
 pub loop-i-preserved : goal.loop-i-preserved
 loop-i-preserved c =
-    
     let a = c.args in
     let t = is_faulty a.text.now a.kinds.now a.words.now in
     let n = length a.kinds.now in
@@ -49,7 +44,6 @@ loop-i-preserved c =
 pub returns : goal.returns
 unfolding first_faulty
 returns c =
-    
     let a = c.args in
     let t = is_faulty a.text.now a.kinds.now a.words.now in
     let n = length a.kinds.now in

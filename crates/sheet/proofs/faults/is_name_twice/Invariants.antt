@@ -1,19 +1,9 @@
 -- `sheet::faults::is_name_twice` meets its contract: no row that was passed over has the name. Assumes nothing.
-use borrow.Author.Rules.{rules}
-use mathlib.Core.Path.{◌≡◌, sym, ap, ◌∙◌}
+use mathlib.Core.Path.{◌≡◌}
 use mathlib.Core.Bool.{false}
 use Prim.Native.Nat.{ℕ, ◌-◌, ◌<◌, ◌≤◌}
-use native.Mathlib.Nat.{not-suc-le-zero}
-use native.Mathlib.Omega.{arith}
-use borrow.Author.Count.{below_more}
-use borrow.Author.Tests.{eq-eqb, ne_eqb}
-use Rattle.lists.specs.Find.{any}
-use Rattle.lists.specs.Build.{up_to}
-use Rattle.lists.proofs.Any.{all-below}
-use Rattle.lists.proofs.Counted.{any_found}
-use Rattle.statements.specs.declared.words.Word.{Word}
 use Rattle.sheet.specs.Rows.{word_of}
-use Rattle.sheet.specs.Faults.{has_name, is_name_twice}
+use Rattle.sheet.specs.Faults.{has_name}
 use Rattle.sheet.proofs.faults.is_name_twice.Given as goal
 
 abbrev pub invariant-loop-j : goal.invariant-loop-j

@@ -1,5 +1,4 @@
 -- `sheet::faults::is_over` meets its contract. Assumes nothing.
-use borrow.Author.Rules.{rules}
 use mathlib.Core.Path.{◌∙◌, ap, ap₂}
 use Prim.Native.Nat.{ℕ}
 use lib.Dec.{leb}
@@ -12,5 +11,5 @@ pub returns : goal.returns
 unfolding is_over
 returns c =
     let a = c.args in
-    let e = c.Group-of.ensures in
+    let e = c.group_of-group.ensures in
     ap₂ leb (c.limit_of.ensures ∙ ap limit_of e) (c.count_before.ensures ∙ ap (λ (g : ℕ). length (rows_before g a.kinds.now a.i)) e)

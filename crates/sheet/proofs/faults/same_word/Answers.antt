@@ -1,5 +1,4 @@
 -- `sheet::faults::same_word` meets its contract. Assumes nothing.
-use borrow.Author.Rules.{rules}
 use mathlib.Core.Path.{◌∙◌, ap₂}
 use Rattle.sdc_common.specs.Names.{same_name}
 use Rattle.sheet.proofs.faults.same_word.Goals as goal

@@ -1,5 +1,4 @@
 -- `sheet::once::ambient_of` meets its contract. Assumes nothing.
-use borrow.Author.Rules.{rules}
 use mathlib.Core.Path.{◌∙◌, ap}
 use Prim.Native.Nat.{ℕ}
 use borrow.Author.Tests.{lt-ltb, le-ltb, eq-eqb, ne_eqb}
@@ -19,7 +18,7 @@ unfolding ambient_of
 returns-then-kinds-row-eq-KELVIN c =
     let a = c.args in
     let e = c.first_of-row.ensures in
-    rw (lt-ltb _ _ (rw e at c.if-kinds-row.false), eq-eqb _ _ (rw e at c.if-kinds-row-eq-KELVIN.true)) (ap Kelvin (c.number_of_lem.ensures ∙ ap (λ (r : ℕ). number_of a.numbers.now r 0) e))
+    rw (lt-ltb _ _ (rw e at c.if-kinds-row.false), eq-eqb _ _ (rw e at c.if-kinds-row-eq-KELVIN.true)) (ap Kelvin (c.number_of.ensures ∙ ap (λ (r : ℕ). number_of a.numbers.now r 0) e))
 
 pub returns : goal.returns
 unfolding ambient_of

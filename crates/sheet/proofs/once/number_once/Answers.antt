@@ -1,5 +1,4 @@
 -- `sheet::once::number_once` meets its contract. Assumes nothing.
-use borrow.Author.Rules.{rules}
 use mathlib.Core.Path.{◌∙◌, ap}
 use Prim.Native.Nat.{ℕ}
 use lib.Ieee.{of_bits}
@@ -13,7 +12,7 @@ unfolding number_once
 returns-then-row-kinds c =
     let a = c.args in
     let e = c.first_of-row.ensures in
-    rw (lt-ltb _ _ (rw e at c.if-row-kinds.true)) (c.number_of_lem.ensures ∙ ap (λ (r : ℕ). number_of a.numbers.now r a.j) e)
+    rw (lt-ltb _ _ (rw e at c.if-row-kinds.true)) (c.number_of.ensures ∙ ap (λ (r : ℕ). number_of a.numbers.now r a.j) e)
 
 pub returns : goal.returns
 unfolding number_once of_bits

@@ -1,9 +1,8 @@
-use borrow.Author.Rules.{rules}
 use mathlib.Core.Path.{◌≡◌, sym, ap, ◌∙◌}
-use Prim.Native.Nat.{◌+◌, ◌-◌, ◌≤◌}
+use Prim.Native.Nat.{◌≤◌}
 use native.Mathlib.Omega.{arith}
 use native.Mathlib.Numerals.{add-one}
-use lib.ListN.{length, drop}
+use lib.ListN.{length}
 use borrow.Author.Tests.{lt-ltb, le-ltb}
 use Rattle.lists.specs.Find.{first_index}
 use Rattle.lists.proofs.Find.{first-here, first-later, first_past}
@@ -17,7 +16,6 @@ loop-k-init c = (omega arith, omega arith)
 pub returns-then-same_word : goal.returns-then-same_word
 unfolding strand_named
 returns-then-same_word c =
-    
     let a = c.args in
     let t = is_named a.text.now a.words.now a.name in
     let rows = a.rows.now in
@@ -28,7 +26,6 @@ returns-then-same_word c =
 
 pub loop-k-preserved : goal.loop-k-preserved
 loop-k-preserved c =
-    
     let a = c.args in
     let t = is_named a.text.now a.words.now a.name in
     let rows = a.rows.now in
@@ -39,7 +36,6 @@ loop-k-preserved c =
 pub returns : goal.returns
 unfolding strand_named
 returns c =
-    
     let a = c.args in
     let t = is_named a.text.now a.words.now a.name in
     let rows = a.rows.now in

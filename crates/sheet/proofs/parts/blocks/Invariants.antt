@@ -1,13 +1,8 @@
 -- `sheet::parts::blocks` meets its contract. Assumes nothing.
-use borrow.Author.Rules.{rules}
-use mathlib.Core.Path.{ap, ◌∙◌}
-use native.Mathlib.Omega.{arith}
-use Prim.Native.Nat.{ℕ, ◌-◌}
-use lib.Dec.{eqb}
+use Prim.Native.Nat.{◌-◌}
 use lib.ListN.{length}
-use Rattle.statements.specs.Grammar.{blocked}
-use Rattle.sheet.specs.Parts.{mark_of, blocked_at}
-use Rattle.sheet.proofs.Fill.{Filled, filled_none, filled-length, filled_more, filled-whole}
+use Rattle.sheet.specs.Parts.{blocked_at}
+use Rattle.sheet.proofs.Fill.{Filled}
 use Rattle.sheet.proofs.parts.blocks.Given as goal
 
 abbrev pub invariant-loop-m : goal.invariant-loop-m

@@ -1,10 +1,8 @@
 -- `sheet::parts::energies` meets its contract. Assumes nothing.
-use borrow.Author.Rules.{rules}
 use Prim.Native.Nat.{◌-◌}
-use native.Mathlib.Omega.{arith}
 use lib.ListN.{length}
 use Rattle.sheet.specs.Parts.{energy_at}
-use Rattle.sheet.proofs.Fill.{Filled, filled_none, filled-length, filled_more, filled-whole}
+use Rattle.sheet.proofs.Fill.{Filled}
 use Rattle.sheet.proofs.parts.energies.Given as goal
 
 abbrev pub invariant-loop-k : goal.invariant-loop-k

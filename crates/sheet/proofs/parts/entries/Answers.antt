@@ -1,9 +1,5 @@
-use borrow.Author.Rules.{rules}
-use Prim.Native.Nat.{◌-◌}
 use native.Mathlib.Omega.{arith}
-use lib.ListN.{length}
-use Rattle.sheet.specs.Parts.{entry_number_at}
-use Rattle.sheet.proofs.Fill.{Filled, filled_none, filled-length, filled_more, filled-whole}
+use Rattle.sheet.proofs.Fill.{filled_none, filled-length, filled_more, filled-whole}
 use Rattle.sheet.proofs.parts.entries.Goals as goal
 
 pub loop-k-init : goal.loop-k-init

@@ -1,20 +1,12 @@
 -- `sheet::parts::entry_number` meets its contract: a row is two names, the form and the bases. Assumes nothing.
-use borrow.Author.Rules.{rules}
 use mathlib.Core.Path.{◌≡◌, ap, ◌∙◌}
-use Prim.Native.Nat.{ℕ, ◌%◌, ◌<◌, ◌≤◌}
+use Prim.Native.Nat.{◌%◌}
 use native.Mathlib.Nat.{mod-lt}
 use native.Mathlib.Omega.{arith}
 use lib.Dec.{lit<}
 use Rattle.statements.specs.declared.words.Word.{Word}
 use Rattle.sheet.specs.Parts.{is_pair, is_sequence, mark_of, entry_number_at}
 use Rattle.sheet.proofs.parts.entry_number.Goals as goal
-
--- none of the first four, and none of the next three
-upper : (n : ℕ) → (n ≡ 0 → ⊥) → (n ≡ 1 → ⊥) → (n ≡ 2 → ⊥) → (n ≡ 3 → ⊥) → 4 ≤ n
-upper n a b c d = omega arith
-
-last : (n : ℕ) → 4 ≤ n → n < 8 → (n ≡ 4 → ⊥) → (n ≡ 5 → ⊥) → (n ≡ 6 → ⊥) → n ≡ 7
-last n h l a b c = omega arith
 
 pub returns-in-0 : goal.returns-in-0
 unfolding entry_number_at
@@ -61,8 +53,6 @@ returns-in-6 c =
 pub returns-in_default : goal.returns-in_default
 unfolding entry_number_at
 returns-in_default c =
-    let rest = c.in_default.rest in
-    let n = c.args.k % 8 in
-    let high = upper n rest.0.0.0.0.0.0.1 rest.0.0.0.0.0.1 rest.0.0.0.0.1 rest.0.0.0.1 in
-    let key : c.args.k % 8 ≡ 7 = last n high (mod-lt c.args.k {m = 8} (lit< tt)) rest.0.0.1 rest.0.1 rest.1 in
+    let below = mod-lt c.args.k {m = 8} (lit< tt) in
+    let key : c.args.k % 8 ≡ 7 = omega arith in
     rw key (ap (λ (w : Word). w.size) c.part_at-bases.ensures)

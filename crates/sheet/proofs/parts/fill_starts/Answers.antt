@@ -1,12 +1,7 @@
-use borrow.Author.Rules.{rules}
 use mathlib.Core.Path.{ap}
-use Prim.Native.Nat.{◌-◌}
 use native.Mathlib.Omega.{arith}
-use lib.ListN.{length}
 use Rattle.statements.specs.declared.words.Word.{Word}
-use Rattle.sheet.specs.Parts.{start_at}
-use Rattle.sheet.specs.declared.parts.Part.TheVariants.{First}
-use Rattle.sheet.proofs.Fill.{Filled, filled_none, filled-length, filled_more, filled-whole}
+use Rattle.sheet.proofs.Fill.{filled_none, filled-length, filled_more, filled-whole}
 use Rattle.sheet.proofs.parts.fill_starts.Goals as goal
 
 pub loop-m-init : goal.loop-m-init

@@ -1,13 +1,9 @@
 -- `sheet::parts::fill_starts` meets its contract. Assumes nothing.
-use borrow.Author.Rules.{rules}
-use mathlib.Core.Path.{ap}
 use Prim.Native.Nat.{◌-◌}
-use native.Mathlib.Omega.{arith}
 use lib.ListN.{length}
-use Rattle.statements.specs.declared.words.Word.{Word}
 use Rattle.sheet.specs.Parts.{start_at}
 use Rattle.sheet.specs.declared.parts.Part.TheVariants.{First}
-use Rattle.sheet.proofs.Fill.{Filled, filled_none, filled-length, filled_more, filled-whole}
+use Rattle.sheet.proofs.Fill.{Filled}
 use Rattle.sheet.proofs.parts.fill_starts.Given as goal
 
 abbrev pub invariant-loop-m : goal.invariant-loop-m

@@ -1,5 +1,4 @@
 -- `sheet::parts::name_number` meets its contract: a row is mark, start and size. Assumes nothing.
-use borrow.Author.Rules.{rules}
 use mathlib.Core.Path.{◌≡◌, ap, ◌∙◌}
 use Prim.Native.Nat.{◌%◌}
 use native.Mathlib.Omega.{arith}
@@ -23,8 +22,5 @@ returns-in-1 c =
 pub returns-in_default : goal.returns-in_default
 unfolding name_number_at
 returns-in_default c =
-    let rest = c.in_default.rest in
-    let n0 : c.args.k % 3 ≡ 0 → ⊥ = rest.0.1 in
-    let n1 : c.args.k % 3 ≡ 1 → ⊥ = rest.1 in
     let key : c.args.k % 3 ≡ 2 = omega arith in
     rw key (ap (λ (w : Word). w.size) c.part_at-word.ensures)

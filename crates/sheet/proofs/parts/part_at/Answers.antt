@@ -1,5 +1,4 @@
 -- `sheet::parts::part_at` meets its contract. Assumes nothing.
-use borrow.Author.Rules.{rules}
 use mathlib.Core.Path.{◌∙◌, sym, ap}
 use mathlib.Core.Bool.{Bool, cond}
 use Rattle.sheet.specs.declared.parts.Part.{Part}

@@ -1,5 +1,4 @@
 -- `sheet::parts::positions` meets its contract. Assumes nothing.
-use borrow.Author.Rules.{rules}
 use Rattle.sheet.proofs.parts.positions.Goals as goal
 
 pub returns : goal.returns

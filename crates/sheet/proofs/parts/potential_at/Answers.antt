@@ -1,5 +1,4 @@
 -- `sheet::parts::potential_at` meets its contract. Assumes nothing.
-use borrow.Author.Rules.{rules}
 use lib.Ieee.{of_bits}
 use borrow.Author.Tests.{lt-ltb, le-ltb, eq-eqb, ne_eqb}
 use Rattle.sheet.specs.Parts.{potential_at}

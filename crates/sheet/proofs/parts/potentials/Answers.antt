@@ -1,9 +1,5 @@
-use borrow.Author.Rules.{rules}
-use Prim.Native.Nat.{◌-◌}
 use native.Mathlib.Omega.{arith}
-use lib.ListN.{length}
-use Rattle.sheet.specs.Parts.{potential_at}
-use Rattle.sheet.proofs.Fill.{Filled, filled_none, filled-length, filled_more, filled-whole}
+use Rattle.sheet.proofs.Fill.{filled_none, filled-length, filled_more, filled-whole}
 use Rattle.sheet.proofs.parts.potentials.Goals as goal
 
 pub loop-m-init : goal.loop-m-init

@@ -1,5 +1,4 @@
 -- `sheet::parts::strands` meets its contract. Assumes nothing.
-use borrow.Author.Rules.{rules}
 use Rattle.sheet.proofs.parts.strands.Goals as goal
 
 pub returns : goal.returns

@@ -1,7 +1,5 @@
-use borrow.Author.Rules.{rules}
 use mathlib.Core.Path.{◌≡◌, sym, ◌∙◌}
 use mathlib.Core.Bool.{false}
-use Prim.Native.Nat.{ℕ, ◌-◌, ◌<◌, ◌≤◌}
 use native.Mathlib.Nat.{not-suc-le-zero}
 use native.Mathlib.Omega.{arith}
 use lib.ListN.{length}
@@ -17,20 +15,17 @@ loop-i-init c = (omega arith, λ k h. absurd (not-suc-le-zero h))
 pub returns-then-group_of-group : goal.returns-then-group_of-group
 unfolding first_of
 returns-then-group_of-group c =
-    
     let a = c.args in
-    sym (first_found (is_of a.group a.kinds.now) (length a.kinds.now) (λ k. k) c.loop-i.i c.loop-i.invariant.1 (omega arith) (eq-eqb _ _ (sym c.Group-of.ensures ∙ c.if-group_of-group.true)))
+    sym (first_found (is_of a.group a.kinds.now) (length a.kinds.now) (λ k. k) c.loop-i.i c.loop-i.invariant.1 (omega arith) (eq-eqb _ _ (sym c.group_of.ensures ∙ c.if-group_of-group.true)))
 
 pub loop-i-preserved : goal.loop-i-preserved
 loop-i-preserved c =
-    
     let a = c.args in
-    (omega arith, below_more (λ k. is_of a.group a.kinds.now k ≡ false) c.loop-i.i c.loop-i.invariant.1 (ne_eqb _ _ (λ e. c.if-group_of-group.false (c.Group-of.ensures ∙ e))))
+    (omega arith, below_more (λ k. is_of a.group a.kinds.now k ≡ false) c.loop-i.i c.loop-i.invariant.1 (ne_eqb _ _ (λ e. c.if-group_of-group.false (c.group_of.ensures ∙ e))))
 
 pub returns : goal.returns
 unfolding first_of
 returns c =
-    
     let a = c.args in
     let end : c.loop-i.i ≡ length a.kinds.now = omega arith in
     end ∙ sym (first-none (is_of a.group a.kinds.now) (length a.kinds.now) (λ k. k) (λ k h. c.loop-i.invariant.1 k (omega arith)))

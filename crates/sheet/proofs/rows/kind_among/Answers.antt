@@ -1,5 +1,4 @@
 -- `sheet::rows::kind_among` meets its contract. Assumes nothing.
-use borrow.Author.Rules.{rules}
 use lib.ListN.{get_or, get_or-eq_default}
 use borrow.Author.Tests.{lt-ltb, le-ltb}
 use Rattle.sheet.specs.Rows.{kind_among}

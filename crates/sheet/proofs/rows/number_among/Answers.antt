@@ -1,5 +1,4 @@
 -- `sheet::rows::number_among` meets its contract. Assumes nothing.
-use borrow.Author.Rules.{rules}
 use mathlib.Core.Path.{◌∙◌}
 use lib.Ieee.{of_bits}
 use borrow.Author.Tests.{lt-ltb, le-ltb}
@@ -12,4 +11,4 @@ returns-then-rows-k c = simp (le-ltb _ _ c.if-rows-k.true)
 
 pub returns : goal.returns
 unfolding number_among
-returns c = c.number_of_lem.ensures ∙ simp (lt-ltb _ _ c.if-rows-k.false)
+returns c = c.number_of.ensures ∙ simp (lt-ltb _ _ c.if-rows-k.false)

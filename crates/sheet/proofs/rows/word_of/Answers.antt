@@ -1,5 +1,4 @@
 -- `sheet::rows::word_of` meets its contract: a row or a word beyond the slice is none. Assumes nothing.
-use borrow.Author.Rules.{rules}
 use mathlib.Core.Path.{◌≡◌, sym, ap₂}
 use mathlib.Core.List.{List}
 use Prim.Native.Nat.{ℕ, ◌+◌, ◌*◌, ◌≤◌}

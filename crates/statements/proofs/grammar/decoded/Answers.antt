@@ -1,5 +1,4 @@
 -- `statements::grammar::decoded` meets its contract. Assumes nothing.
-use borrow.Author.Rules.{rules}
 use native.Mathlib.Omega.{arith}
 use borrow.Author.Tests.{eq-eqb, ne_eqb, lt-ltb, le-ltb}
 use Rattle.statements.specs.Grammar.{decoded}

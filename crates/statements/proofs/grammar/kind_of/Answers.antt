@@ -1,5 +1,4 @@
 -- `statements::grammar::kind_of` meets its contract: the keywords are tried one after the other. Assumes nothing.
-use borrow.Author.Rules.{rules}
 use mathlib.Core.Path.{◌≡◌, sym, ◌∙◌}
 use mathlib.Core.Bool.{true, false}
 use Rattle.sdc_common.specs.Names.{same_name}

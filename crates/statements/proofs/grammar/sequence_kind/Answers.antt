@@ -1,5 +1,5 @@
 -- `statements::grammar::sequence_kind` meets its contract. Assumes nothing.
-use borrow.Author.Tests.{ne_eqb}
+use borrow.Author.Rules.{rules}
 use Rattle.statements.specs.Grammar.{sequence_kind}
 use Rattle.statements.proofs.grammar.sequence_kind.Goals as goal
 
@@ -13,7 +13,4 @@ returns-in-8 c = rw c.in-8.is
 
 pub returns-in_default : goal.returns-in_default
 unfolding sequence_kind
-returns-in_default c =
-    let kind = c.args.kind in
-    let rest = c.in_default.rest in
-    simp (ne_eqb kind 6 rest.0.1, ne_eqb kind 8 rest.1)
+returns-in_default c = search rules

@@ -1,10 +1,9 @@
-use borrow.Author.Rules.{rules}
-use mathlib.Core.Path.{◌≡◌, refl, sym, ◌∙◌}
-use Prim.Native.Nat.{◌≤◌, ◌-◌, ◌+◌}
+use mathlib.Core.Path.{refl, sym, ◌∙◌}
+use Prim.Native.Nat.{◌+◌}
 use native.Mathlib.Omega.{arith}
-use lib.ListN.{length, drop}
+use lib.ListN.{drop}
 use lib.Seq.{length-take-le}
-use Rattle.statements.specs.Words.{line_of, lines_from, lines_of}
+use Rattle.statements.specs.Words.{line_of, lines_from}
 use Rattle.statements.specs.Rows.{answer_from}
 use Rattle.statements.proofs.Bytes.{lines-past}
 use Rattle.statements.proofs.Answers.{answer-fault, answer-full, answer-more}

@@ -1,14 +1,9 @@
 -- `statements::rows::check` meets its contract: the lines that are left give the whole answer. Assumes nothing.
-use borrow.Author.Rules.{rules}
-use mathlib.Core.Path.{◌≡◌, refl, sym, ◌∙◌}
+use mathlib.Core.Path.{◌≡◌}
 use Prim.Native.Nat.{◌≤◌, ◌-◌, ◌+◌}
-use native.Mathlib.Omega.{arith}
 use lib.ListN.{length, drop}
-use lib.Seq.{length-take-le}
-use Rattle.statements.specs.Words.{line_of, lines_from, lines_of}
+use Rattle.statements.specs.Words.{lines_from, lines_of}
 use Rattle.statements.specs.Rows.{answer_from}
-use Rattle.statements.proofs.Bytes.{lines-past}
-use Rattle.statements.proofs.Answers.{answer-fault, answer-full, answer-more}
 use Rattle.statements.proofs.rows.check.Given as goal
 
 abbrev pub invariant-loop-at : goal.invariant-loop-at

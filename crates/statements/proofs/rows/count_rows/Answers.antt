@@ -1,5 +1,4 @@
 -- `statements::rows::count_rows` meets its contract. Assumes nothing.
-use borrow.Author.Rules.{rules}
 use mathlib.Core.Path.{ap, ◌∙◌}
 use Rattle.statements.specs.Rows.{outcome_count}
 use Rattle.statements.specs.declared.rows.Count.TheVariants as rows

@@ -1,12 +1,10 @@
-use borrow.Author.Rules.{rules}
-use mathlib.Core.Path.{◌≡◌, refl, sym, ◌∙◌}
-use Prim.Native.Nat.{◌≤◌, ◌-◌, ◌+◌}
+use mathlib.Core.Path.{refl, sym, ◌∙◌}
+use Prim.Native.Nat.{◌+◌}
 use native.Mathlib.Omega.{arith}
-use lib.ListN.{length, drop}
+use lib.ListN.{drop}
 use lib.Seq.{length-take-le}
 use Rattle.statements.specs.Words.{line_of, lines_from}
-use Rattle.statements.specs.Layout.{room_of, Equal}
-use Rattle.statements.specs.Rows.{rows_from, rows_of, laid}
+use Rattle.statements.specs.Rows.{rows_from, laid}
 use Rattle.statements.proofs.Bytes.{lines-past}
 use Rattle.statements.proofs.Answers.{line_step, line-count}
 use Rattle.statements.proofs.rows.lay.Goals as goal

@@ -1,15 +1,10 @@
 -- `statements::rows::lay` meets its contract: the lines that are left, laid from here on, give the whole. Assumes nothing.
-use borrow.Author.Rules.{rules}
-use mathlib.Core.Path.{◌≡◌, refl, sym, ◌∙◌}
+use mathlib.Core.Path.{◌≡◌}
 use Prim.Native.Nat.{◌≤◌, ◌-◌, ◌+◌}
-use native.Mathlib.Omega.{arith}
 use lib.ListN.{length, drop}
-use lib.Seq.{length-take-le}
-use Rattle.statements.specs.Words.{line_of, lines_from}
+use Rattle.statements.specs.Words.{lines_from}
 use Rattle.statements.specs.Layout.{room_of, Equal}
 use Rattle.statements.specs.Rows.{rows_from, rows_of, laid}
-use Rattle.statements.proofs.Bytes.{lines-past}
-use Rattle.statements.proofs.Answers.{line_step, line-count}
 use Rattle.statements.proofs.rows.lay.Given as goal
 
 abbrev pub invariant-loop-at : goal.invariant-loop-at

@@ -1,5 +1,4 @@
 -- `statements::rows::lay_line` meets its contract, by what the line turned out to be. Assumes nothing.
-use borrow.Author.Rules.{rules}
 use mathlib.Core.Path.{sym, ap}
 use native.Mathlib.Omega.{arith}
 use lib.ListN.{length, length-map}
@@ -23,7 +22,7 @@ unfolding rows_by
 overflow_add-result c =
     let a = c.args in
     let one = ap length (rows-by a.line.now a.at c.statement_of-row.result c.statement_of-row.ensures _ c.in-Whole.is a.number) in
-    omega (arith, c.well-formed, c.requires.at_in_bounds)
+    omega (arith, c.well_formed, c.requires.at_in_bounds)
 
 pub lay_positions-requires : goal.lay_positions-requires
 unfolding rows_by

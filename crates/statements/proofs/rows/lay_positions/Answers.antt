@@ -1,11 +1,9 @@
-use borrow.Author.Rules.{rules}
 use mathlib.Core.Path.{◌≡◌, refl, ap, ◌∙◌}
-use mathlib.Core.List.{List, map}
-use Prim.Native.Nat.{ℕ, ◌<◌, ◌-◌, ◌+◌}
+use mathlib.Core.List.{List}
+use Prim.Native.Nat.{ℕ, ◌<◌, ◌+◌}
 use native.Mathlib.Omega.{arith}
 use lib.ListN.{length}
 use Rattle.statements.specs.Words.{words_in, spelled}
-use Rattle.statements.specs.Layout.{room_of, Equal}
 use Rattle.statements.specs.Statement.{blank, accepted}
 use Rattle.statements.specs.Rows.{row_of, position_row, laid}
 use Rattle.statements.specs.declared.grammar.Item.TheVariants.{Glue}
@@ -39,12 +37,12 @@ pub overflow_add-next : goal.overflow_add-next
 overflow_add-next c =
     let more = ap length (c.next_word-word.ensures.more (omega arith)) in
     let room : c.loop-word.next < length c.loop-word.kinds = omega (arith, c.requires) in
-    omega (arith, c.well-formed)
+    omega (arith, c.well_formed)
 
 pub overflow_add-from : goal.overflow_add-from
 overflow_add-from c =
     let inside = c.next_word-word.ensures.inside (omega arith) in
-    omega (arith, c.well-formed)
+    omega (arith, c.well_formed)
 
 pub loop-word-smaller : goal.loop-word-smaller
 loop-word-smaller c =

@@ -1,18 +1,11 @@
 -- `statements::rows::lay_positions` meets its contract: the words that are left, laid from here on, give the whole. Assumes nothing.
-use borrow.Author.Rules.{rules}
-use mathlib.Core.Path.{◌≡◌, refl, ap, ◌∙◌}
-use mathlib.Core.List.{List, map}
-use Prim.Native.Nat.{ℕ, ◌<◌, ◌-◌, ◌+◌}
-use native.Mathlib.Omega.{arith}
+use mathlib.Core.Path.{◌≡◌}
+use mathlib.Core.List.{map}
+use Prim.Native.Nat.{◌-◌, ◌+◌}
 use lib.ListN.{length}
-use Rattle.statements.specs.Words.{words_in, spelled}
+use Rattle.statements.specs.Words.{words_in}
 use Rattle.statements.specs.Layout.{room_of, Equal}
-use Rattle.statements.specs.Statement.{blank, accepted}
-use Rattle.statements.specs.Rows.{row_of, position_row, laid}
-use Rattle.statements.specs.declared.grammar.Item.TheVariants.{Glue}
-use Rattle.statements.specs.declared.words.Word.{Word}
-use Rattle.statements.specs.declared.statement.Statement.{Statement}
-use Rattle.statements.proofs.Answers.{position-step}
+use Rattle.statements.specs.Rows.{position_row, laid}
 use Rattle.statements.proofs.rows.lay_positions.Given as goal
 
 abbrev pub invariant-loop-word : goal.invariant-loop-word

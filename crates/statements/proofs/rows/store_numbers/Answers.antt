@@ -1,10 +1,8 @@
-use borrow.Author.Rules.{rules}
-use mathlib.Core.Path.{◌≡◌, refl, sym, ◌∙◌}
-use Prim.Native.Nat.{◌≤◌, ◌-◌, ◌+◌}
+use mathlib.Core.Path.{refl, sym, ◌∙◌}
+use Prim.Native.Nat.{◌+◌}
 use native.Mathlib.Nat.{add-zero}
 use native.Mathlib.Omega.{arith}
-use lib.ListN.{length, drop, get_or, length-set}
-use lib.Seq.{sets}
+use lib.ListN.{get_or, length-set}
 use lib.Ieee.{nan}
 use Rattle.statements.proofs.Laying.{sets_more, sets-done}
 use Rattle.statements.proofs.rows.store_numbers.Goals as goal
@@ -16,11 +14,11 @@ pub loop-i-preserved : goal.loop-i-preserved
 loop-i-preserved c =
     let l = c.loop-i in
     let a = c.args in
-    let kept = length-set l.numbers (a.at + l.i) (get_or a.t3 l.i nan) in
-    (omega arith, kept ∙ l.invariant.1, sets_more nan l.numbers a.t3 a.at l.i (omega arith) ∙ l.invariant.2)
+    let kept = length-set l.numbers (a.at + l.i) (get_or a.row l.i nan) in
+    (omega arith, kept ∙ l.invariant.1, sets_more nan l.numbers a.row a.at l.i (omega arith) ∙ l.invariant.2)
 
 pub returns : goal.returns
 returns c =
     let l = c.loop-i in
     let a = c.args in
-    sym (sets-done l.numbers a.t3 a.at l.i (omega arith)) ∙ l.invariant.2
+    sym (sets-done l.numbers a.row a.at l.i (omega arith)) ∙ l.invariant.2

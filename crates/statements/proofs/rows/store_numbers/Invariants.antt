@@ -1,13 +1,8 @@
 -- `statements::rows::store_numbers` meets its contract: what is left to store, stored, gives the whole. Assumes nothing.
-use borrow.Author.Rules.{rules}
-use mathlib.Core.Path.{◌≡◌, refl, sym, ◌∙◌}
+use mathlib.Core.Path.{◌≡◌}
 use Prim.Native.Nat.{◌≤◌, ◌-◌, ◌+◌}
-use native.Mathlib.Nat.{add-zero}
-use native.Mathlib.Omega.{arith}
-use lib.ListN.{length, drop, get_or, length-set}
+use lib.ListN.{length, drop}
 use lib.Seq.{sets}
-use lib.Ieee.{nan}
-use Rattle.statements.proofs.Laying.{sets_more, sets-done}
 use Rattle.statements.proofs.rows.store_numbers.Given as goal
 
 abbrev pub invariant-loop-i : goal.invariant-loop-i

@@ -1,11 +1,10 @@
 use borrow.Author.Rules.{rules}
-use mathlib.Core.Path.{◌≡◌, sym, ap, ◌∙◌}
-use Prim.Native.Nat.{◌≤◌, ◌-◌, ◌+◌}
+use mathlib.Core.Path.{sym, ap, ◌∙◌}
+use Prim.Native.Nat.{◌+◌}
 use native.Mathlib.Omega.{arith}
-use lib.ListN.{length}
-use borrow.Author.Tests.{not-true, not-false}
+use borrow.Author.Tests.{not-false}
 use Rattle.statements.specs.Words.{words_in}
-use Rattle.statements.specs.Statement.{blank, fit}
+use Rattle.statements.specs.Statement.{fit}
 use Rattle.statements.specs.declared.statement.Statement.{Statement}
 use Rattle.statements.proofs.Fitting.{fit-done, fit-stops, fit-more}
 use Rattle.statements.proofs.statement.fit.Goals as goal
@@ -37,7 +36,7 @@ returns-then-not-goes_on c =
     let line = a.line.now in
     let word = c.next_word-word.result in
     let more = c.next_word-word.ensures.more (omega arith) in
-    let stop = sym c.goes_on.ensures ∙ not-true _ c.if-not-goes_on.true-raw in
+    let stop = sym c.goes_on.ensures ∙ c.if-not-goes_on.true in
     fit-stops line a.key l.place l.row c.item_at-item.result c.item_at-item.ensures.0 (words_in line l.at) word (words_in line (word.start + word.size)) more
     c.bytes.result.now c.bytes.ensures c.accept-row.result c.accept-row.ensures stop
     ∙ sym l.invariant.2

@@ -1,14 +1,9 @@
 -- `statements::statement::fit` meets its contract: the words that are left, from the row so far, give the whole. Assumes nothing.
-use borrow.Author.Rules.{rules}
-use mathlib.Core.Path.{◌≡◌, sym, ap, ◌∙◌}
+use mathlib.Core.Path.{◌≡◌}
 use Prim.Native.Nat.{◌≤◌, ◌-◌, ◌+◌}
-use native.Mathlib.Omega.{arith}
 use lib.ListN.{length}
-use borrow.Author.Tests.{not-true, not-false}
 use Rattle.statements.specs.Words.{words_in}
 use Rattle.statements.specs.Statement.{blank, fit}
-use Rattle.statements.specs.declared.statement.Statement.{Statement}
-use Rattle.statements.proofs.Fitting.{fit-done, fit-stops, fit-more}
 use Rattle.statements.proofs.statement.fit.Given as goal
 
 abbrev pub invariant-loop-word : goal.invariant-loop-word

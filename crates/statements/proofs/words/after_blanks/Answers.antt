@@ -1,10 +1,6 @@
-use borrow.Author.Rules.{rules}
-use mathlib.Core.Path.{◌≡◌, refl, sym, ◌∙◌}
-use Prim.Native.Nat.{◌≤◌, ◌-◌}
+use mathlib.Core.Path.{refl, sym, ◌∙◌}
 use native.Mathlib.Omega.{arith}
-use lib.ListN.{length}
-use borrow.Author.Tests.{not-true, not-false}
-use Rattle.statements.specs.Words.{words_in}
+use borrow.Author.Tests.{not-false}
 use Rattle.statements.proofs.Bytes.{blank-on}
 use Rattle.statements.proofs.words.after_blanks.Goals as goal
 
@@ -14,7 +10,7 @@ loop-i-init c = (omega arith, refl)
 pub returns-then-not-is_blank : goal.returns-then-not-is_blank
 returns-then-not-is_blank c =
     let l = c.loop-i in
-    (omega arith, l.invariant.1, λ h. sym c.is_blank.ensures ∙ not-true _ c.if-not-is_blank.true-raw)
+    (omega arith, l.invariant.1, λ h. sym c.is_blank.ensures ∙ c.if-not-is_blank.true)
 
 pub loop-i-preserved : goal.loop-i-preserved
 loop-i-preserved c =

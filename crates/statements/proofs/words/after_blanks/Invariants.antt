@@ -1,12 +1,8 @@
 -- `statements::words::after_blanks` meets its contract: blanks are passed over. Assumes nothing.
-use borrow.Author.Rules.{rules}
-use mathlib.Core.Path.{◌≡◌, refl, sym, ◌∙◌}
+use mathlib.Core.Path.{◌≡◌}
 use Prim.Native.Nat.{◌≤◌, ◌-◌}
-use native.Mathlib.Omega.{arith}
 use lib.ListN.{length}
-use borrow.Author.Tests.{not-true, not-false}
 use Rattle.statements.specs.Words.{words_in}
-use Rattle.statements.proofs.Bytes.{blank-on}
 use Rattle.statements.proofs.words.after_blanks.Given as goal
 
 abbrev pub invariant-loop-i : goal.invariant-loop-i

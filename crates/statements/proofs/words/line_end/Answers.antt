@@ -1,9 +1,5 @@
-use borrow.Author.Rules.{rules}
-use mathlib.Core.Path.{◌≡◌, refl, ◌∙◌}
-use Prim.Native.Nat.{◌≤◌, ◌-◌}
+use mathlib.Core.Path.{refl, ◌∙◌}
 use native.Mathlib.Omega.{arith}
-use lib.ListN.{length, drop}
-use Rattle.statements.specs.Words.{lines_from}
 use Rattle.statements.proofs.Bytes.{line-ends, line_on, line-last}
 use Rattle.statements.proofs.words.line_end.Goals as goal
 

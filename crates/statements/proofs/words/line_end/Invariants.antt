@@ -1,11 +1,8 @@
 -- `statements::words::line_end` meets its contract: up to the end, the line goes on. Assumes nothing.
-use borrow.Author.Rules.{rules}
-use mathlib.Core.Path.{◌≡◌, refl, ◌∙◌}
+use mathlib.Core.Path.{◌≡◌}
 use Prim.Native.Nat.{◌≤◌, ◌-◌}
-use native.Mathlib.Omega.{arith}
 use lib.ListN.{length, drop}
 use Rattle.statements.specs.Words.{lines_from}
-use Rattle.statements.proofs.Bytes.{line-ends, line_on, line-last}
 use Rattle.statements.proofs.words.line_end.Given as goal
 
 abbrev pub invariant-loop-end : goal.invariant-loop-end

@@ -1,5 +1,4 @@
 -- `statements::words::next_word` meets its contract: blanks, then a comment or a word. Assumes nothing.
-use borrow.Author.Rules.{rules}
 use mathlib.Core.Path.{◌≡◌, ◌∙◌}
 use Prim.Native.Nat.{◌+◌, ◌-◌}
 use native.Mathlib.Omega.{arith}

@@ -1,5 +1,4 @@
 -- `statements::words::place_at` meets its contract. Assumes nothing.
-use borrow.Author.Rules.{rules}
 use mathlib.Core.Path.{sym}
 use lib.ListN.{get_or-eq_default}
 use Rattle.statements.proofs.words.place_at.Goals as goal

@@ -1,12 +1,9 @@
 -- `statements::words::word_end` meets its contract: up to the end, the word goes on. Assumes nothing.
-use borrow.Author.Rules.{rules}
-use mathlib.Core.Path.{◌≡◌, refl, sym, ◌∙◌}
+use mathlib.Core.Path.{◌≡◌}
 use mathlib.Core.Option.{some}
 use Prim.Native.Nat.{◌≤◌, ◌<◌, ◌-◌, ◌+◌}
-use native.Mathlib.Omega.{arith}
 use lib.ListN.{length, drop}
 use Rattle.statements.specs.Words.{scan}
-use Rattle.statements.proofs.Bytes.{word_on, word-ends, word-last}
 use Rattle.statements.proofs.words.word_end.Given as goal
 
 abbrev pub invariant-loop-i : goal.invariant-loop-i

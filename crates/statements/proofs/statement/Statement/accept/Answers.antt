@@ -1,5 +1,4 @@
 -- `statements::statement::Statement::accept` meets its contract, item by item. Assumes nothing.
-use borrow.Author.Rules.{rules}
 use mathlib.Core.Path.{◌≡◌, sym, subst, ◌∙◌}
 use mathlib.Core.Bool.{true, false}
 use Rattle.sdc_common.specs.Names.{same_name}

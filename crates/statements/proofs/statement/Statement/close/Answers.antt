@@ -1,16 +1,11 @@
 -- `statements::statement::Statement::close` meets its contract. Assumes nothing.
-use borrow.Author.Rules.{rules}
 use mathlib.Core.Path.{◌≡◌, refl, ◌∙◌}
-use mathlib.Core.List.{[], ◌∷◌}
-use denote.Enum.Declared.{tag_of}
-use types.Run.{OneOf, miss}
 use Rattle.statements.specs.declared.words.Word.{Word}
 use Rattle.statements.specs.declared.grammar.Item.{Item}
 use Rattle.statements.specs.declared.grammar.Item.TheVariants.{Number, Name, Glue, Bases, DgOrSeq, Ds, End}
 use Rattle.statements.specs.declared.statement.Reason.TheVariants.{TooFewWords}
 use Rattle.statements.specs.declared.statement.Statement.{Statement}
 use Rattle.statements.specs.Statement.{closed, faulty}
-use Rattle.statements.specs.contracts.grammar.Item as item
 use Rattle.statements.proofs.statement.Statement.close.Goals as goal
 
 pub returns-in-End : goal.returns-in-End
@@ -18,7 +13,7 @@ unfolding closed
 returns-in-End c = rw c.in-End.is
 
 -- any item but the end
-missing : (i : Item) (key : Word) (row : Statement) → OneOf (0 ∷ 1 ∷ 2 ∷ 3 ∷ 4 ∷ 5 ∷ []) (tag_of item.the_type i) → faulty key TooFewWords ≡ closed i key row
+missing : (i : Item) (key : Word) (row : Statement) → (i ≡ End → ⊥) → faulty key TooFewWords ≡ closed i key row
 unfolding closed
 missing (Number slot) key row k = refl
 missing (Name slot) key row k = refl
@@ -26,9 +21,9 @@ missing (Glue slot) key row k = refl
 missing (Bases slot) key row k = refl
 missing DgOrSeq key row k = refl
 missing Ds key row k = refl
-missing End key row k = absurd (miss (0 ∷ 1 ∷ 2 ∷ 3 ∷ 4 ∷ 5 ∷ []) 6 tt k)
+missing End key row k = absurd (k refl)
 
 pub returns-in_default : goal.returns-in_default
 returns-in_default c =
     let a = c.args in
-    c.without.ensures ∙ missing a.item a.key a.self c.in_default.keys2
+    c.without.ensures ∙ missing a.item a.key a.self c.in_default.not-End

@@ -1,5 +1,4 @@
 -- `statements::statement::Statement::dg_or_seq` meets its contract. Assumes nothing.
-use borrow.Author.Rules.{rules}
 use mathlib.Core.Path.{◌≡◌, sym, ◌∙◌}
 use mathlib.Core.Bool.{true, false}
 use Rattle.sdc_common.specs.Names.{same_name}

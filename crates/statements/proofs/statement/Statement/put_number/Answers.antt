@@ -1,5 +1,4 @@
 -- `statements::statement::Statement::put_number` meets its contract. Assumes nothing.
-use borrow.Author.Rules.{rules}
 use Rattle.statements.specs.Statement.{put_number, number_put}
 use Rattle.statements.proofs.statement.Statement.put_number.Goals as goal
 
