@@ -1,6 +1,6 @@
 -- The replies to designs with faults, computed. Assumes nothing.
 use mathlib.Core.Path.{◌≡◌, refl}
-use mathlib.Core.List.{List, [], ◌∷◌}
+use mathlib.Core.List.{[], ◌∷◌}
 use Prim.Native.Nat.{ℕ}
 use lib.ListN.{set}
 use lib.Ieee.{nan, add, sub, neg, mul, div, ne, le, lt, eq}

@@ -1,10 +1,9 @@
 -- A design with lent bonds is within the bounds under which the laws of energies and the search hold, where its checks pass. Assumes nothing.
-use mathlib.Core.Path.{◌≡◌, refl, sym, ◌∙◌, subst}
-use mathlib.Core.Bool.{Bool, false, not}
+use mathlib.Core.Path.{◌≡◌, subst}
+use mathlib.Core.Bool.{false, not}
 use mathlib.Core.List.{List}
 use mathlib.Core.Logic.{◌⊎◌, inl, inr}
-use Prim.Native.Nat.{ℕ, ◌+◌, ◌*◌, ◌<◌, ◌≤◌}
-use native.Mathlib.Omega.{arith}
+use Prim.Native.Nat.{ℕ, ◌+◌, ◌*◌, ◌<◌}
 use lib.Dec.{T, lit≤, eqb}
 use lib.ListN.{length, get_or}
 use lib.Ieee.{Float, nan, binary64, fits}
@@ -18,10 +17,8 @@ use Rattle.doubles.specs.Decimal.{plus, minus, nearest, zero}
 use Rattle.doubles.specs.Range.{within, in_range}
 use Rattle.doubles.specs.Size.{Within}
 use Rattle.doubles.proofs.Bounds.{in-range-within}
-use Rattle.model.specs.Model as Model
 use Rattle.model.specs.Model.{Friend}
 use Rattle.model.specs.Bounds.{Bounded}
-use Rattle.model.specs.Search.{options_at}
 use Rattle.model.specs.LowestConfiguration.{LowestConfiguration}
 use Rattle.model.proofs.Search.{own, search-lowest}
 use Rattle.ensemble.specs.Layout.{BondCells, Found}
@@ -31,7 +28,7 @@ use Rattle.design.specs.Laws.{Doubles}
 use Rattle.design.proofs.Sizes.{sized}
 use Rattle.design.proofs.FriendLaws.{friends-right, friend-tested}
 use Rattle.design.proofs.BoundLaws.{bounds-right}
-use Rattle.bond_tables.specs.Tables.{wrong_tables, bonds_out, bond_cell, model_over}
+use Rattle.bond_tables.specs.Tables.{wrong_tables, bonds_out, model_over}
 
 -- every cell of a table is a double
 abbrev pub CellDoubles : List Float → Type 0

@@ -1,6 +1,6 @@
 -- The cases over lent tables, computed. Assumes nothing.
 use mathlib.Core.Path.{◌≡◌, refl}
-use mathlib.Core.List.{List, [], ◌∷◌}
+use mathlib.Core.List.{[], ◌∷◌}
 use Prim.Native.Nat.{ℕ}
 use lib.Ieee.{nan, add, sub, neg, mul, div, ne, le, lt, eq}
 use Rattle.lists.specs.Build.{tabulate, keep}

@@ -11,7 +11,6 @@ use Rattle.reply.specs.First.{Check, first_of, ◌if◌, ◌if◌at◌, ◌or_el
 use Rattle.reply.specs.declared.Refusal.TheVariants.{WrongSize, OutOfRange, NullBinds}
 use Rattle.reply.specs.declared.Place.TheVariants.{Nowhere}
 use Rattle.reply.specs.declared.Reply.{Reply}
-use Rattle.reply.specs.declared.Reply.TheVariants as Reply
 use Rattle.reply.proofs.First.{none-holds, both-pass}
 use Rattle.design.specs.Design.{Design, positions, strands}
 use Rattle.design.specs.Checks.{high_glue, wrong_lengths, wrong_marks, wrong_sizes, sizes_out, cells_out, bad_cell, null_binds, ranged_checks, number_checks, design_checks, Admitted}

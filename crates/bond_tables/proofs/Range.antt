@@ -1,5 +1,5 @@
 -- What is at most a whole number in size passes the test of that range. Assumes nothing.
-use mathlib.Core.Path.{◌≡◌, refl, sym, ◌∙◌}
+use mathlib.Core.Path.{◌≡◌, refl, ◌∙◌}
 use mathlib.Core.Bool.{Bool, true, false, not, ◌&&◌}
 use Prim.Native.Nat.{ℕ, ◌*◌, ◌^◌, ◌≤◌}
 use native.Mathlib.Nat.{le_trans, le_of_eq, lt_of_le_of_lt}
@@ -7,7 +7,7 @@ use native.Mathlib.Omega.{arith}
 use lib.Dec.{T}
 use lib.Ieee.{Float, binary64, prec, low, round, le}
 use lib.Ieee.Fits.{round-fits}
-use Rattle.doubles.specs.Decimal.{plus, minus, nearest}
+use Rattle.doubles.specs.Decimal.{nearest}
 use Rattle.doubles.specs.Size.{Within, Real, mag}
 use Rattle.doubles.specs.Order.{Le, over, under}
 use Rattle.doubles.proofs.Size.{grid-whole, round-mag, finite-of-mag, whole-lt}

@@ -7,7 +7,7 @@ use Rattle.model.specs.States.{count, state_at}
 use Rattle.model.specs.Energy.{state_energy}
 use Rattle.model.specs.Search.{search}
 use Rattle.model.specs.LowestConfiguration.{LowestConfiguration}
-use Rattle.design.specs.Design.{Design, positions, model_of}
+use Rattle.design.specs.Design.{Design, positions}
 use Rattle.design.specs.Checks.{Admitted, ranged_checks, number_checks, design_checks, own_count_checks, own_rank_checks, own_energy_checks}
 use Rattle.design.specs.Answers.{energy_figures}
 use Rattle.design.specs.declared.answers.EnergyAnswer.{EnergyAnswer}

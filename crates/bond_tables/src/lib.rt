@@ -3,6 +3,7 @@
 //
 // A design is lent as sdc1d takes it. After it come the strand bonds, strands by strands, and the scaffold bonds, positions by strands, row first.
 #![tactic(auto)]
+
 mod checks;
 mod terms;
 

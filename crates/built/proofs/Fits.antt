@@ -17,7 +17,6 @@ use Rattle.reply.specs.declared.Place.TheVariants.{Nowhere, At}
 use Rattle.reply.specs.declared.Reply.{Reply}
 use Rattle.units.specs.declared.Ambient.{Ambient}
 use Rattle.sdc1d_params.specs.Params.{Params, Outcome, writes_of, strand_glues_of, built_from}
-use Rattle.design.specs.Design as Design
 use Rattle.design.specs.Design.{Design}
 use Rattle.design.specs.Checks.{high_glue, beyond, wrong_marks, wrong_sizes, sizes_out, cells_out, bad_cell, null_glued, null_cells, null_binds, number_checks}
 use Rattle.sdc1d_params.specs.declared.Build.{Build}

@@ -14,7 +14,6 @@ use Rattle.reply.specs.Figures.{Figures, given, refused_with}
 use Rattle.reply.specs.declared.Refusal.TheVariants.{TooManyStates, NoneUnder}
 use Rattle.reply.specs.declared.Place.TheVariants.{Nowhere}
 use Rattle.reply.specs.declared.Reply.{Reply}
-use Rattle.reply.specs.declared.Reply.TheVariants as Reply
 use Rattle.reply.proofs.First.{none-holds, both-pass, joined, reply-append}
 use Rattle.model.specs.States.{count}
 use Rattle.design.specs.Design.{Design, positions, model_of}

@@ -2,26 +2,23 @@
 use mathlib.Core.Path.{◌≡◌, refl, sym, ap, ◌∙◌}
 use mathlib.Core.Bool.{Bool, true, false, not}
 use mathlib.Core.List.{List, []}
-use mathlib.Core.Option.{Option, none, some}
+use mathlib.Core.Option.{some}
 use Prim.Native.Nat.{ℕ, ◌<◌, ◌≤◌}
-use native.Mathlib.Omega.{arith}
-use native.Mathlib.Decide.{dec_lt}
 use lib.ListN.{length, get_or}
 use lib.Ieee.{Float, le}
 use borrow.Author.Tests.{ltb-true, ltb-false, not-false}
-use Rattle.lists.specs.Find.{any, first_index}
+use Rattle.lists.specs.Find.{first_index}
 use Rattle.lists.proofs.Find.{first_any, first-same}
 use Rattle.doubles.specs.Decimal as Decimal
 use Rattle.model.specs.Model.{Model}
-use Rattle.model.specs.States.{states, count, state_at}
-use Rattle.model.specs.Energy.{state_energy}
+use Rattle.model.specs.States.{states, state_at}
 use Rattle.model.proofs.Listing.{listed}
 use Rattle.prepared.proofs.Begun.{whole-energy}
 use Rattle.ceiling.specs.Ceiling.{is_under, first_under, none_under}
-use Rattle.ceiling.specs.inner.Passing.{under_on, first_passing, Told, UnderFrom}
+use Rattle.ceiling.specs.inner.Passing.{under_on, Told, UnderFrom}
 use Rattle.ceiling.specs.inner.Found.{FoundUnder}
 use Rattle.ceiling.specs.declared.under.Under.{Under}
-use Rattle.ceiling.specs.declared.under.Under.TheVariants.{Energy, Nothing}
+use Rattle.ceiling.specs.declared.under.Under.TheVariants.{Energy}
 use Rattle.ceiling.proofs.Passing.{passing-some, passing-none}
 
 module _ (m : Model) (ceiling : Float) where

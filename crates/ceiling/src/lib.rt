@@ -1,5 +1,6 @@
 // The first state, in listing order, whose state energy is at most a ceiling.
 #![tactic(auto)]
+
 mod under;
 
 ghost use Rattle.std.specs.Prelude.{◌≡◌, List, ℕ, ◌*◌, ◌<◌, ◌≤◌, length};

@@ -2,15 +2,14 @@
 use mathlib.Core.Path.{◌≡◌, refl, sym, ap, ◌∙◌}
 use mathlib.Core.Bool.{Bool, true, false, not, cond}
 use mathlib.Core.Logic.{◌⊎◌, inl, inr}
-use mathlib.Core.List.{List, [], ◌∷◌, ◌++◌, map}
-use Prim.Native.Nat.{ℕ, suc, ◌≤◌, min}
-use native.Mathlib.Omega.{arith}
+use mathlib.Core.List.{List, [], ◌∷◌, map}
+use Prim.Native.Nat.{ℕ, min}
 use lib.Dec.{leb, ltb, eqb}
 use lib.ListN.{length, replicate}
 use lib.Ieee.{Float}
 use borrow.Author.Tests.{eq-eqb, ltb-false}
 use Rattle.doubles.specs.Decimal.{zero}
-use Rattle.reply.specs.Number.{number_of, reply_number}
+use Rattle.reply.specs.Number.{reply_number}
 use Rattle.reply.specs.First.{Check, first_of, refused_if, ◌or_else◌}
 use Rattle.reply.specs.Figures.{figures_of, entries_of}
 use Rattle.reply.specs.declared.Refusal.{Refusal}
@@ -18,14 +17,12 @@ use Rattle.reply.specs.declared.Refusal.TheVariants.{TooManyStates, RankTooHigh}
 use Rattle.reply.specs.declared.Place.{Place}
 use Rattle.reply.specs.declared.Place.TheVariants.{Nowhere}
 use Rattle.reply.specs.declared.Reply.{Reply}
-use Rattle.reply.specs.declared.Reply.TheVariants as Reply
-use Rattle.model.specs.Model.{Model}
 use Rattle.model.specs.States.{count, state_at}
 use Rattle.model.specs.Energy.{state_energy}
 use Rattle.model.specs.Search as Search
 use Rattle.design.specs.Design.{Design, positions, model_of}
-use Rattle.design.specs.Checks.{table_checks, number_checks, design_checks, own_rank_checks, own_count_checks, Admitted, TablesPass}
-use Rattle.design.proofs.Replies.{own-decide, after-tables, tables-refuse}
+use Rattle.design.specs.Checks.{table_checks, number_checks, design_checks, own_rank_checks, own_count_checks, Admitted}
+use Rattle.design.proofs.Replies.{after-tables, tables-refuse}
 use Rattle.prepared.proofs.Counted.{many-told, counted}
 use Rattle.jobs.specs.Word.{job_of}
 use Rattle.jobs.specs.Job.{places, energy_for, count_for, stretch_for, job_energy, job_count}

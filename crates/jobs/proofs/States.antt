@@ -1,16 +1,15 @@
 -- The state at a rank is one, and its occupants are strands. Assumes nothing.
-use mathlib.Core.Path.{◌≡◌, refl, sym, ap, ◌∙◌}
+use mathlib.Core.Path.{◌≡◌, sym, ◌∙◌}
 use mathlib.Core.Logic.{◌⊎◌, inl, inr}
 use mathlib.Core.List.Memᴰ
 use mathlib.Core.List.{List, [], ◌∷◌, ◌++◌, Memᴰ}
-use Prim.Native.Nat.{ℕ, suc, ◌+◌, ◌<◌}
+use Prim.Native.Nat.{ℕ, suc, ◌<◌}
 use native.Mathlib.Omega.{arith}
 use lib.ListN.{length, get_or, take}
 use lib.Seq.{take_at}
 use Rattle.lists.proofs.Places.{mem-get_or}
 use Rattle.model.specs.Model as Model
 use Rattle.model.specs.Model.{Model, State, Friend, friends_at}
-use Rattle.model.specs.Search.{options_at}
 use Rattle.model.specs.States.{states, count, state_at}
 use Rattle.model.proofs.Listing.{listed}
 use Rattle.ensemble.specs.Layout.{Searchable, OptionRows, option_in}

@@ -1,12 +1,12 @@
 -- The stretches of all jobs, one after the other, as a loop fills them. Assumes nothing.
 use mathlib.Core.Path.{◌≡◌, refl, sym, ap, ◌∙◌}
 use mathlib.Core.List.{List, [], ◌∷◌, ◌++◌, append_assoc, append-nil}
-use Prim.Native.Nat.{ℕ, zero, suc, ◌+◌, ◌*◌, ◌<◌, ◌≤◌}
+use Prim.Native.Nat.{ℕ, suc, ◌+◌, ◌*◌, ◌<◌, ◌≤◌}
 use native.Mathlib.Numerals.{add-one}
 use native.Mathlib.Omega.{arith}
 use native.Mathlib.Nat.{suc-mul, zero-mul}
 use lib.ListN.{length, get_or, take, drop, length-append, length-drop, drop_of_length-le, take-append-drop}
-use lib.Seq.{drop-cons, take_all, take_at, drop_at, take-add, drop-drop, length-take-le}
+use lib.Seq.{drop-cons, take_all, take_at, drop_at, drop-drop, length-take-le}
 use Rattle.lists.proofs.Grid.{row-end}
 use Rattle.design.specs.Design.{Design, positions}
 use Rattle.jobs.specs.Word.{job_of}
@@ -14,7 +14,6 @@ use Rattle.jobs.specs.Job.{stretch_for}
 use Rattle.jobs.specs.Sheet.{stretches_of}
 use Rattle.jobs.specs.inner.Settled.{stretch_in, stretches_in}
 use Rattle.jobs.specs.declared.job.Job.{Job}
-use Rattle.jobs.specs.declared.job.Job.TheVariants.{EnergyAt, Search, Count, Malformed}
 
 -- so far: what is left of the stretches is as it was, and what is filled goes before what is left to fill
 pub record Filled (configuration jobs before : List ℕ) (k : ℕ) (stretches : List ℕ) : Type 0 where

@@ -1,5 +1,5 @@
 -- What a job word asks. Its kind and its payload are read as a deck's.
-use Rattle.std.specs.Prelude.{Bool, cond, ℕ, eqb}
+use Rattle.std.specs.Prelude.{cond, ℕ, eqb}
 use Rattle.deck.specs.Word.{kind_of, payload_of}
 use Rattle.jobs.specs.declared.job.Job.{Job}
 use Rattle.jobs.specs.declared.job.Job.TheVariants.{EnergyAt, Search, Count, Malformed}

@@ -1,6 +1,7 @@
 // A sheet of jobs on one design: state energies at ranks, the search, and the number of states. The design is judged once for the whole sheet, and its
 // options, its bonds and its lowest configuration are worked out once.
 #![tactic(auto)]
+
 mod fill;
 pub mod job;
 mod judge;

@@ -5,7 +5,7 @@ use mathlib.Core.List.{List, []}
 use Prim.Native.Nat.{ℕ}
 use lib.Dec.{eqb}
 use lib.ListN.{length}
-use lib.Ieee.{Float, binary64}
+use lib.Ieee.{binary64}
 use borrow.Author.Tests.{eq-eqb, eqb-true, not-false}
 use Rattle.doubles.specs.Decimal.{zero}
 use Rattle.doubles.specs.Size.{Within}

@@ -1,5 +1,4 @@
 -- No state's state energy is lower by more than 2⁻¹⁵ than that of the configuration returned. Assumes nothing.
-use mathlib.Core.List.{[]}
 use Rattle.model.proofs.TwoEnergies.{two-energies}
 use Rattle.design.specs.Design.{strands, model_of}
 use Rattle.design.proofs.BoundLaws.{bounds-right}

@@ -1,6 +1,7 @@
 // The search for the lowest configuration of a design (sdc1d.rs, `mfe_configuration`): the design's checks, its options and bonds, and the search over
 // these. A local table is zeroed before it is filled, so a small design takes a small one.
 #![tactic(auto)]
+
 ghost use Rattle.std.specs.Prelude.{◌≡◌, ◌*◌, ◌≤◌, length};
 ghost use Rattle.ensemble.specs.Layout.{Found};
 ghost use Rattle.design.specs.Design.{lent, model_of};

@@ -1,17 +1,15 @@
 -- The sum built from the left is the state sum, and the code's cells are the model's. Assumes nothing.
 use mathlib.Core.Path.{◌≡◌, refl, sym, ap, ◌∙◌}
 use mathlib.Core.Logic.{◌⊎◌, inl, inr}
-use mathlib.Core.Bool.{cond}
 use mathlib.Core.List.Memᴰ
-use mathlib.Core.List.{List, [], ◌∷◌, ◌++◌, Memᴰ}
-use Prim.Native.Nat.{ℕ, zero, suc, ◌+◌, ◌*◌, ◌<◌, ◌≤◌}
+use mathlib.Core.List.{List, [], ◌∷◌, Memᴰ}
+use Prim.Native.Nat.{ℕ, suc, ◌+◌, ◌*◌, ◌<◌, ◌≤◌}
 use native.Mathlib.Omega.{arith}
 use native.Mathlib.Decide.{ℕ_discrete}
 use native.Mathlib.Numerals.{add-one}
-use lib.Dec.{eqb}
 use lib.ListN.{length, get_or, drop, drop_of_length-le}
 use lib.Seq.{drop-cons}
-use lib.Ieee.{Float, binary64, add, sub, mul, nan}
+use lib.Ieee.{Float, binary64, mul, nan}
 use borrow.Author.Tests.{eq-eqb, ne_eqb}
 use Rattle.doubles.specs.Decimal as Decimal
 use Rattle.doubles.specs.Sum.{sum_from}
@@ -20,7 +18,6 @@ use Rattle.lists.proofs.Grid.{row-end}
 use Rattle.model.specs.Model as Model
 use Rattle.model.specs.Model.{Model, Friend, State, occupant}
 use Rattle.model.specs.Search.{options_at}
-use Rattle.model.proofs.Search.{own}
 use Rattle.model.specs.Energy.{state_place, state_terms, state_energy}
 use Rattle.model.proofs.Sums.{place-empty, place-joined, place-last}
 use Rattle.prepared.specs.Layout.{StateCells}

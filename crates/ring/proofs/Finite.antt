@@ -18,9 +18,8 @@ use Rattle.model.specs.Bounds.{Bounded}
 use Rattle.model.specs.Ring.{closed, ring_energy, ring_search}
 use Rattle.model.proofs.Bounds.{strand-below, chain-energy-within}
 use Rattle.model.proofs.Search.{rt}
-use Rattle.design.specs.Design.{Design, strands, model_of}
+use Rattle.design.specs.Design.{strands, model_of}
 use Rattle.design.specs.Checks.{own_energy_checks}
-use Rattle.design.specs.Laws.{Doubles}
 use Rattle.design.proofs.BoundLaws.{bounds-right}
 use Rattle.design.proofs.Finite.{zero_in}
 use Rattle.ring.specs.Answers.{ring_energy_checks, ring_energy_answer, ring_search_checks, ring_search_answer}

@@ -1,8 +1,8 @@
 -- The reply of a call on rings: how it is put together, what an admitted one says, and that it is the documents', the lowest number whose condition
 -- holds, at its place. Assumes nothing.
-use mathlib.Core.Path.{◌≡◌, refl, ap, ap₂, sym, ◌∙◌}
+use mathlib.Core.Path.{◌≡◌, refl, ap₂, ◌∙◌}
 use mathlib.Core.Bool.{Bool, not}
-use mathlib.Core.List.{List, [], ◌∷◌}
+use mathlib.Core.List.{List, []}
 use Prim.Native.Nat.{ℕ, ◌≤◌}
 use native.Mathlib.Omega.{arith}
 use lib.Dec.{eqb}
@@ -10,7 +10,6 @@ use lib.ListN.{length}
 use borrow.Author.Tests.{eqb-true, ltb-false, le-ltb, not-false}
 use Rattle.reply.specs.First.{Check, first_of, ◌or_else◌, LowestGiven}
 use Rattle.reply.specs.declared.Reply.{Reply}
-use Rattle.reply.specs.declared.Reply.TheVariants as Reply
 use Rattle.reply.proofs.First.{none-holds, joined}
 use Rattle.reply.proofs.Lowest.{lowest-given}
 use Rattle.design.specs.Design.{Design, positions}

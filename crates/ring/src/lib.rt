@@ -1,6 +1,7 @@
 // Ring scaffolds: the last position stands beside the first. The ring energy of a configuration of a design, and the search for the lowest; the Rust
 // has neither. A design is lent as the calls on chains take it.
 #![tactic(auto)]
+
 mod search;
 
 ghost use Rattle.std.specs.Prelude.{◌≡◌};

@@ -1,6 +1,5 @@
 -- `fill_bond_tables` meets its contract: only an admitted call writes, and then every cell of both tables. Assumes nothing.
-use borrow.Author.Rules.{rules}
-use mathlib.Core.Path.{◌≡◌, sym, ◌∙◌}
+use mathlib.Core.Path.{◌∙◌}
 use mathlib.Core.List.{[]}
 use native.Mathlib.Omega.{arith}
 use Rattle.reply.proofs.Figures.{answered-by, refused-by, written-by, kept_by}
@@ -17,8 +16,8 @@ pub fill_strand_bonds-requires : goal.fill_strand_bonds-requires
 fill_strand_bonds-requires c =
     let a = c.args in
     let d : Design = lent a.scaffold a.marks a.glues a.dg a.ds a.potentials a.ambient in
-    let t = a.strand-bonds.now in
-    let u = a.scaffold-bonds.now in
+    let t = a.strand_bonds.now in
+    let u = a.scaffold_bonds.now in
     let p = passed (wrong_tables d t u) d [] [] (fill-told d t u c.wrong_tables-own_size.ensures c.design_reply.ensures ∙ c.in-Admitted.is) in
     let sizes = table-sizes d t u p.size in
     record {
@@ -30,8 +29,8 @@ pub fill_scaffold_bonds-requires : goal.fill_scaffold_bonds-requires
 fill_scaffold_bonds-requires c =
     let a = c.args in
     let d : Design = lent a.scaffold a.marks a.glues a.dg a.ds a.potentials a.ambient in
-    let t = a.strand-bonds.now in
-    let u = a.scaffold-bonds.now in
+    let t = a.strand_bonds.now in
+    let u = a.scaffold_bonds.now in
     let p = passed (wrong_tables d t u) d [] [] (fill-told d t u c.wrong_tables-own_size.ensures c.design_reply.ensures ∙ c.in-Admitted.is) in
     let sizes = table-sizes d t u p.size in
     let z = sized d p.design.sizes in
@@ -45,8 +44,8 @@ pub returns-in-Refused : goal.returns-in-Refused
 returns-in-Refused c =
     let a = c.args in
     let d : Design = lent a.scaffold a.marks a.glues a.dg a.ds a.potentials a.ambient in
-    let t = a.strand-bonds.now in
-    let u = a.scaffold-bonds.now in
+    let t = a.strand_bonds.now in
+    let u = a.scaffold_bonds.now in
     let reply = fill-told d t u c.wrong_tables-own_size.ensures c.design_reply.ensures ∙ c.in-Refused.is in
     record {
       result_value = refused-by tt tt reply;
@@ -58,8 +57,8 @@ pub returns-in-Admitted : goal.returns-in-Admitted
 returns-in-Admitted c =
     let a = c.args in
     let d : Design = lent a.scaffold a.marks a.glues a.dg a.ds a.potentials a.ambient in
-    let t = a.strand-bonds.now in
-    let u = a.scaffold-bonds.now in
+    let t = a.strand_bonds.now in
+    let u = a.scaffold_bonds.now in
     let reply = fill-told d t u c.wrong_tables-own_size.ensures c.design_reply.ensures ∙ c.in-Admitted.is in
     let sizes = table-sizes d t u (passed (wrong_tables d t u) d [] [] reply).size in
     let pairs = c.fill_strand_bonds.ensures in

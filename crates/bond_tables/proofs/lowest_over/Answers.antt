@@ -1,5 +1,4 @@
 -- The filling of options and the search over lent bonds meet their contract. Assumes nothing.
-use borrow.Author.Rules.{rules}
 use mathlib.Core.Path.{◌≡◌, refl}
 use Prim.Native.Nat.{ℕ, ◌-◌}
 use native.Mathlib.Omega.{arith}
@@ -47,7 +46,7 @@ unfolding model_of
 slice_bounds-lowest-end-2 c =
     let a = c.args in
     let d : Design = lent a.scaffold a.marks a.glues a.dg a.ds a.potentials a.ambient in
-    let number : length c.fill_options.new.marks.1.1.1.1.1.1.0 ≡ positions d = placed d (c.fill_options.ensures.option_rows (model_of d) refl) in
+    let number : length c.fill_options.new.counts ≡ positions d = placed d (c.fill_options.ensures.option_rows (model_of d) refl) in
     simp length-append (omega arith)
 
 pub lowest-requires : goal.lowest-requires
@@ -55,9 +54,9 @@ unfolding model_of
 lowest-requires c =
     let a = c.args in
     let d : Design = lent a.scaffold a.marks a.glues a.dg a.ds a.potentials a.ambient in
-    let number : length c.fill_options.new.marks.1.1.1.1.1.1.0 ≡ positions d = placed d (c.fill_options.ensures.option_rows (model_of d) refl) in
-    let full : length c.fill_options.new.marks.1.1.1.1.1.1.0 ≡ positions d - 0 = omega (arith, number) in
-    let again = take_at c.fill_options.new.marks.1.1.1.1.1.1.0 (drop (positions d - 0) (replicate {A = ℕ} 128 0)) (positions d - 0) full in
+    let number : length c.fill_options.new.counts ≡ positions d = placed d (c.fill_options.ensures.option_rows (model_of d) refl) in
+    let full : length c.fill_options.new.counts ≡ positions d - 0 = omega (arith, number) in
+    let again = take_at c.fill_options.new.counts (drop (positions d - 0) (replicate {A = ℕ} 128 0)) (positions d - 0) full in
     record {
       searchable = rw again c.fill_options.ensures.searchable;
       potentials_in_bounds = omega (arith, c.requires.strand_bonds_len);
@@ -70,10 +69,10 @@ unfolding model_of model_over
 returns c =
     let a = c.args in
     let d : Design = lent a.scaffold a.marks a.glues a.dg a.ds a.potentials a.ambient in
-    let t = a.strand-bonds.now in
-    let u = a.scaffold-bonds.now in
-    let number : length c.fill_options.new.marks.1.1.1.1.1.1.0 ≡ positions d = placed d (c.fill_options.ensures.option_rows (model_of d) refl) in
-    let full : length c.fill_options.new.marks.1.1.1.1.1.1.0 ≡ positions d - 0 = omega (arith, number) in
-    let again = take_at c.fill_options.new.marks.1.1.1.1.1.1.0 (drop (positions d - 0) (replicate {A = ℕ} 128 0)) (positions d - 0) full in
+    let t = a.strand_bonds.now in
+    let u = a.scaffold_bonds.now in
+    let number : length c.fill_options.new.counts ≡ positions d = placed d (c.fill_options.ensures.option_rows (model_of d) refl) in
+    let full : length c.fill_options.new.counts ≡ positions d - 0 = omega (arith, number) in
+    let again = take_at c.fill_options.new.counts (drop (positions d - 0) (replicate {A = ℕ} 128 0)) (positions d - 0) full in
     let options = c.fill_options.ensures.option_rows (model_over d t u) refl in
     c.lowest.ensures (model_over d t u) (rw again options) (cells-lent d t u (tables-fit d t u c.requires.strand_bonds_len c.requires.scaffold_bonds_len) c.requires.admitted) refl

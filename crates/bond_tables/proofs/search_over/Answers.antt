@@ -1,6 +1,5 @@
 -- `search_over` meets its contract: its reply is that of the first check that holds, only an admitted call writes, and what it writes and answers is the
 -- lowest configuration over the lent bonds with its energy. Assumes nothing.
-use borrow.Author.Rules.{rules}
 use mathlib.Core.Path.{◌≡◌, refl, sym, ap, ◌∙◌}
 use mathlib.Core.Bool.{Bool, true, not}
 use mathlib.Core.List.{List, []}
@@ -30,8 +29,8 @@ pub lowest_over-energy-requires : goal.lowest_over-energy-requires
 lowest_over-energy-requires c =
     let a = c.args in
     let d : Design = lent a.scaffold a.marks a.glues a.dg a.ds a.potentials a.ambient in
-    let t = a.strand-bonds.now in
-    let u = a.scaffold-bonds.now in
+    let t = a.strand_bonds.now in
+    let u = a.scaffold_bonds.now in
     let e = a.configuration.now in
     let p = passed_over (own_size d e) d t u [] (sym (over-told c.bonds_reply-bonds.result (first_of (design_checks (own_size d e) d [] [])) c.or.ensures c.design_reply-design.ensures (c.bonds_reply-bonds.ensures a.ambient [])) ∙ c.in-Admitted.is) in
     let sizes = table-sizes d t u p.tables in
@@ -46,8 +45,8 @@ pub returns-in-Refused : goal.returns-in-Refused
 returns-in-Refused c =
     let a = c.args in
     let d : Design = lent a.scaffold a.marks a.glues a.dg a.ds a.potentials a.ambient in
-    let t = a.strand-bonds.now in
-    let u = a.scaffold-bonds.now in
+    let t = a.strand_bonds.now in
+    let u = a.scaffold_bonds.now in
     let e = a.configuration.now in
     let refused = sym (over-told c.bonds_reply-bonds.result (first_of (design_checks (own_size d e) d [] [])) c.or.ensures c.design_reply-design.ensures (c.bonds_reply-bonds.ensures a.ambient [])) ∙ c.in-Refused.is in record {
       result_value = refused-by zero (Search.search (model_over d t u)).energy refused;
@@ -59,12 +58,12 @@ pub returns-in-Admitted : goal.returns-in-Admitted
 returns-in-Admitted c =
     let a = c.args in
     let d : Design = lent a.scaffold a.marks a.glues a.dg a.ds a.potentials a.ambient in
-    let t = a.strand-bonds.now in
-    let u = a.scaffold-bonds.now in
+    let t = a.strand_bonds.now in
+    let u = a.scaffold_bonds.now in
     let e = a.configuration.now in
     let admitted = sym (over-told c.bonds_reply-bonds.result (first_of (design_checks (own_size d e) d [] [])) c.or.ensures c.design_reply-design.ensures (c.bonds_reply-bonds.ensures a.ambient [])) ∙ c.in-Admitted.is in
     let found = c.lowest_over-energy.ensures in
-    let field = c.well-formed.1.1.1.1.1.1.0.1.1 in
+    let field = c.well_formed.1.1.1.1.1.1.0.1.1 in
     let rt : fits binary64 a.ambient.rt.0 ≡ true = field.0.1.1.0.1 in
     let strand : fits binary64 a.ambient.strand_excess.0 ≡ true = field.1.0.1.1.0.1 in
     let scaffold : fits binary64 a.ambient.scaffold_excess.0 ≡ true = field.1.1.0.1.1.0.1 in

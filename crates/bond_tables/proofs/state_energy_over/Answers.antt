@@ -1,5 +1,4 @@
 -- `state_energy_over` meets its contract. Assumes nothing.
-use borrow.Author.Rules.{rules}
 use mathlib.Core.Path.{◌≡◌, refl, sym, ap, ◌∙◌}
 use mathlib.Core.Bool.{not}
 use native.Mathlib.Omega.{arith}
@@ -23,8 +22,8 @@ pub fill_terms_over-requires : goal.fill_terms_over-requires
 fill_terms_over-requires c =
     let a = c.args in
     let d : Design = lent a.scaffold a.marks a.glues a.dg a.ds a.potentials a.ambient in
-    let t = a.strand-bonds.now in
-    let u = a.scaffold-bonds.now in
+    let t = a.strand_bonds.now in
+    let u = a.scaffold_bonds.now in
     let s = a.configuration.now in
     let p = passed_over (not (eqb (length s) (positions d))) d t u (own_energy_checks d s) (sym (over-told c.bonds_reply-bonds.result (first_of (energy_checks d s)) c.or.ensures c.energy_reply-design.ensures (c.bonds_reply-bonds.ensures a.ambient (own_energy_checks d s))) ∙ c.in-Admitted.is) in
     let z = sized d p.design.sizes in
@@ -42,8 +41,8 @@ pub state_sum-sumg-requires : goal.state_sum-sumg-requires
 state_sum-sumg-requires c =
     let a = c.args in
     let d : Design = lent a.scaffold a.marks a.glues a.dg a.ds a.potentials a.ambient in
-    let t = a.strand-bonds.now in
-    let u = a.scaffold-bonds.now in
+    let t = a.strand_bonds.now in
+    let u = a.scaffold_bonds.now in
     let s = a.configuration.now in
     let p = passed_over (not (eqb (length s) (positions d))) d t u (own_energy_checks d s) (sym (over-told c.bonds_reply-bonds.result (first_of (energy_checks d s)) c.or.ensures c.energy_reply-design.ensures (c.bonds_reply-bonds.ensures a.ambient (own_energy_checks d s))) ∙ c.in-Admitted.is) in
     let z = sized d p.design.sizes in
@@ -59,8 +58,8 @@ pub returns-in-Refused : goal.returns-in-Refused
 returns-in-Refused c =
     let a = c.args in
     let d : Design = lent a.scaffold a.marks a.glues a.dg a.ds a.potentials a.ambient in
-    let t = a.strand-bonds.now in
-    let u = a.scaffold-bonds.now in
+    let t = a.strand_bonds.now in
+    let u = a.scaffold_bonds.now in
     let s = a.configuration.now in
     refused-by zero (state_energy (model_over d t u) s) (sym (over-told c.bonds_reply-bonds.result (first_of (energy_checks d s)) c.or.ensures c.energy_reply-design.ensures (c.bonds_reply-bonds.ensures a.ambient (own_energy_checks d s))) ∙ c.in-Refused.is)
 
@@ -69,8 +68,8 @@ unfolding state_energy model_over model_of
 returns-in-Admitted c =
     let a = c.args in
     let d : Design = lent a.scaffold a.marks a.glues a.dg a.ds a.potentials a.ambient in
-    let t = a.strand-bonds.now in
-    let u = a.scaffold-bonds.now in
+    let t = a.strand_bonds.now in
+    let u = a.scaffold_bonds.now in
     let s = a.configuration.now in
     let sum = c.state_sum-sumg.ensures (model_over d t u) (c.fill_terms_over.ensures d refl) in
     let energy : c.scale.result.0 ≡ state_energy (model_over d t u) s = c.scale.ensures ∙ ap (λ (x : Float). mul binary64 x a.ambient.rt.0) sum in

@@ -1,7 +1,6 @@
 -- What is answered where the tables pass meets its contract. Assumes nothing.
 use mathlib.Core.Path.{◌≡◌, ◌∙◌, sym}
 use lib.ListN.{length}
-use borrow.Author.Rules.{rules}
 use Rattle.design.proofs.Sizes.{sized}
 use Rattle.design.specs.Design.{Design, lent, model_of}
 use Rattle.model.specs.Energy.{state_energy}
@@ -15,7 +14,7 @@ pub search_states-requires : goal.search_states-requires
 search_states-requires c =
     let a = c.args in
     let d : Design = lent a.scaffold a.marks a.glues a.dg a.ds a.potentials a.ambient in
-    let kept : length c.count_options-states.new.marks.1.1.1.1.1.1.1.0 ≡ length a.counts.now = c.count_options-states.auto.marks.1.1.1.1.1.1.1.0 in
+    let kept : length c.count_options-states.new.counts ≡ length a.counts.now = c.count_options-states.auto.counts in
     let p = c.requires in
     record {
       searchable = c.count_options-states.ensures.searchable;
@@ -36,24 +35,24 @@ returns-in-Refused c =
 
 pub returns-in-Energy : goal.returns-in-Energy
 returns-in-Energy c =
-    let all = let a = c.args in
+    let a = c.args in
     let d : Design = lent a.scaffold a.marks a.glues a.dg a.ds a.potentials a.ambient in
     let reply = counted-replied d c.count_options-states.ensures.value c.refused_if-many.ensures c.numbers_reply-numbers.ensures c.or.ensures c.in-Admitted.is in
     let admitted = counted-admits d c.requires.tables_pass reply in
     let found = c.search_states.ensures a.marks.now admitted c.count_options-states.ensures.option_rows in
-    answered-energy d a.ceiling.0 found reply _ c.in-Energy.is in record {
+    let all = answered-energy d a.ceiling.0 found reply _ c.in-Energy.is in record {
       result_value = all.0;
       entries_after = all.1;
     }
 
 pub returns-in-Nothing : goal.returns-in-Nothing
 returns-in-Nothing c =
-    let all = let a = c.args in
+    let a = c.args in
     let d : Design = lent a.scaffold a.marks a.glues a.dg a.ds a.potentials a.ambient in
     let reply = counted-replied d c.count_options-states.ensures.value c.refused_if-many.ensures c.numbers_reply-numbers.ensures c.or.ensures c.in-Admitted.is in
     let admitted = counted-admits d c.requires.tables_pass reply in
     let found = c.search_states.ensures a.marks.now admitted c.count_options-states.ensures.option_rows in
-    answered-none d a.ceiling.0 found reply c.in-Nothing.is in record {
+    let all = answered-none d a.ceiling.0 found reply c.in-Nothing.is in record {
       result_value = all.0;
       entries_after = all.1;
     }

@@ -5,7 +5,6 @@ use Prim.Native.Nat.{ℕ, ◌-◌}
 use native.Mathlib.Omega.{arith}
 use lib.ListN.{length, replicate, length-take}
 use borrow.Author.Tests.{eqb-true, not-false}
-use borrow.Author.Rules.{rules}
 use Rattle.design.proofs.Sizes.{sized}
 use Rattle.design.specs.Design.{Design, lent, positions, model_of}
 use Rattle.model.specs.Energy.{state_energy}
@@ -56,12 +55,12 @@ returns-in-Refused c =
 
 pub returns-in-Admitted : goal.returns-in-Admitted
 returns-in-Admitted c =
-    let all = let a = c.args in
+    let a = c.args in
     let d : Design = lent a.scaffold a.marks a.glues a.dg a.ds a.potentials a.ambient in
     let e = a.entries.now in
     let reply = ranged-replied d a.ceiling.0 e c.is_finite-out.ensures c.ranged_reply.ensures c.in-Admitted.is in
     let r = c.counted.ensures in
-    ceiling-counted d a.ceiling.0 e reply r.result_value r.entries_after in record {
+    let all = ceiling-counted d a.ceiling.0 e reply r.result_value r.entries_after in record {
       result_value = all.0;
       entries_after = all.1;
     }

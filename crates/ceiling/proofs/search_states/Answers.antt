@@ -5,7 +5,6 @@ use native.Mathlib.Omega.{arith}
 use native.Mathlib.Nat.{mul-le-mul}
 use lib.Ieee.{of_bits}
 use lib.ListN.{length}
-use borrow.Author.Rules.{rules}
 use Rattle.design.specs.Design.{Design, design, model_of}
 use Rattle.ceiling.proofs.Whole.{found-under}
 use Rattle.ceiling.proofs.search_states.Goals as goal
@@ -27,8 +26,8 @@ under_from-requires c =
     let few = c.requires.searchable.few in
     let square = mul-le-mul few few in
     let area = mul-le-mul c.requires.searchable.short few in
-    let strand-cells : length c.fill_bonds.new.counts.1.1.1.1.1.1.1.0 ≡ 4096 = c.fill_bonds.auto.counts.1.1.1.1.1.1.1.0 in
-    let scaffold-cells : length c.fill_bonds.new.counts.1.1.1.1.1.1.1.1.0 ≡ 8192 = c.fill_bonds.auto.counts.1.1.1.1.1.1.1.1.0 in
+    let strand-cells : length c.fill_bonds.new.strand_bonds ≡ 4096 = c.fill_bonds.auto.strand_bonds in
+    let scaffold-cells : length c.fill_bonds.new.scaffold_bonds ≡ 8192 = c.fill_bonds.auto.scaffold_bonds in
     record {
       searchable = c.requires.searchable;
       potentials_in_bounds = omega arith;

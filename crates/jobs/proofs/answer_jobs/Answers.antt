@@ -4,25 +4,16 @@ use Rattle.jobs.specs.inner.Settled.{energy_of_word, stretches_in}
 use Rattle.design.specs.Design.{Design, design, positions, model_of}
 use Rattle.ensemble.proofs.Options.{product_is}
 use Rattle.model.specs.Search as Search
-use Rattle.model.specs.States.{count}
 use lib.Ieee.{Float}
 use lib.Seq.{take_at}
 use lib.ListN.{length, drop, replicate, length-take, length-append}
 use native.Mathlib.Omega.{arith}
 use native.Mathlib.Nat.{mul-le-mul}
-use Prim.Native.Nat.{ℕ, ◌-◌, ◌*◌, ◌≤◌, min}
+use Prim.Native.Nat.{ℕ, ◌-◌, min}
 use mathlib.Core.List.{List, map}
 use mathlib.Core.Path.{◌≡◌, refl, sym, ap, ◌∙◌}
-use borrow.Author.Rules.{rules}
-use Rattle.jobs.proofs.answer_jobs.Reads as reads
-use Rattle.jobs.proofs.answer_jobs.Lts as lts
-use Rattle.jobs.proofs.fill.fill_counts.Reads as fill-counts-reads
-use Rattle.jobs.proofs.fill.fill_energies.Reads as fill-energies-reads
-use Rattle.jobs.proofs.fill.fill_stretches.Reads as fill-stretches-reads
-use Rattle.jobs.proofs.settle.settle.Reads as settle-reads
 use Rattle.jobs.proofs.answer_jobs.Goals as goal
 
--- src/lib.rt:120:9
 pub settle-least-requires : goal.settle-least-requires
 settle-least-requires c =
     let a = c.args in
@@ -41,7 +32,6 @@ settle-least-requires c =
       configuration_len = omega (arith, length-take (n - 0) (replicate {A = ℕ} 128 0));
     }
 
--- src/lib.rt:135:5
 pub fill_energies-requires : goal.fill_energies-requires
 fill_energies-requires c =
     let a = c.args in
@@ -52,8 +42,8 @@ fill_energies-requires c =
     let area = mul-le-mul short few in
     let same = p.options_len in
     let n = length a.scaffold.now in
-    let strand-cells : length c.settle-least.new.options.1.1.1.1.1.1.1.0 ≡ 4096 = c.settle-least.auto.options.1.1.1.1.1.1.1.0 in
-    let scaffold-cells : length c.settle-least.new.options.1.1.1.1.1.1.1.1.0 ≡ 8192 = c.settle-least.auto.options.1.1.1.1.1.1.1.1.0 in
+    let strand-cells : length c.settle-least.new.strand_bonds ≡ 4096 = c.settle-least.auto.strand_bonds in
+    let scaffold-cells : length c.settle-least.new.scaffold_bonds ≡ 8192 = c.settle-least.auto.scaffold_bonds in
     record {
       searchable = p.searchable;
       potentials_nonzero = p.potentials_nonzero;
@@ -64,11 +54,9 @@ fill_energies-requires c =
       energies_len = p.energies_len;
     }
 
--- src/lib.rt:145:5
 pub fill_counts-requires : goal.fill_counts-requires
 fill_counts-requires c = c.requires.counts_len
 
--- src/lib.rt:146:26
 pub slice_bounds-fill_stretches-end : goal.slice_bounds-fill_stretches-end
 slice_bounds-fill_stretches-end c =
     let a = c.args in
@@ -79,14 +67,13 @@ slice_bounds-fill_stretches-end c =
     let area = mul-le-mul short few in
     let same = p.options_len in
     let n = length a.scaffold.now in
-    let shown = c.settle-least.new.options.1.1.1.1.1.1.1.1.1.0 in
-    let number : length shown ≡ n = c.settle-least.auto.options.1.1.1.1.1.1.1.1.1.0 ∙ (omega (arith, length-take (n - 0) (replicate {A = ℕ} 128 0))) in
+    let shown = c.settle-least.new.configuration in
+    let number : length shown ≡ n = c.settle-least.auto.configuration ∙ (omega (arith, length-take (n - 0) (replicate {A = ℕ} 128 0))) in
     simp length-append (omega arith)
 
--- src/lib.rt:146:5
 pub fill_stretches-requires : goal.fill_stretches-requires
 fill_stretches-requires c =
-    let all = let a = c.args in
+    let a = c.args in
     let p = c.requires in
     let few = p.searchable.few in
     let short = p.searchable.short in
@@ -94,17 +81,16 @@ fill_stretches-requires c =
     let area = mul-le-mul short few in
     let same = p.options_len in
     let n = length a.scaffold.now in
-    let shown = c.settle-least.new.options.1.1.1.1.1.1.1.1.1.0 in
-    let number : length shown ≡ n = c.settle-least.auto.options.1.1.1.1.1.1.1.1.1.0 ∙ (omega (arith, length-take (n - 0) (replicate {A = ℕ} 128 0))) in
+    let shown = c.settle-least.new.configuration in
+    let number : length shown ≡ n = c.settle-least.auto.configuration ∙ (omega (arith, length-take (n - 0) (replicate {A = ℕ} 128 0))) in
     let full : length shown ≡ n - 0 = omega (arith, number) in
     let again = take_at shown (drop (n - 0) (replicate {A = ℕ} 128 0)) (n - 0) full in
-    rw (again, number) (p.jobs_len_bound, (omega arith, p.stretches_len)) in record {
-      jobs_len_bound = all.0;
-      configuration_len_bound = all.1.0;
-      stretches_len = all.1.1;
+    record {
+      jobs_len_bound = p.jobs_len_bound;
+      configuration_len_bound = rw (again, number) (omega arith);
+      stretches_len = rw (again, number) p.stretches_len;
     }
 
--- src/lib.rt:90:1
 pub returns : goal.returns
 unfolding model_of
 returns c =
@@ -117,8 +103,8 @@ returns c =
     let area = mul-le-mul short few in
     let same = p.options_len in
     let n = length a.scaffold.now in
-    let shown = c.settle-least.new.options.1.1.1.1.1.1.1.1.1.0 in
-    let number : length shown ≡ n = c.settle-least.auto.options.1.1.1.1.1.1.1.1.1.0 ∙ (omega (arith, length-take (n - 0) (replicate {A = ℕ} 128 0))) in
+    let shown = c.settle-least.new.configuration in
+    let number : length shown ≡ n = c.settle-least.auto.configuration ∙ (omega (arith, length-take (n - 0) (replicate {A = ℕ} 128 0))) in
     let full : length shown ≡ n - 0 = omega (arith, number) in
     let again = take_at shown (drop (n - 0) (replicate {A = ℕ} 128 0)) (n - 0) full in
     let d : Design = design a.scaffold.now marks a.glues.now a.dg.now a.ds.now a.potentials.now a.ambient in

@@ -7,7 +7,6 @@ use Prim.Native.Nat.{ℕ}
 use lib.Dec.{eqb}
 use lib.ListN.{length}
 use lib.Ieee.{binary64, fits}
-use borrow.Author.Rules.{rules}
 use borrow.Author.Tests.{eq-eqb, eqb-true, not-false}
 use Rattle.doubles.specs.Decimal.{zero}
 use Rattle.reply.specs.Figures.{given}
@@ -49,7 +48,7 @@ returns-in-Admitted c =
     let e = c.args.configuration.now in
     let admitted = sym c.design_reply.ensures ∙ c.in-Admitted.is in
     let found = c.searched-energy.ensures in
-    let field = c.well-formed.1.1.1.1.1.1.0.1.1 in
+    let field = c.well_formed.1.1.1.1.1.1.0.1.1 in
     let rt : fits binary64 c.args.ambient.rt.0 ≡ true = field.0.1.1.0.1 in
     let strand : fits binary64 c.args.ambient.strand_excess.0 ≡ true = field.1.0.1.1.0.1 in
     let scaffold : fits binary64 c.args.ambient.scaffold_excess.0 ≡ true = field.1.1.0.1.1.0.1 in

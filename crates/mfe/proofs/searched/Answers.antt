@@ -1,17 +1,16 @@
 -- The table of strand bonds is large enough. Assumes nothing.
 use native.Mathlib.Nat.{mul-le-mul}
 use native.Mathlib.Omega.{arith}
-use borrow.Author.Rules.{rules}
 use Rattle.design.specs.Design.{lent}
 use Rattle.design.proofs.Sizes.{sized}
 use Rattle.mfe.proofs.searched.Goals as goal
 
 pub with_scaffold_bonds-requires : goal.with_scaffold_bonds-requires
 with_scaffold_bonds-requires c = let room = mul-le-mul c.if-potentials-le16.true c.if-potentials-le16.true in record {
-      admitted = c.requires.admitted;
-      potentials_in_bounds = omega arith;
-      configuration_len = c.requires.configuration_len;
-    }
+  admitted = c.requires.admitted;
+  potentials_in_bounds = omega arith;
+  configuration_len = c.requires.configuration_len;
+}
 
 pub with_scaffold_bonds-requires-2 : goal.with_scaffold_bonds-requires-2
 with_scaffold_bonds-requires-2 c =

@@ -4,7 +4,6 @@ use Prim.Native.Nat.{ℕ, ◌-◌}
 use native.Mathlib.Omega.{arith}
 use lib.ListN.{length, drop, replicate, length-append, length-take}
 use lib.Seq.{take_at}
-use borrow.Author.Rules.{rules}
 use Rattle.design.specs.Design.{Design, lent, positions, model_of}
 use Rattle.design.proofs.Sizes.{sized}
 use Rattle.design.proofs.Replies.{tables-of}
@@ -41,16 +40,16 @@ pub slice_bounds-fill_read_strand_bonds-end-2 : goal.slice_bounds-fill_read_stra
 unfolding model_of
 slice_bounds-fill_read_strand_bonds-end-2 c =
     let d : Design = lent c.args.scaffold c.args.marks c.args.glues c.args.dg c.args.ds c.args.potentials c.args.ambient in
-    let number : length c.fill_options.new.marks.1.1.1.1.1.1.0 ≡ positions d = placed d (c.fill_options.ensures.option_rows (model_of d) refl) in
+    let number : length c.fill_options.new.counts ≡ positions d = placed d (c.fill_options.ensures.option_rows (model_of d) refl) in
     simp length-append (omega arith)
 
 pub fill_read_strand_bonds-requires : goal.fill_read_strand_bonds-requires
 unfolding model_of
 fill_read_strand_bonds-requires c =
     let d : Design = lent c.args.scaffold c.args.marks c.args.glues c.args.dg c.args.ds c.args.potentials c.args.ambient in
-    let number : length c.fill_options.new.marks.1.1.1.1.1.1.0 ≡ positions d = placed d (c.fill_options.ensures.option_rows (model_of d) refl) in
-    let full : length c.fill_options.new.marks.1.1.1.1.1.1.0 ≡ positions d - 0 = omega (arith, number) in
-    let again = take_at c.fill_options.new.marks.1.1.1.1.1.1.0 (drop (positions d - 0) (replicate {A = ℕ} 128 0)) (positions d - 0) full in
+    let number : length c.fill_options.new.counts ≡ positions d = placed d (c.fill_options.ensures.option_rows (model_of d) refl) in
+    let full : length c.fill_options.new.counts ≡ positions d - 0 = omega (arith, number) in
+    let again = take_at c.fill_options.new.counts (drop (positions d - 0) (replicate {A = ℕ} 128 0)) (positions d - 0) full in
     record {
       searchable = rw again c.fill_options.ensures.searchable;
       strands_in_bounds = c.requires.potentials_in_bounds;
@@ -60,16 +59,16 @@ pub slice_bounds-fill_needed_scaffold_bonds-end-2 : goal.slice_bounds-fill_neede
 unfolding model_of
 slice_bounds-fill_needed_scaffold_bonds-end-2 c =
     let d : Design = lent c.args.scaffold c.args.marks c.args.glues c.args.dg c.args.ds c.args.potentials c.args.ambient in
-    let number : length c.fill_options.new.marks.1.1.1.1.1.1.0 ≡ positions d = placed d (c.fill_options.ensures.option_rows (model_of d) refl) in
+    let number : length c.fill_options.new.counts ≡ positions d = placed d (c.fill_options.ensures.option_rows (model_of d) refl) in
     simp length-append (omega arith)
 
 pub fill_needed_scaffold_bonds-requires : goal.fill_needed_scaffold_bonds-requires
 unfolding model_of
 fill_needed_scaffold_bonds-requires c =
     let d : Design = lent c.args.scaffold c.args.marks c.args.glues c.args.dg c.args.ds c.args.potentials c.args.ambient in
-    let number : length c.fill_options.new.marks.1.1.1.1.1.1.0 ≡ positions d = placed d (c.fill_options.ensures.option_rows (model_of d) refl) in
-    let full : length c.fill_options.new.marks.1.1.1.1.1.1.0 ≡ positions d - 0 = omega (arith, number) in
-    let again = take_at c.fill_options.new.marks.1.1.1.1.1.1.0 (drop (positions d - 0) (replicate {A = ℕ} 128 0)) (positions d - 0) full in
+    let number : length c.fill_options.new.counts ≡ positions d = placed d (c.fill_options.ensures.option_rows (model_of d) refl) in
+    let full : length c.fill_options.new.counts ≡ positions d - 0 = omega (arith, number) in
+    let again = take_at c.fill_options.new.counts (drop (positions d - 0) (replicate {A = ℕ} 128 0)) (positions d - 0) full in
     record {
       searchable = rw again c.fill_options.ensures.searchable;
       strands_in_bounds = rw (again, number) c.requires.potentials_in_bounds_2;
@@ -79,16 +78,16 @@ pub slice_bounds-lowest-end-2 : goal.slice_bounds-lowest-end-2
 unfolding model_of
 slice_bounds-lowest-end-2 c =
     let d : Design = lent c.args.scaffold c.args.marks c.args.glues c.args.dg c.args.ds c.args.potentials c.args.ambient in
-    let number : length c.fill_options.new.marks.1.1.1.1.1.1.0 ≡ positions d = placed d (c.fill_options.ensures.option_rows (model_of d) refl) in
+    let number : length c.fill_options.new.counts ≡ positions d = placed d (c.fill_options.ensures.option_rows (model_of d) refl) in
     simp length-append (omega arith)
 
 pub lowest-requires : goal.lowest-requires
 unfolding model_of
 lowest-requires c =
     let d : Design = lent c.args.scaffold c.args.marks c.args.glues c.args.dg c.args.ds c.args.potentials c.args.ambient in
-    let number : length c.fill_options.new.marks.1.1.1.1.1.1.0 ≡ positions d = placed d (c.fill_options.ensures.option_rows (model_of d) refl) in
-    let full : length c.fill_options.new.marks.1.1.1.1.1.1.0 ≡ positions d - 0 = omega (arith, number) in
-    let again = take_at c.fill_options.new.marks.1.1.1.1.1.1.0 (drop (positions d - 0) (replicate {A = ℕ} 128 0)) (positions d - 0) full in
+    let number : length c.fill_options.new.counts ≡ positions d = placed d (c.fill_options.ensures.option_rows (model_of d) refl) in
+    let full : length c.fill_options.new.counts ≡ positions d - 0 = omega (arith, number) in
+    let again = take_at c.fill_options.new.counts (drop (positions d - 0) (replicate {A = ℕ} 128 0)) (positions d - 0) full in
     let bonds = c.fill_read_strand_bonds in
     let sites = c.fill_needed_scaffold_bonds in
     record {
@@ -102,8 +101,8 @@ pub returns : goal.returns
 unfolding model_of
 returns c =
     let d : Design = lent c.args.scaffold c.args.marks c.args.glues c.args.dg c.args.ds c.args.potentials c.args.ambient in
-    let number : length c.fill_options.new.marks.1.1.1.1.1.1.0 ≡ positions d = placed d (c.fill_options.ensures.option_rows (model_of d) refl) in
-    let full : length c.fill_options.new.marks.1.1.1.1.1.1.0 ≡ positions d - 0 = omega (arith, number) in
-    let again = take_at c.fill_options.new.marks.1.1.1.1.1.1.0 (drop (positions d - 0) (replicate {A = ℕ} 128 0)) (positions d - 0) full in
+    let number : length c.fill_options.new.counts ≡ positions d = placed d (c.fill_options.ensures.option_rows (model_of d) refl) in
+    let full : length c.fill_options.new.counts ≡ positions d - 0 = omega (arith, number) in
+    let again = take_at c.fill_options.new.counts (drop (positions d - 0) (replicate {A = ℕ} 128 0)) (positions d - 0) full in
     let options = c.fill_options.ensures.option_rows (model_of d) refl in
     c.lowest.ensures (model_of d) (rw again options) (bond-cells d c.requires.admitted options (rw again at c.fill_read_strand_bonds.ensures) (rw again at c.fill_needed_scaffold_bonds.ensures)) refl

@@ -1,7 +1,6 @@
 -- The table of scaffold bonds is large enough. Assumes nothing.
 use native.Mathlib.Nat.{mul-le-mul}
 use native.Mathlib.Omega.{arith}
-use borrow.Author.Rules.{rules}
 use Rattle.design.specs.Design.{lent}
 use Rattle.design.proofs.Sizes.{sized}
 use Rattle.mfe.proofs.with_scaffold_bonds.Goals as goal

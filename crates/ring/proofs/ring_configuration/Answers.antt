@@ -8,7 +8,6 @@ use native.Mathlib.Omega.{arith}
 use lib.Dec.{eqb}
 use lib.ListN.{length}
 use lib.Ieee.{binary64, fits}
-use borrow.Author.Rules.{rules}
 use borrow.Author.Tests.{eq-eqb}
 use Rattle.doubles.specs.Decimal.{zero}
 use Rattle.reply.specs.Figures.{given}
@@ -28,7 +27,6 @@ own_size d entries = not (eqb (length entries) (positions d))
 
 pub searched-energy-requires : goal.searched-energy-requires
 searched-energy-requires c =
-    
     let d : Design = lent c.args.scaffold c.args.marks c.args.glues c.args.dg c.args.ds c.args.potentials c.args.ambient in
     let e = c.args.configuration.now in
     let w = ring-passed d e [] (sym (search-joined d (own_size d e) c.or.ensures c.design_reply-fit.ensures c.refused_if-short.ensures) ∙ c.in-Admitted.is) in
@@ -41,7 +39,6 @@ searched-energy-requires c =
 
 pub returns-in-Refused : goal.returns-in-Refused
 returns-in-Refused c =
-    
     let d : Design = lent c.args.scaffold c.args.marks c.args.glues c.args.dg c.args.ds c.args.potentials c.args.ambient in
     let e = c.args.configuration.now in
     let refused = sym (search-joined d (own_size d e) c.or.ensures c.design_reply-fit.ensures c.refused_if-short.ensures) ∙ c.in-Refused.is in record {
@@ -52,12 +49,11 @@ returns-in-Refused c =
 
 pub returns-in-Admitted : goal.returns-in-Admitted
 returns-in-Admitted c =
-    
     let d : Design = lent c.args.scaffold c.args.marks c.args.glues c.args.dg c.args.ds c.args.potentials c.args.ambient in
     let e = c.args.configuration.now in
     let admitted = sym (search-joined d (own_size d e) c.or.ensures c.design_reply-fit.ensures c.refused_if-short.ensures) ∙ c.in-Admitted.is in
     let found = c.searched-energy.ensures in
-    let field = c.well-formed.1.1.1.1.1.1.0.1.1 in
+    let field = c.well_formed.1.1.1.1.1.1.0.1.1 in
     let rt : fits binary64 c.args.ambient.rt.0 ≡ true = field.0.1.1.0.1 in
     let strand : fits binary64 c.args.ambient.strand_excess.0 ≡ true = field.1.0.1.1.0.1 in
     let scaffold : fits binary64 c.args.ambient.scaffold_excess.0 ≡ true = field.1.1.0.1.1.0.1 in

@@ -1,9 +1,6 @@
 -- `ring_energy` meets its contract. Assumes nothing.
-use borrow.Author.Rules.{rules}
-use mathlib.Core.Path.{◌≡◌, sym, ap, ◌∙◌}
-use Prim.Native.Nat.{◌-◌, ◌≤◌}
+use mathlib.Core.Path.{sym, ap, ◌∙◌}
 use native.Mathlib.Omega.{arith}
-use lib.ListN.{length}
 use lib.Ieee.{Float, binary64, mul}
 use Rattle.doubles.specs.Decimal.{zero}
 use Rattle.reply.specs.Figures.{given}
@@ -16,7 +13,6 @@ use Rattle.ring.proofs.ring_energy.Goals as goal
 
 pub fill_terms-requires : goal.fill_terms-requires
 fill_terms-requires c =
-    
     let d : Design = lent c.args.scaffold c.args.marks c.args.glues c.args.dg c.args.ds c.args.potentials c.args.ambient in
     let e = c.args.configuration.now in
     let w = ring-passed d e (own_energy_checks d e) (sym (energy-joined d e c.or.ensures c.energy_reply-chain.ensures c.refused_if-short.ensures) ∙ c.in-Admitted.is) in
@@ -31,7 +27,6 @@ fill_terms-requires c =
 
 pub bounds-configuration-0 : goal.bounds-configuration-0
 bounds-configuration-0 c =
-    
     let d : Design = lent c.args.scaffold c.args.marks c.args.glues c.args.dg c.args.ds c.args.potentials c.args.ambient in
     let e = c.args.configuration.now in
     let w = ring-passed d e (own_energy_checks d e) (sym (energy-joined d e c.or.ensures c.energy_reply-chain.ensures c.refused_if-short.ensures) ∙ c.in-Admitted.is) in
@@ -42,7 +37,6 @@ bounds-configuration-0 c =
 
 pub overflow_sub-last : goal.overflow_sub-last
 overflow_sub-last c =
-    
     let d : Design = lent c.args.scaffold c.args.marks c.args.glues c.args.dg c.args.ds c.args.potentials c.args.ambient in
     let e = c.args.configuration.now in
     let w = ring-passed d e (own_energy_checks d e) (sym (energy-joined d e c.or.ensures c.energy_reply-chain.ensures c.refused_if-short.ensures) ∙ c.in-Admitted.is) in
@@ -53,7 +47,6 @@ overflow_sub-last c =
 
 pub bounds-configuration-configuration : goal.bounds-configuration-configuration
 bounds-configuration-configuration c =
-    
     let d : Design = lent c.args.scaffold c.args.marks c.args.glues c.args.dg c.args.ds c.args.potentials c.args.ambient in
     let e = c.args.configuration.now in
     let w = ring-passed d e (own_energy_checks d e) (sym (energy-joined d e c.or.ensures c.energy_reply-chain.ensures c.refused_if-short.ensures) ∙ c.in-Admitted.is) in
@@ -64,7 +57,6 @@ bounds-configuration-configuration c =
 
 pub ring_sum-sum-requires : goal.ring_sum-sum-requires
 ring_sum-sum-requires c =
-    
     let d : Design = lent c.args.scaffold c.args.marks c.args.glues c.args.dg c.args.ds c.args.potentials c.args.ambient in
     let e = c.args.configuration.now in
     let w = ring-passed d e (own_energy_checks d e) (sym (energy-joined d e c.or.ensures c.energy_reply-chain.ensures c.refused_if-short.ensures) ∙ c.in-Admitted.is) in
@@ -80,7 +72,6 @@ ring_sum-sum-requires c =
 
 pub returns-in-Refused : goal.returns-in-Refused
 returns-in-Refused c =
-    
     let d : Design = lent c.args.scaffold c.args.marks c.args.glues c.args.dg c.args.ds c.args.potentials c.args.ambient in
     let e = c.args.configuration.now in
     refused-by zero (ring_energy (model_of d) e) (sym (energy-joined d e c.or.ensures c.energy_reply-chain.ensures c.refused_if-short.ensures) ∙ c.in-Refused.is)
@@ -88,7 +79,6 @@ returns-in-Refused c =
 pub returns-in-Admitted : goal.returns-in-Admitted
 unfolding ring_energy model_of
 returns-in-Admitted c =
-    
     let d : Design = lent c.args.scaffold c.args.marks c.args.glues c.args.dg c.args.ds c.args.potentials c.args.ambient in
     let e = c.args.configuration.now in
     let admitted = sym (energy-joined d e c.or.ensures c.energy_reply-chain.ensures c.refused_if-short.ensures) ∙ c.in-Admitted.is in

@@ -1,6 +1,5 @@
 -- The range test of both tables meets its contract. Assumes nothing.
-use borrow.Author.Rules.{rules}
-use mathlib.Core.Path.{◌≡◌, sym, ◌∙◌}
+use mathlib.Core.Path.{sym, ◌∙◌}
 use Rattle.bond_tables.specs.Tables.{bonds_out}
 use Rattle.bond_tables.proofs.checks.bonds_out.Goals as goal
 

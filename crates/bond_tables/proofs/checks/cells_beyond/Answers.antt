@@ -1,14 +1,12 @@
 use mathlib.Core.Path.{◌≡◌, refl, sym, ap, ◌∙◌}
 use mathlib.Core.Bool.{true, false, not}
 use mathlib.Core.List.{List}
-use mathlib.Core.Logic.{inl, inr}
-use Prim.Native.Nat.{ℕ, ◌+◌, ◌<◌, ◌≤◌, ◌-◌}
+use Prim.Native.Nat.{ℕ, ◌+◌, ◌<◌}
 use native.Mathlib.Omega.{arith}
 use lib.ListN.{length, get_or}
 use lib.Ieee.{Float, nan, neg, of_bits}
-use borrow.Author.Rules.{rules}
 use Rattle.doubles.specs.Decimal.{nearest}
-use Rattle.lists.proofs.Any.{CountedOrLeft, here, later, past}
+use Rattle.lists.proofs.Any.{here, later, past}
 use Rattle.design.specs.Checks.{beyond}
 use Rattle.bond_tables.proofs.checks.cells_beyond.Invariants.{Counted}
 use Rattle.bond_tables.proofs.checks.cells_beyond.Goals as goal
@@ -30,7 +28,7 @@ loop-i-preserved c =
     let inside : l.i < length cells = c.loop-i-test.true in
     let is = ap not (sym c.in_range.ensures) in (
       omega arith,
-      elim c.if-not-in_range.branch [ inl w ↦ counted-here cells l.i l.out c.if-not-in_range.out inside (is ∙ w.0.taken) l.invariant.1 w.1 | inr w ↦ counted-later cells l.i l.out c.if-not-in_range.out inside (is ∙ w.0.left) l.invariant.1 w.1 ],
+      elim c.if-not-in_range.branch [ goal.then-not-in_range w ↦ counted-here cells l.i l.out c.if-not-in_range.out inside (is ∙ ap not w.if-not-in_range.true) l.invariant.1 w.out-is | goal.else-not-in_range w ↦ counted-later cells l.i l.out c.if-not-in_range.out inside (is ∙ ap not w.if-not-in_range.false) l.invariant.1 w.out-is ],
     )
 
 pub returns : goal.returns

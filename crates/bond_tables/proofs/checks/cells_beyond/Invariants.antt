@@ -1,15 +1,9 @@
 -- The range test of a table's cells meets its contract. The invariant: some cell is out if one was counted or one is left. Assumes nothing.
-use mathlib.Core.Path.{◌≡◌, refl, sym, ap, ◌∙◌}
-use mathlib.Core.Bool.{true, false, not}
 use mathlib.Core.List.{List}
-use mathlib.Core.Logic.{inl, inr}
-use Prim.Native.Nat.{ℕ, ◌+◌, ◌<◌, ◌≤◌, ◌-◌}
-use native.Mathlib.Omega.{arith}
-use lib.ListN.{length, get_or}
-use lib.Ieee.{Float, nan, neg, of_bits}
-use borrow.Author.Rules.{rules}
-use Rattle.doubles.specs.Decimal.{nearest}
-use Rattle.lists.proofs.Any.{CountedOrLeft, here, later, past}
+use Prim.Native.Nat.{ℕ, ◌≤◌, ◌-◌}
+use lib.ListN.{length}
+use lib.Ieee.{Float}
+use Rattle.lists.proofs.Any.{CountedOrLeft}
 use Rattle.design.specs.Checks.{beyond}
 use Rattle.bond_tables.proofs.checks.cells_beyond.Given as goal
 

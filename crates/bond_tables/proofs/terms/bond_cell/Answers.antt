@@ -1,5 +1,4 @@
 -- The reading of a cell meets its contract. Assumes nothing.
-use borrow.Author.Rules.{rules}
 use Prim.Native.Nat.{◌*◌, ◌≤◌}
 use native.Mathlib.Nat.{mul-le-mul_right}
 use native.Mathlib.Omega.{arith}
@@ -14,6 +13,6 @@ overflow_mul-row c =
 pub overflow_add-row : goal.overflow_add-row
 overflow_add-row c =
     let few = c.requires.strands_bound in
-    let known = c.well-formed in
+    let known = c.well_formed in
     let product : c.args.row * c.args.strands ≤ 255 * c.args.strands = mul-le-mul_right c.args.strands c.requires.row_bound in
     omega (arith, few, product)

@@ -1,12 +1,10 @@
-use borrow.Author.Rules.{rules}
 use mathlib.Core.Path.{◌≡◌, ap, ◌∙◌}
 use mathlib.Core.List.{List}
-use Prim.Native.Nat.{ℕ, ◌+◌, ◌-◌, ◌≤◌}
+use Prim.Native.Nat.{ℕ}
 use native.Mathlib.Omega.{arith}
 use lib.ListN.{length, get_or, set}
 use lib.Ieee.{Float, nan}
-use Rattle.doubles.specs.Decimal.{zero}
-use Rattle.lists.proofs.Counted.{stored, stored-none, stored-length, stored_more}
+use Rattle.lists.proofs.Counted.{stored-none, stored-length, stored_more}
 use Rattle.design.specs.Design.{model_of}
 use Rattle.design.proofs.Parts.{stored_at}
 use Rattle.bond_tables.specs.Tables.{bond_cell, model_over}
@@ -18,9 +16,9 @@ loop-position-init c = (omega arith, stored-none (site_term (length c.args.poten
 
 pub bond_cell-requires : goal.bond_cell-requires
 bond_cell-requires c = record {
-      strands_bound = c.requires.potentials_len_bound;
-      row_bound = omega (arith, c.loop-position-test.true, c.requires.configuration_len_bound);
-    }
+  strands_bound = c.requires.potentials_len_bound;
+  row_bound = omega (arith, c.loop-position-test.true, c.requires.configuration_len_bound);
+}
 
 pub bounds-sites-position : goal.bounds-sites-position
 bounds-sites-position c =
@@ -32,9 +30,9 @@ overflow_cast-strand c = let low = c.type_inv.configuration c.loop-position.posi
 
 pub bond_cell-requires-in-loop-position : goal.bond_cell-requires-in-loop-position
 bond_cell-requires-in-loop-position c = let low = c.type_inv.configuration c.loop-position.position in record {
-      strands_bound = c.requires.potentials_len_bound;
-      row_bound = omega (arith, low);
-    }
+  strands_bound = c.requires.potentials_len_bound;
+  row_bound = omega (arith, low);
+}
 
 pub bounds-pairs-position : goal.bounds-pairs-position
 bounds-pairs-position c =
@@ -73,7 +71,7 @@ returns c =
     let l = c.loop-position in
     let a = c.args in
     let past = c.loop-position-test.false in
-    record {
+    λ d e. record {
       site = λ i h _. rw (l.invariant.1, e) (stored_at (site_term (length c.args.potentials.now) c.args.scaffold_bonds.now c.args.configuration.now) l.position a.sites.now nan i (omega arith));
       pair = λ i h. rw (l.invariant.2, e) (stored_at (pair_term (length c.args.potentials.now) c.args.strand_bonds.now c.args.configuration.now) l.position a.pairs.now nan i (omega arith));
       log = λ i h _. rw (l.invariant.3, e) (stored_at (log_term c.args.potentials.now c.args.configuration.now) l.position a.logs.now nan i (omega arith));

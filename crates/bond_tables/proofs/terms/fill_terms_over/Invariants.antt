@@ -1,16 +1,12 @@
 -- The filling of a configuration's terms meets its contract. The invariant: those of the places passed are stored. Assumes nothing.
-use borrow.Author.Rules.{rules}
-use mathlib.Core.Path.{◌≡◌, ap, ◌∙◌}
+use mathlib.Core.Path.{◌≡◌}
 use mathlib.Core.List.{List}
 use Prim.Native.Nat.{ℕ, ◌+◌, ◌-◌, ◌≤◌}
-use native.Mathlib.Omega.{arith}
-use lib.ListN.{length, get_or, set}
-use lib.Ieee.{Float, nan}
+use lib.ListN.{length, get_or}
+use lib.Ieee.{Float}
 use Rattle.doubles.specs.Decimal.{zero}
-use Rattle.lists.proofs.Counted.{stored, stored-none, stored-length, stored_more}
-use Rattle.design.specs.Design.{model_of}
-use Rattle.design.proofs.Parts.{stored_at}
-use Rattle.bond_tables.specs.Tables.{bond_cell, model_over}
+use Rattle.lists.proofs.Counted.{stored}
+use Rattle.bond_tables.specs.Tables.{bond_cell}
 use Rattle.bond_tables.proofs.terms.fill_terms_over.Given as goal
 
 abbrev pub site_term : ℕ → List Float → List ℕ → ℕ → Float

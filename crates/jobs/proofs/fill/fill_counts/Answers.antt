@@ -1,52 +1,41 @@
 use Rattle.jobs.specs.inner.Settled.{count_held, count_of_word}
 use Rattle.lists.proofs.Places.{tabulate-places}
-use Rattle.lists.proofs.Counted.{stored, stored-none, stored-length, stored_more, stored-whole}
+use Rattle.lists.proofs.Counted.{stored-none, stored-length, stored_more, stored-whole}
 use Rattle.lists.specs.Build.{tabulate}
-use lib.ListN.{length, get_or, set, length-set}
+use lib.ListN.{length, get_or, set}
 use native.Mathlib.Omega.{arith}
-use Prim.Native.Nat.{ℕ, ◌+◌, ◌-◌, ◌<◌, ◌≤◌}
+use Prim.Native.Nat.{ℕ, ◌<◌, ◌≤◌}
 use mathlib.Core.List.{List}
-use mathlib.Core.Path.{◌≡◌, refl, sym, ap, ◌∙◌}
-use borrow.Author.Rules.{rules}
-use Rattle.jobs.proofs.fill.fill_counts.Reads as reads
-use Rattle.jobs.proofs.fill.fill_counts.Lts as lts
-use Rattle.jobs.proofs.fill.job_count.Reads as job-count-reads
-use Rattle.jobs.proofs.job.read.Reads as read-reads
+use mathlib.Core.Path.{◌≡◌, refl, ap, ◌∙◌}
 use Rattle.jobs.proofs.fill.fill_counts.Goals as goal
 
--- src/fill.rt:92:5
 pub loop-k-init : goal.loop-k-init
 loop-k-init c = (omega arith, stored-none (λ i. count_of_word c.args.states (get_or c.args.jobs.now i 0)) c.args.counts.now)
 
--- src/fill.rt:93:9
 pub offset_bounds-counts-k : goal.offset_bounds-counts-k
 offset_bounds-counts-k c =
     let most : c.loop-k.k ≤ length c.args.counts.now = omega arith in
     let sized : length c.loop-k.counts ≡ length c.args.counts.now = ap length c.loop-k.invariant.1 ∙ stored-length (λ i. count_of_word c.args.states (get_or c.args.jobs.now i 0)) c.loop-k.k c.args.counts.now most in
     omega arith
 
--- src/fill.rt:93:9
 pub bounds-counts-k : goal.bounds-counts-k
 bounds-counts-k c =
     let most : c.loop-k.k ≤ length c.args.counts.now = omega arith in
     let sized : length c.loop-k.counts ≡ length c.args.counts.now = ap length c.loop-k.invariant.1 ∙ stored-length (λ i. count_of_word c.args.states (get_or c.args.jobs.now i 0)) c.loop-k.k c.args.counts.now most in
     omega arith
 
--- src/fill.rt:92:5
 pub loop-k-preserved : goal.loop-k-preserved
 unfolding count_of_word
 loop-k-preserved c =
     let here : c.loop-k.k < length c.args.counts.now = omega arith in
     (omega arith, ap (λ (t : List ℕ). set t c.loop-k.k c.job_count.result) c.loop-k.invariant.1 ∙ stored_more (λ i. count_of_word c.args.states (get_or c.args.jobs.now i 0)) c.loop-k.k c.args.counts.now c.job_count.result here (c.job_count.ensures ∙ ap (count_held c.args.states) c.read.ensures))
 
--- src/fill.rt:87:1
 pub shape_of-counts : goal.shape_of-counts
 shape_of-counts c =
     let most : c.loop-k.k ≤ length c.args.counts.now = omega arith in
     let sized : length c.loop-k.counts ≡ length c.args.counts.now = ap length c.loop-k.invariant.1 ∙ stored-length (λ i. count_of_word c.args.states (get_or c.args.jobs.now i 0)) c.loop-k.k c.args.counts.now most in
     sized
 
--- src/fill.rt:87:1
 pub returns : goal.returns
 returns c =
     let all : c.loop-k.k ≡ length c.args.counts.now = omega arith in

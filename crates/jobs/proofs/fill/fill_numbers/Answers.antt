@@ -1,49 +1,36 @@
-use Rattle.jobs.specs.inner.Judged.{JudgedRight}
 use Rattle.jobs.specs.Job.{number_for, job_number}
-use Rattle.design.specs.Design.{Design}
 use Rattle.lists.proofs.Places.{tabulate-places}
-use Rattle.lists.proofs.Counted.{stored, stored-none, stored-length, stored_more, stored-whole}
+use Rattle.lists.proofs.Counted.{stored-none, stored_more, stored-whole}
 use Rattle.lists.specs.Build.{tabulate}
 use lib.ListN.{length, get_or, set, length-set}
 use native.Mathlib.Omega.{arith}
-use Prim.Native.Nat.{ℕ, ◌+◌, ◌-◌, ◌<◌, ◌≤◌}
+use Prim.Native.Nat.{ℕ, ◌<◌}
 use mathlib.Core.List.{List}
-use mathlib.Core.Path.{◌≡◌, refl, sym, ap, ◌∙◌}
-use borrow.Author.Rules.{rules}
-use Rattle.jobs.proofs.fill.fill_numbers.Reads as reads
-use Rattle.jobs.proofs.fill.fill_numbers.Lts as lts
-use Rattle.jobs.proofs.job.read.Reads as read-reads
-use Rattle.jobs.proofs.judge.job_number.Reads as job-number-reads
+use mathlib.Core.Path.{◌≡◌, refl, ap, ◌∙◌}
 use Rattle.jobs.proofs.fill.fill_numbers.Goals as goal
 
--- src/fill.rt:29:5
 pub loop-k-init : goal.loop-k-init
 loop-k-init c = (omega arith, refl, λ d w. stored-none (λ i. job_number d (get_or c.args.jobs.now i 0)) c.args.numbers.now)
 
--- src/fill.rt:30:9
 pub offset_bounds-numbers-k : goal.offset_bounds-numbers-k
 offset_bounds-numbers-k c =
     let sized = c.loop-k.invariant.1 in
     omega arith
 
--- src/fill.rt:30:9
 pub bounds-numbers-k : goal.bounds-numbers-k
 bounds-numbers-k c =
     let sized = c.loop-k.invariant.1 in
     omega arith
 
--- src/fill.rt:29:5
 pub loop-k-preserved : goal.loop-k-preserved
 unfolding job_number
 loop-k-preserved c =
     let here : c.loop-k.k < length c.args.numbers.now = omega arith in
     (omega arith, length-set c.loop-k.numbers c.loop-k.k _ ∙ c.loop-k.invariant.1, λ d w. ap (λ (t : List ℕ). set t c.loop-k.k c.job_number.result) (c.loop-k.invariant.2 d w) ∙ stored_more (λ i. job_number d (get_or c.args.jobs.now i 0)) c.loop-k.k c.args.numbers.now c.job_number.result here (c.job_number.ensures d w ∙ ap (number_for d) c.read.ensures))
 
--- src/fill.rt:24:1
 pub shape_of-numbers : goal.shape_of-numbers
 shape_of-numbers c = c.loop-k.invariant.1
 
--- src/fill.rt:24:1
 pub returns : goal.returns
 returns c =
     λ d w.

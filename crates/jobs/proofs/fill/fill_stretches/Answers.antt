@@ -1,25 +1,17 @@
 use Rattle.jobs.specs.declared.job.Job.{Job}
 use Rattle.jobs.specs.inner.Settled.{stretch_in}
-use mathlib.Core.List.{List}
-use Rattle.jobs.proofs.Stretches.{Filled, filled_none, filled_more, filled-done}
+use Rattle.jobs.proofs.Stretches.{filled_none, filled_more, filled-done}
 use Rattle.lists.proofs.Grid.{row-end}
-use lib.ListN.{length, get_or, take, drop, length-take, length-drop}
+use lib.ListN.{length, take, drop, length-take, length-drop}
 use native.Mathlib.Omega.{arith}
 use native.Mathlib.Nat.{mul-le-mul}
-use Prim.Native.Nat.{ℕ, ◌+◌, ◌-◌, ◌*◌, ◌<◌, ◌≤◌}
-use mathlib.Core.Path.{◌≡◌, refl, sym, ap, ◌∙◌}
-use borrow.Author.Rules.{rules}
-use Rattle.jobs.proofs.fill.fill_stretches.Reads as reads
-use Rattle.jobs.proofs.fill.fill_stretches.Lts as lts
-use Rattle.jobs.proofs.fill.fill_stretch.Reads as fill-stretch-reads
-use Rattle.jobs.proofs.job.read.Reads as read-reads
+use Prim.Native.Nat.{ℕ, ◌+◌, ◌-◌, ◌*◌, ◌<◌}
+use mathlib.Core.Path.{◌≡◌, ap, ◌∙◌}
 use Rattle.jobs.proofs.fill.fill_stretches.Goals as goal
 
--- src/fill.rt:155:5
 pub loop-k-init : goal.loop-k-init
 loop-k-init c = (omega arith, filled_none c.args.configuration.now c.args.jobs.now c.args.stretches.now)
 
--- src/fill.rt:156:21
 pub overflow_mul-start : goal.overflow_mul-start
 overflow_mul-start c =
     let a = c.args in
@@ -31,7 +23,6 @@ overflow_mul-start c =
     let size = p.stretches_len in
     omega arith
 
--- src/fill.rt:157:19
 pub overflow_add-end : goal.overflow_add-end
 overflow_add-end c =
     let a = c.args in
@@ -43,11 +34,9 @@ overflow_add-end c =
     let size = p.stretches_len in
     omega arith
 
--- src/fill.rt:158:52
 pub slice_bounds-fill_stretch-count : goal.slice_bounds-fill_stretch-count
 slice_bounds-fill_stretch-count c = omega arith
 
--- src/fill.rt:158:52
 pub slice_bounds-fill_stretch-end : goal.slice_bounds-fill_stretch-end
 slice_bounds-fill_stretch-end c =
     let a = c.args in
@@ -59,7 +48,6 @@ slice_bounds-fill_stretch-end c =
     let size = p.stretches_len in
     omega arith
 
--- src/fill.rt:158:9
 pub fill_stretch-requires : goal.fill_stretch-requires
 fill_stretch-requires c =
     let a = c.args in
@@ -71,7 +59,6 @@ fill_stretch-requires c =
     let size = p.stretches_len in
     simp (length-take, length-drop) (omega arith)
 
--- src/fill.rt:155:5
 pub loop-k-preserved : goal.loop-k-preserved
 loop-k-preserved c =
     let a = c.args in
@@ -84,19 +71,17 @@ loop-k-preserved c =
     let n = length a.configuration.now in
     let at = c.loop-k.k * n in
     let st = c.loop-k.stretches in
-    let last = c.fill_stretch.new.stretch.1.0 in
+    let last = c.fill_stretch.new.stretch in
     let width : at + n - at ≡ n = omega arith in
     let lent : length (take (at + n - at) (drop at st)) ≡ n = simp (length-take, length-drop) (omega arith) in
-    let kept : length last ≡ length (take (at + n - at) (drop at st)) = c.fill_stretch.auto.stretch.1.0 in
+    let kept : length last ≡ length (take (at + n - at) (drop at st)) = c.fill_stretch.auto.stretch in
     let is : last ≡ stretch_in a.configuration.now c.read.result (take (at + n - at) (drop at st)) = c.fill_stretch.ensures in
     let filled : last ≡ stretch_in a.configuration.now c.read.result (take n (drop at st)) = is ∙ ap (λ (w : ℕ). stretch_in a.configuration.now c.read.result (take w (drop at st))) width in
     (omega arith, rw width (filled_more a.configuration.now a.jobs.now a.stretches.now c.loop-k.k c.loop-k.invariant.1 here size (kept ∙ lent) (filled ∙ ap (λ (j : Job). stretch_in a.configuration.now j (take n (drop at st))) c.read.ensures)))
 
--- src/fill.rt:147:1
 pub shape_of-stretches : goal.shape_of-stretches
 shape_of-stretches c = c.loop-k.invariant.1.sized
 
--- src/fill.rt:147:1
 pub returns : goal.returns
 returns c =
     let all : c.loop-k.k ≡ length c.args.jobs.now = omega arith in

@@ -1,14 +1,9 @@
 use borrow.Author.Tests.{lt-ltb, le-ltb}
 use mathlib.Core.Path.{refl}
-use borrow.Author.Rules.{rules}
-use Rattle.jobs.proofs.fill.job_count.Reads as reads
-use Rattle.jobs.proofs.fill.job_count.Lts as lts
 use Rattle.jobs.proofs.fill.job_count.Goals as goal
 
--- src/fill.rt:78:17
 pub returns-then-states-gt-MOST_STATES : goal.returns-then-states-gt-MOST_STATES
 returns-then-states-gt-MOST_STATES c = rw (c.in-Count.is, lt-ltb 1048576 c.args.states c.if-states-gt-MOST_STATES.true) refl
 
--- src/fill.rt:70:1
 pub returns-else-states-gt-MOST_STATES : goal.returns-else-states-gt-MOST_STATES
 returns-else-states-gt-MOST_STATES c = rw (c.in-Count.is, le-ltb 1048576 c.args.states c.if-states-gt-MOST_STATES.false) refl

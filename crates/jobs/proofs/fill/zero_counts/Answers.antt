@@ -1,52 +1,41 @@
-use Rattle.lists.proofs.Counted.{stored, stored-none, stored-length, stored_more, stored-whole}
-use Rattle.lists.specs.Build.{tabulate}
-use lib.ListN.{length, get_or, set, length-set}
+use Rattle.lists.proofs.Counted.{stored-none, stored-length, stored_more, stored-whole}
+use lib.ListN.{length, set}
 use native.Mathlib.Omega.{arith}
-use Prim.Native.Nat.{ℕ, ◌+◌, ◌-◌, ◌<◌, ◌≤◌}
+use Prim.Native.Nat.{ℕ, ◌<◌}
 use mathlib.Core.List.{List}
-use mathlib.Core.Path.{◌≡◌, refl, sym, ap, ◌∙◌}
+use mathlib.Core.Path.{◌≡◌, refl, ap, ◌∙◌}
 use Rattle.jobs.proofs.Lengths.{tabulate-one}
-use borrow.Author.Rules.{rules}
-use Rattle.jobs.proofs.fill.zero_counts.Reads as reads
-use Rattle.jobs.proofs.fill.zero_counts.Lts as lts
 use Rattle.jobs.proofs.fill.zero_counts.Goals as goal
 
--- src/fill.rt:114:5
 pub loop-k-init : goal.loop-k-init
 loop-k-init c = (omega arith, stored-none (λ _. 0) c.args.counts.now)
 
--- src/fill.rt:115:9
 pub offset_bounds-counts-k : goal.offset_bounds-counts-k
 offset_bounds-counts-k c =
     let sized : length c.loop-k.counts ≡ length c.args.counts.now = ap length c.loop-k.invariant.1 ∙ stored-length (λ _. 0) c.loop-k.k c.args.counts.now c.loop-k.invariant.0 in
     omega arith
 
--- src/fill.rt:115:9
 pub bounds-counts-k : goal.bounds-counts-k
 bounds-counts-k c =
     let sized : length c.loop-k.counts ≡ length c.args.counts.now = ap length c.loop-k.invariant.1 ∙ stored-length (λ _. 0) c.loop-k.k c.args.counts.now c.loop-k.invariant.0 in
     omega arith
 
--- src/fill.rt:114:5
 pub loop-k-smaller : goal.loop-k-smaller
 loop-k-smaller c =
     let sized : length c.loop-k.counts ≡ length c.args.counts.now = ap length c.loop-k.invariant.1 ∙ stored-length (λ _. 0) c.loop-k.k c.args.counts.now c.loop-k.invariant.0 in
     omega arith
 
--- src/fill.rt:114:5
 pub loop-k-preserved : goal.loop-k-preserved
 loop-k-preserved c =
     let sized : length c.loop-k.counts ≡ length c.args.counts.now = ap length c.loop-k.invariant.1 ∙ stored-length (λ _. 0) c.loop-k.k c.args.counts.now c.loop-k.invariant.0 in
     let here : c.loop-k.k < length c.args.counts.now = omega arith in
     (omega arith, ap (λ (t : List ℕ). set t c.loop-k.k _) c.loop-k.invariant.1 ∙ stored_more (λ _. 0) c.loop-k.k c.args.counts.now _ here refl)
 
--- src/fill.rt:110:1
 pub shape_of-counts : goal.shape_of-counts
 shape_of-counts c =
     let sized : length c.loop-k.counts ≡ length c.args.counts.now = ap length c.loop-k.invariant.1 ∙ stored-length (λ _. 0) c.loop-k.k c.args.counts.now c.loop-k.invariant.0 in
     sized
 
--- src/fill.rt:110:1
 pub returns : goal.returns
 returns c =
     let sized : length c.loop-k.counts ≡ length c.args.counts.now = ap length c.loop-k.invariant.1 ∙ stored-length (λ _. 0) c.loop-k.k c.args.counts.now c.loop-k.invariant.0 in

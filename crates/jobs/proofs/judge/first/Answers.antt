@@ -1,14 +1,9 @@
 use borrow.Author.Tests.{eq-eqb, ne_eqb}
 use mathlib.Core.Path.{refl}
-use borrow.Author.Rules.{rules}
-use Rattle.jobs.proofs.judge.first.Reads as reads
-use Rattle.jobs.proofs.judge.first.Lts as lts
 use Rattle.jobs.proofs.judge.first.Goals as goal
 
--- src/judge.rt:30:1
 pub returns-then-number-eq0 : goal.returns-then-number-eq0
 returns-then-number-eq0 c = rw (eq-eqb c.args.number 0 c.if-number-eq0.true) refl
 
--- src/judge.rt:30:1
 pub returns-else-number-eq0 : goal.returns-else-number-eq0
 returns-else-number-eq0 c = rw (ne_eqb c.args.number 0 c.if-number-eq0.false) refl

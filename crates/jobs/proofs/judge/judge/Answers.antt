@@ -1,24 +1,16 @@
 use Rattle.jobs.proofs.States.{front-options, front-searchable}
 use Rattle.design.proofs.Replies.{tabled}
 use Rattle.design.proofs.Sizes.{sized}
-use Rattle.design.specs.Design.{Design, lent, positions, model_of}
+use Rattle.design.specs.Design.{Design, lent, positions}
 use Rattle.reply.proofs.Answer.{number-positive}
 use Rattle.reply.specs.Number.{reply_number}
 use lib.ListN.{length, length-take}
 use native.Mathlib.Omega.{arith}
-use Prim.Native.Nat.{ℕ, ◌-◌, ◌≤◌}
+use Prim.Native.Nat.{◌-◌}
 use mathlib.Core.Bool.{false}
 use mathlib.Core.Path.{◌≡◌, sym, ap, ◌∙◌}
-use borrow.Author.Rules.{rules}
-use Rattle.jobs.proofs.judge.judge.Reads as reads
-use Rattle.jobs.proofs.judge.judge.Lts as lts
-use Rattle.design.proofs.checks.numbers_reply.Reads as numbers-reply-reads
-use Rattle.prepared.proofs.options.count_options.Reads as count-options-reads
-use Rattle.reply.proofs.Refusal.number.Reads as Refusal-number-reads
-use Rattle.reply.proofs.Reply.number.Reads as Reply-number-reads
 use Rattle.jobs.proofs.judge.judge.Goals as goal
 
--- src/judge.rt:93:17
 pub slice_bounds-count_options-end : goal.slice_bounds-count_options-end
 slice_bounds-count_options-end c =
     let a = c.args in
@@ -27,7 +19,6 @@ slice_bounds-count_options-end c =
     let short = (sized d t.sizes).short in
     omega arith
 
--- src/judge.rt:84:17
 pub count_options-states-requires : goal.count_options-states-requires
 count_options-states-requires c =
     let a = c.args in
@@ -42,7 +33,6 @@ count_options-states-requires c =
       counts_len = omega (arith, length-take (positions d - 0) a.options.now);
     }
 
--- src/judge.rt:58:1
 pub returns-in-Refused : goal.returns-in-Refused
 returns-in-Refused c =
     let a = c.args in
@@ -55,14 +45,13 @@ returns-in-Refused c =
       option_rows = λ z. absurd (omega arith);
     }
 
--- src/judge.rt:58:1
 pub returns-in-Admitted : goal.returns-in-Admitted
 returns-in-Admitted c =
     let a = c.args in
     let d : Design = lent a.scaffold a.marks a.glues a.dg a.ds a.potentials a.ambient in
     let told = sym c.requires.tables_value ∙ c.in-Admitted.is in
     let short = (sized d (tabled false d told).tables.sizes).short in
-    let kept : length c.count_options-states.new.marks.1.1.1.1.1.1.1.0 ≡ positions d = c.count_options-states.auto.marks.1.1.1.1.1.1.1.0 ∙ (omega (arith, length-take (positions d - 0) a.options.now)) in record {
+    let kept : length c.count_options-states.new.counts ≡ positions d = c.count_options-states.auto.counts ∙ (omega (arith, length-take (positions d - 0) a.options.now)) in record {
       judged_right = record { tables = sym (ap reply_number told); states = λ _. c.count_options-states.ensures.value; numbers = λ _. c.number-in-Admitted.ensures ∙ ap reply_number c.numbers_reply-numbers.ensures };
-      option_rows = λ _. (front-options c.count_options-states.new.marks.1.1.1.1.1.1.1.0 _ (positions d) kept c.count_options-states.ensures.option_rows, front-searchable c.count_options-states.new.marks.1.1.1.1.1.1.1.0 _ (positions d) kept c.count_options-states.ensures.searchable);
+      option_rows = λ _. (front-options c.count_options-states.new.counts _ (positions d) kept c.count_options-states.ensures.option_rows, front-searchable c.count_options-states.new.counts _ (positions d) kept c.count_options-states.ensures.searchable);
     }

@@ -5,16 +5,11 @@ use borrow.Author.Tests.{lt-ltb, le-ltb, le-leb, lt-leb, ltb-false}
 use lib.Ieee.{of_bits}
 use lib.Dec.{leb, ltb}
 use native.Mathlib.Omega.{arith}
-use Prim.Native.Nat.{ℕ, ◌<◌, ◌≤◌, min}
+use Prim.Native.Nat.{ℕ, min}
 use mathlib.Core.Bool.{true, false}
 use mathlib.Core.Path.{◌≡◌, refl, sym, ap, ◌∙◌}
-use borrow.Author.Rules.{rules}
-use Rattle.jobs.proofs.settle.job_energy.Reads as reads
-use Rattle.jobs.proofs.settle.job_energy.Lts as lts
-use Rattle.jobs.proofs.settle.energy_at.Reads as energy-at-reads
 use Rattle.jobs.proofs.settle.job_energy.Goals as goal
 
--- src/settle.rt:133:17
 pub returns-then-settled-gt-MOST_STATES : goal.returns-then-settled-gt-MOST_STATES
 unfolding of_bits
 returns-then-settled-gt-MOST_STATES c =
@@ -25,7 +20,6 @@ returns-then-settled-gt-MOST_STATES c =
     let many : ltb 1048576 (count m) ≡ true = sym (many-told (count m) held) ∙ lt-ltb 1048576 _ c.if-settled-gt-MOST_STATES.true in
     rw (c.in-EnergyAt.is, many) refl
 
--- src/settle.rt:136:17
 pub returns-then-settled-rank : goal.returns-then-settled-rank
 unfolding of_bits
 returns-then-settled-rank c =
@@ -38,7 +32,6 @@ returns-then-settled-rank c =
     let high : leb (count m) c.in-EnergyAt.rank ≡ true = le-leb (count m) c.in-EnergyAt.rank (rw (← same) c.if-settled-rank.true) in
     rw (c.in-EnergyAt.is, few, high) refl
 
--- src/settle.rt:138:13
 pub energy_at-requires : goal.energy_at-requires
 energy_at-requires c =
     let p = c.requires in
@@ -52,7 +45,6 @@ energy_at-requires c =
       rank_lt_states = c.if-settled-rank.false;
     }
 
--- src/settle.rt:114:1
 pub returns-else-settled-rank : goal.returns-else-settled-rank
 returns-else-settled-rank c =
     λ m o w e.
@@ -64,16 +56,13 @@ returns-else-settled-rank c =
     let low : leb (count m) c.in-EnergyAt.rank ≡ false = lt-leb (count m) c.in-EnergyAt.rank (rw (← same) c.if-settled-rank.false) in
     rw (c.in-EnergyAt.is, few, low) (c.energy_at.ensures m o w e)
 
--- src/settle.rt:114:1
 pub returns-in-Search : goal.returns-in-Search
 returns-in-Search c = λ m o w e. rw c.in-Search.is refl
 
--- src/settle.rt:114:1
 pub returns-in-Count : goal.returns-in-Count
 unfolding of_bits
 returns-in-Count c = λ m o w e. rw c.in-Count.is refl
 
--- src/settle.rt:114:1
 pub returns-in-Malformed : goal.returns-in-Malformed
 unfolding of_bits
 returns-in-Malformed c = λ m o w e. rw c.in-Malformed.is refl

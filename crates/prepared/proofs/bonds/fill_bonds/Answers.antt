@@ -1,5 +1,4 @@
 -- The filling of the bonds that states and the search read meets its contract. Assumes nothing.
-use borrow.Author.Rules.{rules}
 use Rattle.design.specs.Design.{Design, design, strand_bond_in}
 use Rattle.prepared.proofs.Cells.{pairs-kept, state-cells}
 use Rattle.prepared.proofs.bonds.fill_bonds.Goals as goal

@@ -1,10 +1,7 @@
 use mathlib.Core.Path.{◌≡◌}
-use Prim.Native.Nat.{ℕ, ◌-◌, ◌<◌, ◌≤◌}
 use native.Mathlib.Nat.{not-suc-le-zero}
 use native.Mathlib.Omega.{arith}
-use borrow.Author.Rules.{rules}
 use Rattle.design.proofs.Held.{kept-none}
-use Rattle.design.specs.Filling.{Kept, Holds}
 use Rattle.design.specs.Design.{strand_bond}
 use Rattle.lists.proofs.Grid.{row-end}
 use Rattle.prepared.proofs.Cells.{empties-more}

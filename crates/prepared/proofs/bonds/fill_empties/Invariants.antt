@@ -1,14 +1,7 @@
 -- The bonds with an empty place are filled. The invariant: those of the strands passed hold, and what held its bond still does. Assumes nothing.
-use mathlib.Core.Path.{◌≡◌}
 use Prim.Native.Nat.{ℕ, ◌-◌, ◌<◌, ◌≤◌}
-use native.Mathlib.Nat.{not-suc-le-zero}
-use native.Mathlib.Omega.{arith}
-use borrow.Author.Rules.{rules}
-use Rattle.design.proofs.Held.{kept-none}
 use Rattle.design.specs.Filling.{Kept, Holds}
 use Rattle.design.specs.Design.{strand_bond}
-use Rattle.lists.proofs.Grid.{row-end}
-use Rattle.prepared.proofs.Cells.{empties-more}
 use Rattle.prepared.proofs.bonds.fill_empties.Given as goal
 
 abbrev pub invariant-loop-x : goal.invariant-loop-x

@@ -2,7 +2,6 @@
 use mathlib.Core.Path.{refl, ap, ◌∙◌}
 use Prim.Native.Nat.{ℕ, min}
 use native.Mathlib.Omega.{arith}
-use borrow.Author.Rules.{rules}
 use Rattle.design.proofs.Cells.{null-nowhere}
 use Rattle.design.proofs.Sizes.{sized}
 use Rattle.design.specs.Design.{Design, lent, model_of}

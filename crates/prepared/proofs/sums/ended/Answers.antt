@@ -1,6 +1,5 @@
 -- The end of a state's sum meets its contract. Assumes nothing.
 use borrow.Author.Tests.{eq-eqb, ne_eqb}
-use borrow.Author.Rules.{rules}
 use Rattle.prepared.proofs.sums.ended.Goals as goal
 
 pub returns-then-strand-eq0 : goal.returns-then-strand-eq0

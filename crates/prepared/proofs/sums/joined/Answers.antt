@@ -2,7 +2,6 @@
 use native.Mathlib.Omega.{arith}
 use lib.ListN.{length}
 use borrow.Author.Tests.{eq-eqb, ne_eqb}
-use borrow.Author.Rules.{rules}
 use Rattle.prepared.proofs.Begun.{cell-inside}
 use Rattle.prepared.proofs.sums.joined.Goals as goal
 

@@ -1,15 +1,12 @@
 use mathlib.Core.Logic.{inl}
 use mathlib.Core.Path.{◌≡◌, refl, sym, ap, ◌∙◌}
-use Prim.Native.Nat.{◌-◌, ◌<◌, ◌≤◌}
+use Prim.Native.Nat.{◌<◌, ◌≤◌}
 use native.Mathlib.Omega.{arith}
 use lib.Ieee.{Float, binary64, of_bits, mul}
-use lib.ListN.{length, get_or, drop}
-use borrow.Author.Rules.{rules}
+use lib.ListN.{length, get_or}
 use Rattle.lists.proofs.Grid.{row-end}
-use Rattle.model.specs.Model.{Model, State}
 use Rattle.doubles.specs.Decimal.{zero}
-use Rattle.prepared.specs.inner.Sums.{sum_on, energy_on, begun_at, Beside}
-use Rattle.prepared.specs.Layout.{StateCells}
+use Rattle.prepared.specs.inner.Sums.{sum_on, energy_on, begun_at}
 use Rattle.prepared.proofs.Begun.{begun-is, ended_is, beside-next, sum_more, sum_done, whole-energy}
 use Rattle.prepared.proofs.sums.state_energy.Goals as goal
 

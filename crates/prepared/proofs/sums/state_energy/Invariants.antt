@@ -1,17 +1,11 @@
 -- The state energy meets its contract. The invariant: what is left to add, after the sum so far, gives the whole. Assumes nothing.
-use mathlib.Core.Logic.{inl}
-use mathlib.Core.Path.{◌≡◌, refl, sym, ap, ◌∙◌}
+use mathlib.Core.Path.{◌≡◌}
 use Prim.Native.Nat.{◌-◌, ◌<◌, ◌≤◌}
-use native.Mathlib.Omega.{arith}
-use lib.Ieee.{Float, binary64, of_bits, mul}
-use lib.ListN.{length, get_or, drop}
-use borrow.Author.Rules.{rules}
-use Rattle.lists.proofs.Grid.{row-end}
+use lib.ListN.{length, drop}
 use Rattle.model.specs.Model.{Model, State}
 use Rattle.doubles.specs.Decimal.{zero}
-use Rattle.prepared.specs.inner.Sums.{sum_on, energy_on, begun_at, Beside}
+use Rattle.prepared.specs.inner.Sums.{sum_on, Beside}
 use Rattle.prepared.specs.Layout.{StateCells}
-use Rattle.prepared.proofs.Begun.{begun-is, ended_is, beside-next, sum_more, sum_done, whole-energy}
 use Rattle.prepared.proofs.sums.state_energy.Given as goal
 
 abbrev pub invariant-loop-position : goal.invariant-loop-position

@@ -4,7 +4,6 @@ use Prim.Native.Nat.{ℕ, ◌-◌}
 use native.Mathlib.Omega.{arith}
 use lib.ListN.{length, drop, replicate, length-append, length-take}
 use lib.Seq.{take_at}
-use borrow.Author.Rules.{rules}
 use Rattle.design.specs.Design.{Design, lent, positions, strand_bond_in, model_of}
 use Rattle.design.proofs.Sizes.{sized}
 use Rattle.design.proofs.Replies.{tables-of}
@@ -15,21 +14,18 @@ use Rattle.ring.proofs.search.settled.Goals as goal
 
 pub overflow_cast-strands : goal.overflow_cast-strands
 overflow_cast-strands c =
-    
     let d : Design = lent c.args.scaffold c.args.marks c.args.glues c.args.dg c.args.ds c.args.potentials c.args.ambient in
     let z = sized d c.requires.admitted.sizes in
     omega arith
 
 pub slice_bounds-counts-end : goal.slice_bounds-counts-end
 slice_bounds-counts-end c =
-    
     let d : Design = lent c.args.scaffold c.args.marks c.args.glues c.args.dg c.args.ds c.args.potentials c.args.ambient in
     let z = sized d c.requires.admitted.sizes in
     omega arith
 
 pub fill_options-requires : goal.fill_options-requires
 fill_options-requires c =
-    
     let d : Design = lent c.args.scaffold c.args.marks c.args.glues c.args.dg c.args.ds c.args.potentials c.args.ambient in
     let z = sized d c.requires.admitted.sizes in
     record {
@@ -44,20 +40,18 @@ fill_options-requires c =
 pub slice_bounds-fill_read_strand_bonds-end-2 : goal.slice_bounds-fill_read_strand_bonds-end-2
 unfolding model_of
 slice_bounds-fill_read_strand_bonds-end-2 c =
-    
     let d : Design = lent c.args.scaffold c.args.marks c.args.glues c.args.dg c.args.ds c.args.potentials c.args.ambient in
     let filled = c.fill_options in
-    let row = filled.new.marks.1.1.1.1.1.1.0 in
+    let row = filled.new.counts in
     let number : length row ≡ positions d = placed d (filled.ensures.option_rows (model_of d) refl) in
     simp length-append (omega arith)
 
 pub fill_read_strand_bonds-requires : goal.fill_read_strand_bonds-requires
 unfolding model_of
 fill_read_strand_bonds-requires c =
-    
     let d : Design = lent c.args.scaffold c.args.marks c.args.glues c.args.dg c.args.ds c.args.potentials c.args.ambient in
     let filled = c.fill_options in
-    let row = filled.new.marks.1.1.1.1.1.1.0 in
+    let row = filled.new.counts in
     let number : length row ≡ positions d = placed d (filled.ensures.option_rows (model_of d) refl) in
     let full : length row ≡ positions d - 0 = omega (arith, number) in
     let again = take_at row (drop (positions d - 0) (replicate {A = ℕ} 128 0)) (positions d - 0) full in
@@ -69,20 +63,18 @@ fill_read_strand_bonds-requires c =
 pub slice_bounds-fill_closing_bonds-end-2 : goal.slice_bounds-fill_closing_bonds-end-2
 unfolding model_of
 slice_bounds-fill_closing_bonds-end-2 c =
-    
     let d : Design = lent c.args.scaffold c.args.marks c.args.glues c.args.dg c.args.ds c.args.potentials c.args.ambient in
     let filled = c.fill_options in
-    let row = filled.new.marks.1.1.1.1.1.1.0 in
+    let row = filled.new.counts in
     let number : length row ≡ positions d = placed d (filled.ensures.option_rows (model_of d) refl) in
     simp length-append (omega arith)
 
 pub fill_closing_bonds-requires : goal.fill_closing_bonds-requires
 unfolding model_of
 fill_closing_bonds-requires c =
-    
     let d : Design = lent c.args.scaffold c.args.marks c.args.glues c.args.dg c.args.ds c.args.potentials c.args.ambient in
     let filled = c.fill_options in
-    let row = filled.new.marks.1.1.1.1.1.1.0 in
+    let row = filled.new.counts in
     let number : length row ≡ positions d = placed d (filled.ensures.option_rows (model_of d) refl) in
     let full : length row ≡ positions d - 0 = omega (arith, number) in
     let again = take_at row (drop (positions d - 0) (replicate {A = ℕ} 128 0)) (positions d - 0) full in
@@ -96,20 +88,18 @@ fill_closing_bonds-requires c =
 pub slice_bounds-fill_needed_scaffold_bonds-end-2 : goal.slice_bounds-fill_needed_scaffold_bonds-end-2
 unfolding model_of
 slice_bounds-fill_needed_scaffold_bonds-end-2 c =
-    
     let d : Design = lent c.args.scaffold c.args.marks c.args.glues c.args.dg c.args.ds c.args.potentials c.args.ambient in
     let filled = c.fill_options in
-    let row = filled.new.marks.1.1.1.1.1.1.0 in
+    let row = filled.new.counts in
     let number : length row ≡ positions d = placed d (filled.ensures.option_rows (model_of d) refl) in
     simp length-append (omega arith)
 
 pub fill_needed_scaffold_bonds-requires : goal.fill_needed_scaffold_bonds-requires
 unfolding model_of
 fill_needed_scaffold_bonds-requires c =
-    
     let d : Design = lent c.args.scaffold c.args.marks c.args.glues c.args.dg c.args.ds c.args.potentials c.args.ambient in
     let filled = c.fill_options in
-    let row = filled.new.marks.1.1.1.1.1.1.0 in
+    let row = filled.new.counts in
     let number : length row ≡ positions d = placed d (filled.ensures.option_rows (model_of d) refl) in
     let full : length row ≡ positions d - 0 = omega (arith, number) in
     let again = take_at row (drop (positions d - 0) (replicate {A = ℕ} 128 0)) (positions d - 0) full in
@@ -121,20 +111,18 @@ fill_needed_scaffold_bonds-requires c =
 pub slice_bounds-lowest_ring-end-2 : goal.slice_bounds-lowest_ring-end-2
 unfolding model_of
 slice_bounds-lowest_ring-end-2 c =
-    
     let d : Design = lent c.args.scaffold c.args.marks c.args.glues c.args.dg c.args.ds c.args.potentials c.args.ambient in
     let filled = c.fill_options in
-    let row = filled.new.marks.1.1.1.1.1.1.0 in
+    let row = filled.new.counts in
     let number : length row ≡ positions d = placed d (filled.ensures.option_rows (model_of d) refl) in
     simp length-append (omega arith)
 
 pub lowest_ring-requires : goal.lowest_ring-requires
 unfolding model_of
 lowest_ring-requires c =
-    
     let d : Design = lent c.args.scaffold c.args.marks c.args.glues c.args.dg c.args.ds c.args.potentials c.args.ambient in
     let filled = c.fill_options in
-    let row = filled.new.marks.1.1.1.1.1.1.0 in
+    let row = filled.new.counts in
     let number : length row ≡ positions d = placed d (filled.ensures.option_rows (model_of d) refl) in
     let full : length row ≡ positions d - 0 = omega (arith, number) in
     let again = take_at row (drop (positions d - 0) (replicate {A = ℕ} 128 0)) (positions d - 0) full in
@@ -143,8 +131,8 @@ lowest_ring-requires c =
     let sites = c.fill_needed_scaffold_bonds in
     record {
       searchable = rw again filled.ensures.searchable;
-      potentials_in_bounds = omega (arith, c.requires.potentials_in_bounds, bonds.auto.counts.1.1.1.1.1.1.0, closing.auto.counts.1.1.1.1.1.1.0);
-      potentials_in_bounds_2 = rw (again, number) (omega (arith, c.requires.potentials_in_bounds_2, sites.auto.counts.1.1.1.1.1.1.1.0));
+      potentials_in_bounds = omega (arith, c.requires.potentials_in_bounds, bonds.auto.cells, closing.auto.cells);
+      potentials_in_bounds_2 = rw (again, number) (omega (arith, c.requires.potentials_in_bounds_2, sites.auto.cells));
       configuration_len = rw (again, number) c.requires.configuration_len;
       counts_nonzero = rw (again, number) c.requires.scaffold_nonzero;
     }
@@ -152,15 +140,14 @@ lowest_ring-requires c =
 pub returns : goal.returns
 unfolding model_of
 returns c =
-    
     let d : Design = lent c.args.scaffold c.args.marks c.args.glues c.args.dg c.args.ds c.args.potentials c.args.ambient in
     let filled = c.fill_options in
-    let row = filled.new.marks.1.1.1.1.1.1.0 in
+    let row = filled.new.counts in
     let number : length row ≡ positions d = placed d (filled.ensures.option_rows (model_of d) refl) in
     let full : length row ≡ positions d - 0 = omega (arith, number) in
     let again = take_at row (drop (positions d - 0) (replicate {A = ℕ} 128 0)) (positions d - 0) full in
     let options = filled.ensures.option_rows (model_of d) refl in
     let read = c.fill_read_strand_bonds in
     let closing = c.fill_closing_bonds in
-    let pairs = pairs-kept (strand_bond_in d) filled.ensures.searchable read.new.counts.1.1.1.1.1.1.0 closing.new.counts.1.1.1.1.1.1.0 closing.ensures.kept (rw again at read.ensures) in
-    c.lowest_ring.ensures (model_of d) (rw again options) (bond-cells d c.requires.admitted options pairs (rw again at c.fill_needed_scaffold_bonds.ensures)) (closing-cells d closing.new.counts.1.1.1.1.1.1.0 options (rw again at closing.ensures.closing_held)) refl
+    let pairs = pairs-kept (strand_bond_in d) filled.ensures.searchable read.new.cells closing.new.cells closing.ensures.kept (rw again at read.ensures) in
+    c.lowest_ring.ensures (model_of d) (rw again options) (bond-cells d c.requires.admitted options pairs (rw again at c.fill_needed_scaffold_bonds.ensures)) (closing-cells d closing.new.cells options (rw again at closing.ensures.closing_held)) refl
