@@ -37,7 +37,7 @@ difference-size (negsuc a) (negsuc b) = omega (arith, sub-size (suc b) (suc a))
 
 module _ (x y : ℤ) (X : mag x ≤ 2 ^ 28) (Y : mag y ≤ 2 ^ 28) where
   held : (z : ℤ) → mag z ≤ 2 ^ 28 → to_z w32 (of_z w32 z) ≡ z
-  held z Z = to_z-of_z (record { sfits = omega (arith, Z) })
+  held z Z = to_z-of_z {w = w32} (record { sfits = omega (arith, Z) })
 
   abbrev difference : ℤ
   difference = to_z w32 (of_z w32 x) -ℤ to_z w32 (of_z w32 y)
