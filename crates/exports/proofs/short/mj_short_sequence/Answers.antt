@@ -7,7 +7,7 @@ returns c =
     let answer = c.short_sequence.ensures in
     let told = rw answer.result_value at c.tell_sequence.ensures in
     record {
-      value = told.0;
-      bases_after = told.1;
+      value = told.value;
+      bases_after = told.bases_after;
       bytes_after = answer.bytes_after;
     }

@@ -11,9 +11,9 @@ returns-in-Known c =
     let told = rw answer.result_value at c.tell_moved.ensures in
     let moved = c.tell_moved.ensures in
     rw form (record {
-      value = told.0;
-      place_after = told.1.0;
-      count_after = told.1.1;
+      value = told.value;
+      place_after = told.place_after;
+      count_after = told.count_after;
       moved_after = answer.moved_after;
       moves_from = λ e. rw moved.count_after (answer.moves_to (sym moved.value ∙ e));
     })

@@ -9,9 +9,9 @@ returns-in-Known c =
     let answer = c.read.ensures in
     let told = rw answer.0 at c.tell_read.ensures in
     rw form (record {
-      value = told.0;
-      place_after = told.1.0;
-      count_after = told.1.1;
+      value = told.value;
+      place_after = told.place_after;
+      count_after = told.count_after;
       entries_after = answer.1;
     })
 

@@ -9,8 +9,8 @@ returns-in-Known c =
     let answer = c.write.ensures in
     let told = rw answer.0 at c.tell_written.ensures in
     rw form (record {
-      value = told.0;
-      count_after = told.1;
+      value = told.value;
+      count_after = told.count_after;
       words_after = answer.1;
     })
 
