@@ -2,7 +2,7 @@
 #   harness   this folder
 #   output    where cargo puts programs
 # RGROW_SRC   a folder that holds rgrow-rust/src, of cgevans/rgrow at fd3e69a1ab
-# PORT_LIB    the folder of libexports.a; without it, where `rt staticlib exports` writes it
+# PORT_LIB    the folder of libexports.a; without it, where harness/archive writes it
 
 harness=$(cd "$(dirname "${BASH_SOURCE[0]}")" && pwd)
 repository=$(dirname "$harness")
@@ -29,7 +29,7 @@ need_rgrow() {
 need_port() {
     PORT_LIB=${PORT_LIB:-$repository/target/staticlib}
     [ -f "$PORT_LIB/libexports.a" ] || {
-        echo "harness: $PORT_LIB/libexports.a is missing; 'rt staticlib exports' makes it" >&2
+        echo "harness: $PORT_LIB/libexports.a is missing; harness/archive makes it" >&2
         exit 1
     }
     PORT_LIB=$(cd "$PORT_LIB" && pwd)

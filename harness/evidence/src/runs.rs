@@ -42,8 +42,8 @@ fn section(file: &str, heading: &str) -> String {
 
 impl Runs {
     pub fn take() -> Runs {
-        let built = measured(&["rt", "staticlib", "exports"]);
-        assert!(built.ok, "rt staticlib exports failed:\n{}", built.output);
+        let built = measured(&["harness/archive"]);
+        assert!(built.ok, "harness/archive failed:\n{}", built.output);
         // The first `./settle` says that it builds the program; the runs on files take no such word.
         lines_of("examples/run");
         Runs {
