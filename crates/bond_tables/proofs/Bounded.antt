@@ -9,7 +9,7 @@ use lib.ListN.{length, get_or}
 use lib.Ieee.{Float, nan, binary64, fits}
 use borrow.Author.Tests.{not-false, eq-eqb, eqb-true}
 use Rattle.lists.specs.Find.{any}
-use Rattle.lists.proofs.Places.{get_d_default}
+use Rattle.lists.proofs.Places.{get_or-default}
 use Rattle.lists.proofs.Tests.{neither}
 use Rattle.lists.proofs.Any.{none_passes}
 use Rattle.lists.proofs.Grid.{cell_in}
@@ -40,7 +40,7 @@ bond-within x t e = in-range-within 80000 (lit≤ tt) x t (not-false (within (ne
 
 cell-within : (cells : List Float) → CellDoubles cells → any (beyond 80000) cells ≡ false → (k : ℕ) → k < length cells → Within binary64 80000 (get_or cells k zero)
 cell-within cells doubles none k h =
-    let fit : T (fits binary64 (get_or cells k zero)) = subst (λ (y : Float). T (fits binary64 y)) (get_d_default cells k nan zero h) (doubles k h) in
+    let fit : T (fits binary64 (get_or cells k zero)) = subst (λ (y : Float). T (fits binary64 y)) (get_or-default cells k nan zero h) (doubles k h) in
     bond-within (get_or cells k zero) fit (none_passes (beyond 80000) zero cells none k h)
 
 pub tables-fit : (d : Design) (t u : List Float) → length t ≡ strands d * strands d → length u ≡ positions d * strands d → wrong_tables d t u ≡ false
@@ -69,9 +69,9 @@ module _ (d : Design) (t u : List Float) (sizes : wrong_tables d t u ≡ false) 
     unfolding model_over
     cells-lent = record {
       not_null = (friends-right d).not_null a;
-      pairs = λ i x y h o f. get_d_default t (x * strands d + y) nan zero (pair_place x y (option-known i x (own (model_of d) i x o)) (friend-tested d (i + 1) y f).1);
-      sites = λ i y h f. let w = friend-tested d i y f in get_d_default u (i * strands d + y) nan zero (site-place i y w.0 w.1);
-      logs = λ i y h f. get_d_default d.potentials y nan zero (friend-tested d i y f).1;
+      pairs = λ i x y h o f. get_or-default t (x * strands d + y) nan zero (pair_place x y (option-known i x (own (model_of d) i x o)) (friend-tested d (i + 1) y f).1);
+      sites = λ i y h f. let w = friend-tested d i y f in get_or-default u (i * strands d + y) nan zero (site-place i y w.0 w.1);
+      logs = λ i y h f. get_or-default d.potentials y nan zero (friend-tested d i y f).1;
     }
 
     pub bounded-over : Doubles d → CellDoubles t → CellDoubles u → bonds_out t u ≡ false → Bounded (model_over d t u) (strands d)

@@ -10,7 +10,7 @@ use lib.Seq.{get_or-append-add, get_or-take, get_or-drop, ext_get_or}
 use lib.Ieee.{Float, nan}
 use Rattle.lists.specs.Build.{tabulate}
 use Rattle.lists.specs.Find.{any}
-use Rattle.lists.proofs.Build.{length-tabulate, get_d_tabulate}
+use Rattle.lists.proofs.Build.{length-tabulate, get_or-tabulate}
 use Rattle.lists.proofs.Find.{any_append}
 use Rattle.lists.proofs.Any.{all-fail}
 use Rattle.bond_tables.specs.Tables.{table}
@@ -31,7 +31,7 @@ table_at (suc rows) width f d zero column h k =
     let here : 0 * width + column ≡ column = omega arith in
     ap (λ (n : ℕ). get_or (tabulate width (f 0) ++ table rows width (λ r. f (suc r))) n d) here
     ∙ get_or-append (tabulate width (f 0)) (table rows width (λ r. f (suc r))) d column (rw (length-tabulate width (f 0)) k)
-    ∙ get_d_tabulate width (f 0) d column k
+    ∙ get_or-tabulate width (f 0) d column k
 table_at (suc rows) width f d (suc row) column h k =
     let whole : suc row * width ≡ row * width + width = suc-mul row width in
     let first : length (tabulate width (f 0)) ≡ width = length-tabulate width (f 0) in
@@ -52,7 +52,7 @@ table_is (suc rows) width f t e h =
     (ext_get_or nan (take width t) (tabulate width (f 0)) (sized enough)
     (λ k l.
     let inside : k < width = omega (arith, length-take width t) in
-    get_or-take width t k nan inside ∙ ap (λ (n : ℕ). get_or t n nan) (first k) ∙ h 0 k (omega arith) inside ∙ sym (get_d_tabulate width (f 0) nan k inside)))
+    get_or-take width t k nan inside ∙ ap (λ (n : ℕ). get_or t n nan) (first k) ∙ h 0 k (omega arith) inside ∙ sym (get_or-tabulate width (f 0) nan k inside)))
     (table_is rows width (λ row. f (suc row)) (drop width t) (omega (arith, length-drop width t))
     (λ row column k l. get_or-drop width t (row * width + column) nan ∙ ap (λ (n : ℕ). get_or t n nan) (next row column) ∙ h (suc row) column (omega arith) l))
   where
@@ -69,6 +69,6 @@ pub none-in-table : (p : Float → Bool) (rows width : ℕ) (f : ℕ → ℕ →
 unfolding table any
 none-in-table p zero width f h = refl
 none-in-table p (suc rows) width f h =
-    let here : any p (tabulate width (f 0)) ≡ false = all-fail p nan (tabulate width (f 0)) (λ k l. let inside : k < width = rw (length-tabulate width (f 0)) at l in rw (get_d_tabulate width (f 0) nan k inside) (h 0 k (omega arith) inside)) in
+    let here : any p (tabulate width (f 0)) ≡ false = all-fail p nan (tabulate width (f 0)) (λ k l. let inside : k < width = rw (length-tabulate width (f 0)) at l in rw (get_or-tabulate width (f 0) nan k inside) (h 0 k (omega arith) inside)) in
     let later : any p (table rows width (λ row. f (suc row))) ≡ false = none-in-table p rows width (λ row. f (suc row)) (λ row column k l. h (suc row) column (omega arith) l) in
     rw (any_append p) (simp (here, later))

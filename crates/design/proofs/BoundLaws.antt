@@ -9,7 +9,7 @@ use lib.ListN.{length, get_or}
 use lib.Ieee.{Float, nan, binary64, fits, sub, mul}
 use borrow.Author.Tests.{not-false}
 use Rattle.lists.specs.Find.{any}
-use Rattle.lists.proofs.Places.{get_d_default}
+use Rattle.lists.proofs.Places.{get_or-default}
 use Rattle.lists.proofs.Tests.{neither}
 use Rattle.lists.proofs.Any.{none_passes, none_below}
 use Rattle.lists.proofs.Build.{length-tabulate}
@@ -41,7 +41,7 @@ bond-within dg ds excess rt p q e t r =
 
 -- a number of a list is a double, whatever would stand past the list's end
 held : (xs : List Float) (k : ℕ) → k < length xs → T (fits binary64 (get_or xs k nan)) → T (fits binary64 (get_or xs k zero))
-held xs k h t = subst (λ (x : Float). T (fits binary64 x)) (get_d_default xs k nan zero h) t
+held xs k h t = subst (λ (x : Float). T (fits binary64 x)) (get_or-default xs k nan zero h) t
 
 module _ (d : Design) (doubles : Doubles d) (a : Admitted d) where
   z : Sized d

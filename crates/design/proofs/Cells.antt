@@ -8,7 +8,7 @@ use native.Mathlib.Omega.{arith}
 use lib.ListN.{length, get_or, length-append, get_or-append}
 use lib.Ieee.{Float, nan}
 use Rattle.doubles.specs.Decimal.{zero}
-use Rattle.lists.proofs.Places.{get_d_default}
+use Rattle.lists.proofs.Places.{get_or-default}
 use Rattle.model.specs.Model as Model
 use Rattle.model.specs.Model.{Model, Friend, friends_at}
 use Rattle.model.specs.Search.{options_at}
@@ -62,7 +62,7 @@ module _ (d : Design) (a : Admitted d) where
         sites = λ i y h friend.
             let here = friend-place o i h friend in
             rw here.2 at (s i here.0 (omega arith) here.1);
-        logs = λ i y h friend. get_d_default d.potentials y nan zero (friend-tested d i y friend).1;
+        logs = λ i y h friend. get_or-default d.potentials y nan zero (friend-tested d i y friend).1;
       }
 
 -- what closes a ring is the model's

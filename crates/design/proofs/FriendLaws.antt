@@ -16,7 +16,7 @@ use Rattle.doubles.specs.Decimal.{zero}
 use Rattle.lists.specs.Build.{tabulate, up_to}
 use Rattle.lists.specs.Find.{any}
 use Rattle.lists.specs.Order.{Rising}
-use Rattle.lists.proofs.Build.{length-tabulate, get_d_tabulate}
+use Rattle.lists.proofs.Build.{length-tabulate, get_or-tabulate}
 use Rattle.lists.proofs.Tests.{neither, clash}
 use Rattle.lists.proofs.Any.{none_below, all-below}
 use Rattle.lists.proofs.Keep.{kept, kept-below, kept-passes, kept-rise}
@@ -51,7 +51,7 @@ not-bound false t e = e
 module _ (d : Design) where
   friends-at : (i : ℕ) → i < positions d → friends_at (model_of d) i ≡ friends_of d i
   unfolding model_of
-  friends-at i h = get_d_tabulate (positions d) (friends_of d) [] i h
+  friends-at i h = get_or-tabulate (positions d) (friends_of d) [] i h
 
   friends-past : (i : ℕ) → positions d ≤ i → friends_at (model_of d) i ≡ []
   unfolding model_of

@@ -12,7 +12,7 @@ use lib.Seq.{get_or-set_same, get_or-set_other, get_or-take, get_or-drop, take-a
 use lib.Ieee.{Float}
 use borrow.Author.Count.{below_more}
 use Rattle.lists.specs.Build.{up_to, keep}
-use Rattle.lists.proofs.Build.{length-tabulate, get_d_tabulate, keep-later}
+use Rattle.lists.proofs.Build.{length-tabulate, get_or-tabulate, keep-later}
 use Rattle.lists.proofs.Keep.{kept-below}
 use Rattle.lists.proofs.Places.{mem-get_or}
 use Rattle.model.specs.Model as Model
@@ -113,5 +113,5 @@ module _ (scaffold marks glues : List ℕ) (dg ds : List Float) (strands : ℕ) 
         few = λ i h. (w i (rw number at h)).few;
         options = λ i h.
             let l : i < length scaffold = rw number at h in
-            (w i l).options ∙ ap options_of (sym (ap (λ (xs : List (List ℕ)). get_or xs i []) e ∙ get_d_tabulate (length scaffold) (friends_in scaffold marks glues dg ds strands) [] i l));
+            (w i l).options ∙ ap options_of (sym (ap (λ (xs : List (List ℕ)). get_or xs i []) e ∙ get_or-tabulate (length scaffold) (friends_in scaffold marks glues dg ds strands) [] i l));
       }

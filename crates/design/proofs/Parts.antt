@@ -8,14 +8,14 @@ use lib.Seq.{length-take-le, take_at, drop_at, get_or-append-add, get_or-take, g
 use borrow.Author.Count.{below_more}
 use Rattle.lists.specs.Build.{tabulate}
 use Rattle.lists.specs.Grid.{Grid}
-use Rattle.lists.proofs.Build.{length-tabulate, get_d_tabulate}
+use Rattle.lists.proofs.Build.{length-tabulate, get_or-tabulate}
 use Rattle.lists.proofs.Counted.{stored}
 use Rattle.lists.proofs.Grid.{row-end}
 
 module _ {A : Type 0} where
   -- what a loop has stored from the front
   pub stored_at : (f : ℕ → A) (i : ℕ) (xs : List A) (d : A) (k : ℕ) → k < i → get_or (stored f i xs) k d ≡ f k
-  stored_at f i xs d k h = get_or-append (tabulate i f) (drop i xs) d k (rw (length-tabulate i f) h) ∙ get_d_tabulate i f d k h
+  stored_at f i xs d k h = get_or-append (tabulate i f) (drop i xs) d k (rw (length-tabulate i f) h) ∙ get_or-tabulate i f d k h
 
   -- a list whose elements from `start` on, `size` of them, are those of a part that was lent
   abbrev pub with_part : List A → ℕ → ℕ → List A → List A
@@ -62,6 +62,6 @@ module _ {A : Type 0} where
         above = λ r column k l.
             below_more (λ (r : ℕ). get_or (with_part t (rows * width) width row) (r * width + column) d ≡ f r column) rows
             (λ r b. before-part t (rows * width) width row inside full d (r * width + column) (omega (arith, row-end width b)) ∙ w.above r column b l)
-            (part_at t (rows * width) width row inside full d column l ∙ ap (λ (xs : List A). get_or xs column d) e ∙ get_d_tabulate width (f rows) d column l) r k;
+            (part_at t (rows * width) width row inside full d column l ∙ ap (λ (xs : List A). get_or xs column d) e ∙ get_or-tabulate width (f rows) d column l) r k;
         here = λ column k. absurd (omega arith);
       }

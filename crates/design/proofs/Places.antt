@@ -12,7 +12,7 @@ use lib.Ieee.{Float}
 use borrow.Author.Tests.{lt-ltb, le-ltb, ltb-true}
 use Rattle.lists.specs.Build.{up_to}
 use Rattle.lists.specs.Find.{any, first_index}
-use Rattle.lists.proofs.Build.{length-tabulate, get_d_tabulate}
+use Rattle.lists.proofs.Build.{length-tabulate, get_or-tabulate}
 use Rattle.lists.proofs.Find.{first_any, fails-before, passes-first}
 use Rattle.lists.proofs.Any.{none_passes, all-below}
 use Rattle.lists.proofs.Tests.{neither, clash}
@@ -105,10 +105,10 @@ potential-place d e =
       at = first;
       is = refl;
       known = known;
-      here = rw (get_d_tabulate (strands d) (λ k. k) 0 first known) at (passes-first (potential_out d) 0 (up_to (strands d)) inside);
+      here = rw (get_or-tabulate (strands d) (λ k. k) 0 first known) at (passes-first (potential_out d) 0 (up_to (strands d)) inside);
       below = λ k h.
           let l : k < strands d = omega arith in
-          rw (get_d_tabulate (strands d) (λ k. k) 0 k l) at (fails-before (potential_out d) 0 (up_to (strands d)) k h);
+          rw (get_or-tabulate (strands d) (λ k. k) 0 k l) at (fails-before (potential_out d) 0 (up_to (strands d)) k h);
     }
 
 -- ---- which check a refusal comes from

@@ -12,7 +12,7 @@ use lib.Ieee.{Float}
 use borrow.Author.Tests.{ltb-true}
 use Rattle.lists.specs.Build.{tabulate, up_to}
 use Rattle.lists.specs.Find.{any, first_index}
-use Rattle.lists.proofs.Build.{length-tabulate, get_d_tabulate}
+use Rattle.lists.proofs.Build.{length-tabulate, get_or-tabulate}
 use Rattle.lists.proofs.Find.{first_any, passes-first}
 use Rattle.lists.proofs.Any.{none_below, all-below}
 use Rattle.doubles.specs.Decimal.{zero}
@@ -58,7 +58,7 @@ some_below p n e =
     let first = first_index p (up_to n) in
     let l : first < length (up_to n) = ltb-true _ _ (first_any p (up_to n) ∙ e) in
     let k : first < n = rw (length-tabulate n (λ i. i)) at l in
-    record { at = first; below = k; passes = rw (get_d_tabulate n (λ i. i) 0 first k) at (passes-first p 0 (up_to n) l) }
+    record { at = first; below = k; passes = rw (get_or-tabulate n (λ i. i) 0 first k) at (passes-first p 0 (up_to n) l) }
 
 -- ---- the checks
 

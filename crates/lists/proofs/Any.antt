@@ -14,7 +14,7 @@ use Rattle.lists.specs.Find.{any, first_index}
 use Rattle.lists.specs.Build.{up_to}
 use Rattle.lists.proofs.Tests.{neither}
 use Rattle.lists.proofs.Find.{any-true, any_false}
-use Rattle.lists.proofs.Build.{length-tabulate, get_d_tabulate}
+use Rattle.lists.proofs.Build.{length-tabulate, get_or-tabulate}
 
 module _ {A : Type 0} (p : A → Bool) where
   -- where none passes, each fails
@@ -33,10 +33,10 @@ module _ {A : Type 0} (p : A → Bool) where
 -- the same of the numbers below n
 module _ (p : ℕ → Bool) (n : ℕ) where
   pub none_below : any p (up_to n) ≡ false → (k : ℕ) → k < n → p k ≡ false
-  none_below e k h = rw (get_d_tabulate n (λ j. j) 0 k h) at (none_passes p 0 (up_to n) e k (rw (length-tabulate n (λ j. j)) h))
+  none_below e k h = rw (get_or-tabulate n (λ j. j) 0 k h) at (none_passes p 0 (up_to n) e k (rw (length-tabulate n (λ j. j)) h))
 
   pub all-below : ((k : ℕ) → k < n → p k ≡ false) → any p (up_to n) ≡ false
-  all-below h = all-fail p 0 (up_to n) (λ k l. let m : k < n = rw (length-tabulate n (λ j. j)) at l in rw (get_d_tabulate n (λ j. j) 0 k m) (h k m))
+  all-below h = all-fail p 0 (up_to n) (λ k l. let m : k < n = rw (length-tabulate n (λ j. j)) at l in rw (get_or-tabulate n (λ j. j) 0 k m) (h k m))
 
 -- a program that looked for the first that passes, and compares its place with the length
 module _ {A : Type 0} (p : A → Bool) (xs : List A) {r : ℕ} (e : r ≡ first_index p xs) where

@@ -16,16 +16,16 @@ module _ {A : Type 0} where
   length-tabulate zero f = refl
   length-tabulate (suc n) f = ap suc (length-tabulate n (λ k. f (suc k)))
 
-  pub get_d_tabulate : (n : ℕ) (f : ℕ → A) (d : A) (k : ℕ) → k < n → get_or (tabulate n f) k d ≡ f k
+  pub get_or-tabulate : (n : ℕ) (f : ℕ → A) (d : A) (k : ℕ) → k < n → get_or (tabulate n f) k d ≡ f k
   unfolding tabulate
-  get_d_tabulate zero f d k h = absurd (not-suc-le-zero h)
-  get_d_tabulate (suc n) f d zero h = refl
-  get_d_tabulate (suc n) f d (suc k) h = get_d_tabulate n (λ j. f (suc j)) d k (le_of_suc-le-suc h)
+  get_or-tabulate zero f d k h = absurd (not-suc-le-zero h)
+  get_or-tabulate (suc n) f d zero h = refl
+  get_or-tabulate (suc n) f d (suc k) h = get_or-tabulate n (λ j. f (suc j)) d k (le_of_suc-le-suc h)
 
   pub drop-tabulate : (n : ℕ) (f : ℕ → A) (k : ℕ) → k < n → drop k (tabulate n f) ≡ f k ∷ drop (k + 1) (tabulate n f)
   drop-tabulate n f k h =
       let l : k < length (tabulate n f) = rw (length-tabulate n f) h in
-      rw (add-one, drop-cons (tabulate n f) k (f k)) (ap (λ (x : A). x ∷ drop (suc k) (tabulate n f)) (get_d_tabulate n f (f k) k h))
+      rw (add-one, drop-cons (tabulate n f) k (f k)) (ap (λ (x : A). x ∷ drop (suc k) (tabulate n f)) (get_or-tabulate n f (f k) k h))
 
   pub tabulate-past : (n : ℕ) (f : ℕ → A) (k : ℕ) → n ≤ k → drop k (tabulate n f) ≡ []
   tabulate-past n f k h = let l : length (tabulate n f) ≤ k = rw (length-tabulate n f) h in drop_of_length-le (tabulate n f) l

@@ -10,12 +10,12 @@ use lib.Seq.{ext_get_or}
 use Rattle.lists.specs.Find.{any}
 use Rattle.lists.specs.Build.{tabulate}
 use Rattle.lists.proofs.Tests.{neither}
-use Rattle.lists.proofs.Build.{length-tabulate, get_d_tabulate}
+use Rattle.lists.proofs.Build.{length-tabulate, get_or-tabulate}
 
-pub get_d_default : {A : Type 0} (xs : List A) (k : ℕ) (d e : A) → k < length xs → get_or xs k d ≡ get_or xs k e
-get_d_default [] k d e h = absurd (not-suc-le-zero h)
-get_d_default (x ∷ xs) zero d e h = refl
-get_d_default (x ∷ xs) (suc k) d e h = get_d_default xs k d e (le_of_suc-le-suc h)
+pub get_or-default : {A : Type 0} (xs : List A) (k : ℕ) (d e : A) → k < length xs → get_or xs k d ≡ get_or xs k e
+get_or-default [] k d e h = absurd (not-suc-le-zero h)
+get_or-default (x ∷ xs) zero d e h = refl
+get_or-default (x ∷ xs) (suc k) d e h = get_or-default xs k d e (le_of_suc-le-suc h)
 
 pub drop-map : {A B : Type 0} (f : A → B) (xs : List A) (i : ℕ) → drop i (map f xs) ≡ map f (drop i xs)
 drop-map f xs zero = refl
@@ -37,7 +37,7 @@ module _ {A : Type 0} where
   pub tabulate-get_or : (d : A) (n : ℕ) (xs : List A) → length xs ≡ n → tabulate n (λ i. get_or xs i d) ≡ xs
   tabulate-get_or d n xs e =
       ext_get_or d (tabulate n (λ i. get_or xs i d)) xs (length-tabulate n (λ i. get_or xs i d) ∙ sym e)
-      (λ i h. get_d_tabulate n (λ i. get_or xs i d) d i (rw (length-tabulate n (λ i. get_or xs i d)) at h))
+      (λ i h. get_or-tabulate n (λ i. get_or xs i d) d i (rw (length-tabulate n (λ i. get_or xs i d)) at h))
 
   pub mem-get_or : (d : A) (xs : List A) (i : ℕ) → i < length xs → Memᴰ (get_or xs i d) xs
   mem-get_or d [] i h = absurd (not-suc-le-zero h)

@@ -11,7 +11,7 @@ use lib.ListN.{length, get_or, take, drop, length-drop}
 use lib.Seq.{get_or-take, get_or-drop, length-take-le}
 use Rattle.lists.specs.Build.{up_to, tabulate}
 use Rattle.lists.specs.Find.{any}
-use Rattle.lists.proofs.Build.{length-tabulate, get_d_tabulate, any-later, any-past}
+use Rattle.lists.proofs.Build.{length-tabulate, get_or-tabulate, any-later, any-past}
 use Rattle.ensemble.specs.Layout.{Searchable}
 use Rattle.fractions.specs.Weight.{weight}
 use Rattle.partition.specs.Weights.{Weights, signed, unformed, place_out, pair_out, pairs_out, places_out_at, pairs_out_at, weights_out}
@@ -30,20 +30,20 @@ any_same p q (x ∷ xs) h = ap₂ ◌||◌ (h 0 (omega arith)) (any_same p q xs 
 row_out : (digits : List ℕ) (powers : List ℤ) (columns row strand : ℕ) → strand < columns → out_in (row_of columns row digits) (row_of columns row powers) strand ≡ out_in digits powers (row * columns + strand)
 row_out digits powers columns row strand h = ap unformed (ap₂ (λ (d : ℕ) (p : ℤ). weight d (signed p)) (row-cell 0 columns row strand digits h) (row-cell (pos 0) columns row strand powers h))
 
-get_d_past : (n : ℕ) (f : ℕ → List ℕ) (i : ℕ) → n ≤ i → get_or (tabulate n f) i [] ≡ []
+get_or-past : (n : ℕ) (f : ℕ → List ℕ) (i : ℕ) → n ≤ i → get_or (tabulate n f) i [] ≡ []
 unfolding tabulate
-get_d_past zero f i h = refl
-get_d_past (suc n) f zero h = absurd (not-suc-le-zero h)
-get_d_past (suc n) f (suc i) h = get_d_past n (λ k. f (suc k)) i (omega arith)
+get_or-past zero f i h = refl
+get_or-past (suc n) f zero h = absurd (not-suc-le-zero h)
+get_or-past (suc n) f (suc i) h = get_or-past n (λ k. f (suc k)) i (omega arith)
 
 module _ (w : Weights) (rows counts : List ℕ) (s : Searchable w.strands rows counts) where
   friends-at : (i : ℕ) → i < length counts → get_or (friends_in rows counts) i [] ≡ friends_at rows counts i
   unfolding friends_in
-  friends-at i h = get_d_tabulate (length counts) (friends_at rows counts) [] i h
+  friends-at i h = get_or-tabulate (length counts) (friends_at rows counts) [] i h
 
   friends-past : (i : ℕ) → length counts ≤ i → get_or (friends_in rows counts) i [] ≡ []
   unfolding friends_in
-  friends-past i h = get_d_past (length counts) (friends_at rows counts) i h
+  friends-past i h = get_or-past (length counts) (friends_at rows counts) i h
 
   -- the friends of a position, lent as a part
   pub friends-part : (i end : ℕ) → end ≡ 64 * i + get_or counts i 0 - 1 → i < length counts → take (end - 64 * i) (drop (64 * i) rows) ≡ friends_at rows counts i

@@ -11,7 +11,7 @@ use lib.IntN.{ℤ, pos}
 use lib.ListN.{length, get_or, take, drop, length-drop}
 use lib.Seq.{get_or-take, get_or-drop, length-take-le, drop-drop}
 use Rattle.lists.specs.Build.{tabulate}
-use Rattle.lists.proofs.Build.{length-tabulate, get_d_tabulate, drop-tabulate, tabulate-past}
+use Rattle.lists.proofs.Build.{length-tabulate, get_or-tabulate, drop-tabulate, tabulate-past}
 use Rattle.lists.proofs.Grid.{row-end}
 use Rattle.lists.proofs.Places.{mem-get_or}
 use Rattle.ensemble.specs.Layout.{Searchable}
@@ -103,7 +103,7 @@ module _ {strands : ℕ} {rows counts : List ℕ} (s : Searchable strands rows c
 
   pub options-at : (i : ℕ) → i < length counts → get_or (options_in rows counts) i [] ≡ options_at rows counts i
   unfolding options_in
-  options-at i h = get_d_tabulate (length counts) (options_at rows counts) [] i h
+  options-at i h = get_or-tabulate (length counts) (options_at rows counts) [] i h
 
   few-options : Few (options_in rows counts)
   unfolding options_in

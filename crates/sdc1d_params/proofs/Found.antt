@@ -10,7 +10,7 @@ use lib.ListN.{length, get_or}
 use borrow.Author.Tests.{ne_eqb, eqb-true, eqb-false, ltb-false}
 use Rattle.lists.specs.Find.{any, first_index}
 use Rattle.lists.specs.Build.{tabulate, up_to}
-use Rattle.lists.proofs.Build.{length-tabulate, get_d_tabulate}
+use Rattle.lists.proofs.Build.{length-tabulate, get_or-tabulate}
 use Rattle.lists.proofs.Counted.{map-tabulate, tabulate-same, any-fails}
 use Rattle.sdc_common.specs.Names.{Name, base_of, stars_of, same_name}
 use Rattle.sdc_common.specs.Lent.{Glue, part_of, names_of, glue_of, glues_of}
@@ -49,7 +49,7 @@ module _ (strands : List Glue) (text rows numbers : List ℕ) (e : numbers ≡ n
   numbers-length = ap length listed ∙ length-tabulate (length rows / 3) (λ k. glue_number (bases_of strands) (glue_at text rows k))
 
   pub number-at : (k : ℕ) → k < length rows / 3 → get_or numbers k 0 ≡ glue_number (bases_of strands) (glue_at text rows k)
-  number-at k h = ap (λ (xs : List ℕ). get_or xs k 0) listed ∙ get_d_tabulate (length rows / 3) (λ j. glue_number (bases_of strands) (glue_at text rows j)) 0 k h
+  number-at k h = ap (λ (xs : List ℕ). get_or xs k 0) listed ∙ get_or-tabulate (length rows / 3) (λ j. glue_number (bases_of strands) (glue_at text rows j)) 0 k h
 
   pub number_small : too_many_bases strands ≡ false → (k : ℕ) → k < length rows / 3 → get_or numbers k 0 < 64
   number_small few k h =

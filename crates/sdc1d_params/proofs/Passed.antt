@@ -10,7 +10,7 @@ use lib.ListN.{length, get_or}
 use borrow.Author.Tests.{ltb-false, lt-ltb, le-ltb}
 use Rattle.lists.specs.Find.{any}
 use Rattle.lists.specs.Build.{tabulate}
-use Rattle.lists.proofs.Build.{length-tabulate, get_d_tabulate}
+use Rattle.lists.proofs.Build.{length-tabulate, get_or-tabulate}
 use Rattle.lists.proofs.Counted.{map-tabulate, tabulate-same}
 use Rattle.reply.specs.First.{Check, ◌if◌, first_of}
 use Rattle.reply.specs.declared.Refusal.{Refusal}
@@ -130,8 +130,8 @@ module _ (text : List ℕ) (users : ℕ) (strands scaffold entries : List ℕ) (
 
   pub cells-found : (k : ℕ) → k < entry_rows entries → cell_at rows columns k ≡ cell_of_entry p (entry_at entries energies k)
   cells-found k h =
-      ap₂ cell (ap (λ (xs : List ℕ). get_or xs k 0) r ∙ get_d_tabulate (entry_rows entries) (row_of held text entries energies) 0 k h)
-      (ap (λ (xs : List ℕ). get_or xs k 0) c ∙ get_d_tabulate (entry_rows entries) (column_of held text entries energies) 0 k h)
+      ap₂ cell (ap (λ (xs : List ℕ). get_or xs k 0) r ∙ get_or-tabulate (entry_rows entries) (row_of held text entries energies) 0 k h)
+      (ap (λ (xs : List ℕ). get_or xs k 0) c ∙ get_or-tabulate (entry_rows entries) (column_of held text entries energies) 0 k h)
       ∙ ap (λ (bs : List Name). cell_among bs text (entry_at entries energies k)) b
 
   pub twice_found : duplicated (tabulate (length rows) (cell_at rows columns)) ≡ duplicated (cells_of (writes_of p))

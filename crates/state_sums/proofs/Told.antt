@@ -9,7 +9,7 @@ use native.Mathlib.Omega.{arith}
 use lib.ListN.{length, get_or}
 use borrow.Author.Tests.{eq-eqb, ne_eqb, eqb-false}
 use Rattle.lists.specs.Build.{tabulate}
-use Rattle.lists.proofs.Build.{length-tabulate, get_d_tabulate}
+use Rattle.lists.proofs.Build.{length-tabulate, get_or-tabulate}
 use Rattle.lists.proofs.Tests.{neither}
 use Rattle.reply.specs.First.{Check, first_of, ◌if◌, ◌or_else◌}
 use Rattle.reply.specs.Figures.{Figures, given, refused_with, figures_of}
@@ -100,11 +100,11 @@ module _ (d : Design) (w : Weights) (figure : Weight) where
 
 -- ---- the figure
 
-get_d_past : (n : ℕ) (f : ℕ → List ℕ) (i : ℕ) → n ≤ i → get_or (tabulate n f) i [] ≡ []
+get_or-past : (n : ℕ) (f : ℕ → List ℕ) (i : ℕ) → n ≤ i → get_or (tabulate n f) i [] ≡ []
 unfolding tabulate
-get_d_past zero f i h = refl
-get_d_past (suc n) f zero h = absurd (not-suc-le-zero h)
-get_d_past (suc n) f (suc i) h = get_d_past n (λ k. f (suc k)) i (omega arith)
+get_or-past zero f i h = refl
+get_or-past (suc n) f zero h = absurd (not-suc-le-zero h)
+get_or-past (suc n) f (suc i) h = get_or-past n (λ k. f (suc k)) i (omega arith)
 
 -- no position has more than 63 friends
 friends-of-few : (d : Design) → TablesPass d → (i : ℕ) → i < positions d → length (friends_of d i) ≤ 63
@@ -123,8 +123,8 @@ unfolding model_of
 few-friends d t i = go (dec_le (suc i) (positions d))
   where
     go : Dec (suc i ≤ positions d) → length (get_or (tabulate (positions d) (friends_of d)) i []) ≤ 63
-    go (yes h) = rw (get_d_tabulate (positions d) (friends_of d) [] i h) (friends-of-few d t i h)
-    go (no f) = rw (get_d_past (positions d) (friends_of d) i (let z = lt_of_not-le f in omega arith)) (omega arith)
+    go (yes h) = rw (get_or-tabulate (positions d) (friends_of d) [] i h) (friends-of-few d t i h)
+    go (no f) = rw (get_or-past (positions d) (friends_of d) i (let z = lt_of_not-le f in omega arith)) (omega arith)
 
 model-positions : (d : Design) → Model.positions (model_of d) ≡ positions d
 unfolding model_of

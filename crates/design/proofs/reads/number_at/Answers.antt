@@ -3,11 +3,11 @@ use mathlib.Core.Path.{sym}
 use lib.ListN.{get_or-eq_default}
 use lib.Ieee.{nan, of_bits}
 use Rattle.doubles.specs.Decimal.{zero}
-use Rattle.lists.proofs.Places.{get_d_default}
+use Rattle.lists.proofs.Places.{get_or-default}
 use Rattle.design.proofs.reads.number_at.Goals as goal
 
 pub returns-then-place-numbers : goal.returns-then-place-numbers
-returns-then-place-numbers c = get_d_default c.args.numbers.now c.args.place nan zero c.if-place-numbers.true
+returns-then-place-numbers c = get_or-default c.args.numbers.now c.args.place nan zero c.if-place-numbers.true
 
 pub returns : goal.returns
 unfolding of_bits

@@ -5,7 +5,7 @@ use native.Mathlib.Omega.{arith}
 use lib.Ieee.{of_bits, nan}
 use lib.ListN.{get_or-eq_default}
 use Rattle.doubles.specs.Decimal.{zero}
-use Rattle.lists.proofs.Places.{get_d_default}
+use Rattle.lists.proofs.Places.{get_or-default}
 use Rattle.sheet.proofs.rows.number_of.Goals as goal
 
 pub returns-then-numbers-row : goal.returns-then-numbers-row
@@ -23,4 +23,4 @@ returns-then-numbers-at c =
 pub returns : goal.returns
 returns c =
     let a = c.args in
-    get_d_default a.numbers.now (3 * a.row + a.j) nan zero (omega arith)
+    get_or-default a.numbers.now (3 * a.row + a.j) nan zero (omega arith)
