@@ -9,7 +9,7 @@ use lib.IntN.{ℤ, pos, negsuc, ◌+ℤ◌}
 use lib.Ieee.{up, down}
 use lib.Ieee.Fits.{down_pos}
 use lib.Pow.{pow-add}
-use Rattle.fractions.specs.Frac.{frac, one, times, inverse, LeFrac}
+use Rattle.fractions.specs.Frac.{times, inverse, LeFrac}
 use Rattle.probabilities.specs.Quotient.{cut}
 use Rattle.fractions.specs.declared.Weight.{Weight}
 use Rattle.fractions.specs.Weight.{weight, worth, InForm}

@@ -1,10 +1,10 @@
 -- The quotient of two sums, each within one part in 2^14, cut to 31 digits, lies within one part in 2^12 of the exact one. Assumes nothing.
-use Prim.Native.Nat.{ℕ, ◌+◌, ◌^◌, ◌≤◌, ◌<◌}
+use Prim.Native.Nat.{ℕ, ◌≤◌, ◌<◌}
 use native.Mathlib.Nat.{mul-pos}
 use native.Mathlib.Omega.{arith}
 use lib.Dec.{lit≤, lit<}
 use Rattle.probabilities.specs.Quotient.{cut}
-use Rattle.fractions.specs.Frac.{Frac, frac, one, times, inverse, LeFrac}
+use Rattle.fractions.specs.Frac.{Frac, frac, times, inverse, LeFrac}
 use Rattle.fractions.proofs.Frac.{le-frac-refl, le-frac-trans, times-mono}
 use Rattle.fractions.specs.Number.{Number, quotient_of, less_part, more_part, WithinPart}
 use Rattle.fractions.proofs.Within.{within-quotient, within-rounded}

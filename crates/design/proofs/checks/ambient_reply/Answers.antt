@@ -12,21 +12,21 @@ use Rattle.design.proofs.checks.ambient_reply.Goals as goal
 pub returns-then-not-in_range : goal.returns-then-not-in_range
 unfolding ambient_out bad_ambient nearest neg of_bits
 returns-then-not-in_range c =
-    let rt : rt_out c.args.ambient ≡ true = ap not (sym c.in_range.ensures) ∙ c.if-not-in_range.true-raw in
+    let rt : rt_out c.args.ambient ≡ true = ap not (sym c.in_range.ensures ∙ c.if-not-in_range.true) in
     simp rt
 
 pub returns-then-not-in_range-2 : goal.returns-then-not-in_range-2
 unfolding ambient_out bad_ambient nearest neg of_bits
 returns-then-not-in_range-2 c =
     let a = c.args.ambient in
-    let rt : rt_out a ≡ false = ap not (sym c.in_range.ensures) ∙ c.if-not-in_range.false-raw in
-    let strand : strand_excess_out a ≡ true = ap not (sym c.in_range-2.ensures) ∙ c.if-not-in_range-2.true-raw in
+    let rt : rt_out a ≡ false = ap not (sym c.in_range.ensures ∙ c.if-not-in_range.false) in
+    let strand : strand_excess_out a ≡ true = ap not (sym c.in_range-2.ensures ∙ c.if-not-in_range-2.true) in
     simp (rt, strand)
 
 pub returns : goal.returns
 unfolding ambient_out bad_ambient nearest neg of_bits
 returns c =
     let a = c.args.ambient in
-    let rt : rt_out a ≡ false = ap not (sym c.in_range.ensures) ∙ c.if-not-in_range.false-raw in
-    let strand : strand_excess_out a ≡ false = ap not (sym c.in_range-2.ensures) ∙ c.if-not-in_range-2.false-raw in
+    let rt : rt_out a ≡ false = ap not (sym c.in_range.ensures ∙ c.if-not-in_range.false) in
+    let strand : strand_excess_out a ≡ false = ap not (sym c.in_range-2.ensures ∙ c.if-not-in_range-2.false) in
     simp (rt, strand) (c.refused_at.ensures ∙ ap (λ (b : Bool). first_of (AmbientOut if not b at 2 ∷ [])) c.in_range-scaffold_in.ensures)

@@ -5,8 +5,8 @@ use Rattle.design.proofs.needed.pairs_read.Goals as goal
 
 pub overflow_mul-read : goal.overflow_mul-read
 overflow_mul-read c =
-    let left = c.shared_slice_known-in-loop-position-1.given (c.loop-position.position - 1) in
-    let right = c.shared_slice_known-in-loop-position-1.given c.loop-position.position in
+    let left = c.type_inv.counts (c.loop-position.position - 1) in
+    let right = c.type_inv.counts c.loop-position.position in
     let low : c.wide.result ≤ 255 = omega (arith, c.wide.ensures, left) in
     let low2 : c.wide-in-loop-position.result ≤ 255 = omega (arith, c.wide-in-loop-position.ensures, right) in
     let product = mul-le-mul low low2 in
@@ -14,8 +14,8 @@ overflow_mul-read c =
 
 pub overflow_add-read : goal.overflow_add-read
 overflow_add-read c =
-    let left = c.shared_slice_known-in-loop-position-1.given (c.loop-position.position - 1) in
-    let right = c.shared_slice_known-in-loop-position-1.given c.loop-position.position in
+    let left = c.type_inv.counts (c.loop-position.position - 1) in
+    let right = c.type_inv.counts c.loop-position.position in
     let low : c.wide.result ≤ 255 = omega (arith, c.wide.ensures, left) in
     let low2 : c.wide-in-loop-position.result ≤ 255 = omega (arith, c.wide-in-loop-position.ensures, right) in
     let product = mul-le-mul low low2 in
@@ -23,8 +23,8 @@ overflow_add-read c =
 
 pub loop-position-preserved : goal.loop-position-preserved
 loop-position-preserved c =
-    let left = c.shared_slice_known-in-loop-position-1.given (c.loop-position.position - 1) in
-    let right = c.shared_slice_known-in-loop-position-1.given c.loop-position.position in
+    let left = c.type_inv.counts (c.loop-position.position - 1) in
+    let right = c.type_inv.counts c.loop-position.position in
     let low : c.wide.result ≤ 255 = omega (arith, c.wide.ensures, left) in
     let low2 : c.wide-in-loop-position.result ≤ 255 = omega (arith, c.wide-in-loop-position.ensures, right) in
     let product = mul-le-mul low low2 in
