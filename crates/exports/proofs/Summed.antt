@@ -1,5 +1,5 @@
 -- What a sum that is answered says of the weight that is told. Assumes nothing.
-use mathlib.Core.Path.{◌≡◌, sym, subst, ◌∙◌}
+use mathlib.Core.Path.{◌≡◌, sym, ◌∙◌}
 use Prim.Native.Nat.{ℕ}
 use Rattle.reply.specs.Figures.{Figures}
 use Rattle.fractions.specs.declared.Weight.{Weight}

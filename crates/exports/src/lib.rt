@@ -2,6 +2,7 @@
 // One function is one call: it answers the reply number and writes places and figures through pointers. Of one and of two sequences there is
 // also a function for the reply number and one for each double, as its 64 bits.
 #![tactic(auto)]
+
 mod answers;
 pub mod designs;
 mod figures;

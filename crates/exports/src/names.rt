@@ -58,12 +58,7 @@ pub fn mj_name(
 }
 
 // The numbers of all glues of the user strands, three for each.
-pub fn mj_strand_glues(
-    text: &[u8],
-    users: usize,
-    strands: &[usize],
-    glues: &mut [u8],
-) -> u32
+pub fn mj_strand_glues(text: &[u8], users: usize, strands: &[usize], glues: &mut [u8]) -> u32
     ensures value { result ≡ strand_glues users text.now (names_of strands.now) (length glues.old) }
     ensures glues_after { glues.new ≡ glues_after users text.now (names_of strands.now) glues.old }
 {

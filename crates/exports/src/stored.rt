@@ -112,12 +112,7 @@ pub fn mj_deck_read(
 }
 
 // Writes the deck of a configuration into 129 lent words, and tells how many it has. Replies 1, 9.
-pub fn mj_deck_write(
-    form: u32,
-    configuration: &[u8],
-    words: &mut [u32],
-    count: &mut u64,
-) -> u32
+pub fn mj_deck_write(form: u32, configuration: &[u8], words: &mut [u32], count: &mut u64) -> u32
     ensures value { result ≡ (write_in (form_numbered form) configuration.now words.old).number }
     ensures count_after { count.new ≡ (write_in (form_numbered form) configuration.now words.old).count }
     ensures words_after { words.new ≡ words_in (form_numbered form) configuration.now words.old }

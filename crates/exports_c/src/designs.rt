@@ -24,7 +24,21 @@ pub extern "C" fn mj_strand_bond(
 ) -> u32
     ensures { Told (strand_bond_answer (lent_at scaffold.entry marks.entry glues.entry dg.entry ds.entry potentials.entry rt strand_excess scaffold_excess) x y) result place.new bond.new }
 {
-    exports::designs::mj_strand_bond(scaffold, marks, glues, dg, ds, potentials, rt, strand_excess, scaffold_excess, x, y, place, bond)
+    exports::designs::mj_strand_bond(
+        scaffold,
+        marks,
+        glues,
+        dg,
+        ds,
+        potentials,
+        rt,
+        strand_excess,
+        scaffold_excess,
+        x,
+        y,
+        place,
+        bond,
+    )
 }
 
 // The bond between the scaffold at a position and a strand.
@@ -46,7 +60,21 @@ pub extern "C" fn mj_scaffold_bond(
 ) -> u32
     ensures { Told (scaffold_bond_answer (lent_at scaffold.entry marks.entry glues.entry dg.entry ds.entry potentials.entry rt strand_excess scaffold_excess) position strand) result place.new bond.new }
 {
-    exports::designs::mj_scaffold_bond(scaffold, marks, glues, dg, ds, potentials, rt, strand_excess, scaffold_excess, position, strand, place, bond)
+    exports::designs::mj_scaffold_bond(
+        scaffold,
+        marks,
+        glues,
+        dg,
+        ds,
+        potentials,
+        rt,
+        strand_excess,
+        scaffold_excess,
+        position,
+        strand,
+        place,
+        bond,
+    )
 }
 
 // The friends of a position, into 64 lent entries, and how many there are.
@@ -69,7 +97,21 @@ pub extern "C" fn mj_friends(
     ensures told { Told (friends_answer (lent_at scaffold.entry marks.entry glues.entry dg.entry ds.entry potentials.entry rt strand_excess scaffold_excess) position entries.old) result place.new count.new }
     ensures entries_after { entries.new ≡ friends_entries (lent_at scaffold.entry marks.entry glues.entry dg.entry ds.entry potentials.entry rt strand_excess scaffold_excess) position entries.old }
 {
-    exports::designs::mj_friends(scaffold, marks, glues, dg, ds, potentials, rt, strand_excess, scaffold_excess, position, entries, place, count)
+    exports::designs::mj_friends(
+        scaffold,
+        marks,
+        glues,
+        dg,
+        ds,
+        potentials,
+        rt,
+        strand_excess,
+        scaffold_excess,
+        position,
+        entries,
+        place,
+        count,
+    )
 }
 
 // How many states there are.
@@ -89,7 +131,19 @@ pub extern "C" fn mj_states(
 ) -> u32
     ensures { Told (count_answer (lent_at scaffold.entry marks.entry glues.entry dg.entry ds.entry potentials.entry rt strand_excess scaffold_excess)) result place.new count.new }
 {
-    exports::designs::mj_states(scaffold, marks, glues, dg, ds, potentials, rt, strand_excess, scaffold_excess, place, count)
+    exports::designs::mj_states(
+        scaffold,
+        marks,
+        glues,
+        dg,
+        ds,
+        potentials,
+        rt,
+        strand_excess,
+        scaffold_excess,
+        place,
+        count,
+    )
 }
 
 // The state at a rank, into one lent entry for each position.
@@ -111,7 +165,20 @@ pub extern "C" fn mj_state(
     ensures told { Told (rank_answer (lent_at scaffold.entry marks.entry glues.entry dg.entry ds.entry potentials.entry rt strand_excess scaffold_excess) rank entries.old) result place.new tt }
     ensures entries_after { entries.new ≡ rank_entries (lent_at scaffold.entry marks.entry glues.entry dg.entry ds.entry potentials.entry rt strand_excess scaffold_excess) rank entries.old }
 {
-    exports::designs::mj_state(scaffold, marks, glues, dg, ds, potentials, rt, strand_excess, scaffold_excess, rank, entries, place)
+    exports::designs::mj_state(
+        scaffold,
+        marks,
+        glues,
+        dg,
+        ds,
+        potentials,
+        rt,
+        strand_excess,
+        scaffold_excess,
+        rank,
+        entries,
+        place,
+    )
 }
 
 // The state energy of a configuration.
@@ -132,7 +199,20 @@ pub extern "C" fn mj_state_energy(
 ) -> u32
     ensures { Told (state_energy_answer (lent_at scaffold.entry marks.entry glues.entry dg.entry ds.entry potentials.entry rt strand_excess scaffold_excess) configuration.now) result place.new energy.new }
 {
-    exports::designs::mj_state_energy(scaffold, marks, glues, dg, ds, potentials, rt, strand_excess, scaffold_excess, configuration, place, energy)
+    exports::designs::mj_state_energy(
+        scaffold,
+        marks,
+        glues,
+        dg,
+        ds,
+        potentials,
+        rt,
+        strand_excess,
+        scaffold_excess,
+        configuration,
+        place,
+        energy,
+    )
 }
 
 // The chain energy of a configuration, as it is and times RT.
@@ -154,5 +234,19 @@ pub extern "C" fn mj_chain_energy(
 ) -> u32
     ensures { Told (chain_energy_answer (lent_at scaffold.entry marks.entry glues.entry dg.entry ds.entry potentials.entry rt strand_excess scaffold_excess) configuration.now) result place.new (chain_of sum.new energy.new) }
 {
-    exports::designs::mj_chain_energy(scaffold, marks, glues, dg, ds, potentials, rt, strand_excess, scaffold_excess, configuration, place, sum, energy)
+    exports::designs::mj_chain_energy(
+        scaffold,
+        marks,
+        glues,
+        dg,
+        ds,
+        potentials,
+        rt,
+        strand_excess,
+        scaffold_excess,
+        configuration,
+        place,
+        sum,
+        energy,
+    )
 }

@@ -1,6 +1,7 @@
 // The C functions that include/mujplesten.h declares, each a call of the function of its name in the crate exports, under the same contract;
 // a crate is a library or the archive that C links, not both.
 #![tactic(auto)]
+
 mod designs;
 mod names;
 mod params;

@@ -26,5 +26,21 @@ pub extern "C" fn mj_params(
 ) -> u32
     ensures { outcome_of result strand_glues.new scaffold_glues.new dg.new ds.new ≡ built_in (build_numbered build) (params_of text.now users strands.now scaffold.now entries.now energies.now (penalty_of penalty_dg penalty_ds) (copies_of quencher reporter)) (lent_of strand_glues.old scaffold_glues.old dg.old ds.old) }
 {
-    exports::params::mj_params(build, text, users, strands, scaffold, entries, energies, penalty_dg, penalty_ds, quencher, reporter, strand_glues, scaffold_glues, dg, ds)
+    exports::params::mj_params(
+        build,
+        text,
+        users,
+        strands,
+        scaffold,
+        entries,
+        energies,
+        penalty_dg,
+        penalty_ds,
+        quencher,
+        reporter,
+        strand_glues,
+        scaffold_glues,
+        dg,
+        ds,
+    )
 }

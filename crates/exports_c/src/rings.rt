@@ -24,7 +24,20 @@ pub extern "C" fn mj_ring_energy(
 ) -> u32
     ensures { Told (ring_energy_answer (lent_at scaffold.entry marks.entry glues.entry dg.entry ds.entry potentials.entry rt strand_excess scaffold_excess) configuration.now) result place.new energy.new }
 {
-    exports::rings::mj_ring_energy(scaffold, marks, glues, dg, ds, potentials, rt, strand_excess, scaffold_excess, configuration, place, energy)
+    exports::rings::mj_ring_energy(
+        scaffold,
+        marks,
+        glues,
+        dg,
+        ds,
+        potentials,
+        rt,
+        strand_excess,
+        scaffold_excess,
+        configuration,
+        place,
+        energy,
+    )
 }
 
 // The lowest ring, into one lent entry for each position, and its energy.
@@ -47,5 +60,18 @@ pub extern "C" fn mj_ring_search(
     ensures configuration_after { configuration.new ≡ ring_search_entries (lent_at scaffold.entry marks.entry glues.entry dg.entry ds.entry potentials.entry rt strand_excess scaffold_excess) configuration.old }
     ensures lowest_ring_told { LowestRingTold (lent_at scaffold.entry marks.entry glues.entry dg.entry ds.entry potentials.entry rt strand_excess scaffold_excess) result configuration.new energy.new }
 {
-    exports::rings::mj_ring_search(scaffold, marks, glues, dg, ds, potentials, rt, strand_excess, scaffold_excess, configuration, place, energy)
+    exports::rings::mj_ring_search(
+        scaffold,
+        marks,
+        glues,
+        dg,
+        ds,
+        potentials,
+        rt,
+        strand_excess,
+        scaffold_excess,
+        configuration,
+        place,
+        energy,
+    )
 }

@@ -26,5 +26,18 @@ pub extern "C" fn mj_search(
     ensures configuration_after { configuration.new ≡ search_entries (lent_at scaffold.entry marks.entry glues.entry dg.entry ds.entry potentials.entry rt strand_excess scaffold_excess) configuration.old }
     ensures lowest_told { LowestTold (lent_at scaffold.entry marks.entry glues.entry dg.entry ds.entry potentials.entry rt strand_excess scaffold_excess) result configuration.new energy.new }
 {
-    exports::search::mj_search(scaffold, marks, glues, dg, ds, potentials, rt, strand_excess, scaffold_excess, configuration, place, energy)
+    exports::search::mj_search(
+        scaffold,
+        marks,
+        glues,
+        dg,
+        ds,
+        potentials,
+        rt,
+        strand_excess,
+        scaffold_excess,
+        configuration,
+        place,
+        energy,
+    )
 }

@@ -33,7 +33,24 @@ pub extern "C" fn mj_free_sum(
     ensures told { Told (free_answer (lent_at scaffold.entry marks.entry glues.entry dg.entry ds.entry potentials.entry rt strand_excess scaffold_excess) (lent_weights (length potentials.now) place_digits.entry place_powers.entry pair_digits.entry pair_powers.entry)) result place.new (weight digits.new power.new) }
     ensures free_told { FreeTold (lent_at scaffold.entry marks.entry glues.entry dg.entry ds.entry potentials.entry rt strand_excess scaffold_excess) (lent_weights (length potentials.now) place_digits.entry place_powers.entry pair_digits.entry pair_powers.entry) result (weight digits.new power.new) }
 {
-    exports::sums::mj_free_sum(scaffold, marks, glues, dg, ds, potentials, rt, strand_excess, scaffold_excess, place_digits, place_powers, pair_digits, pair_powers, place, digits, power)
+    exports::sums::mj_free_sum(
+        scaffold,
+        marks,
+        glues,
+        dg,
+        ds,
+        potentials,
+        rt,
+        strand_excess,
+        scaffold_excess,
+        place_digits,
+        place_powers,
+        pair_digits,
+        pair_powers,
+        place,
+        digits,
+        power,
+    )
 }
 
 // The sum over the states that lists of allowed occupants leave.
@@ -62,5 +79,25 @@ pub extern "C" fn mj_constrained_sum(
     ensures told { Told (constrained_answer (lent_at scaffold.entry marks.entry glues.entry dg.entry ds.entry potentials.entry rt strand_excess scaffold_excess) (lent_weights (length potentials.now) place_digits.entry place_powers.entry pair_digits.entry pair_powers.entry) (lent_lists numbers.entry starts.entry lengths.entry)) result place.new (weight digits.new power.new) }
     ensures constrained_told { ConstrainedTold (lent_at scaffold.entry marks.entry glues.entry dg.entry ds.entry potentials.entry rt strand_excess scaffold_excess) (lent_weights (length potentials.now) place_digits.entry place_powers.entry pair_digits.entry pair_powers.entry) (lent_lists numbers.entry starts.entry lengths.entry) result (weight digits.new power.new) }
 {
-    exports::sums::mj_constrained_sum(scaffold, marks, glues, dg, ds, potentials, rt, strand_excess, scaffold_excess, place_digits, place_powers, pair_digits, pair_powers, numbers, starts, lengths, place, digits, power)
+    exports::sums::mj_constrained_sum(
+        scaffold,
+        marks,
+        glues,
+        dg,
+        ds,
+        potentials,
+        rt,
+        strand_excess,
+        scaffold_excess,
+        place_digits,
+        place_powers,
+        pair_digits,
+        pair_powers,
+        numbers,
+        starts,
+        lengths,
+        place,
+        digits,
+        power,
+    )
 }

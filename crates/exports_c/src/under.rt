@@ -25,5 +25,19 @@ pub extern "C" fn mj_first_state_under(
     ensures told { Told (ceiling_answer (lent_at scaffold.entry marks.entry glues.entry dg.entry ds.entry potentials.entry rt strand_excess scaffold_excess) ceiling entries.old) result place.new energy.new }
     ensures entries_after { entries.new ≡ ceiling_entries (lent_at scaffold.entry marks.entry glues.entry dg.entry ds.entry potentials.entry rt strand_excess scaffold_excess) ceiling entries.old }
 {
-    exports::under::mj_first_state_under(scaffold, marks, glues, dg, ds, potentials, rt, strand_excess, scaffold_excess, ceiling, entries, place, energy)
+    exports::under::mj_first_state_under(
+        scaffold,
+        marks,
+        glues,
+        dg,
+        ds,
+        potentials,
+        rt,
+        strand_excess,
+        scaffold_excess,
+        ceiling,
+        entries,
+        place,
+        energy,
+    )
 }

@@ -1,5 +1,4 @@
 -- `exports::mj_sequence_reply` meets its contract: the figure of the answer is that of its definition. Assumes nothing.
-use borrow.Author.Rules.{rules}
 use Rattle.exports.proofs.mj_sequence_reply.Goals as goal
 
 pub returns : goal.returns

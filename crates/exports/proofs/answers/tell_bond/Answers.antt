@@ -1,7 +1,6 @@
 -- `exports::answers::tell_bond` meets its contract: what is given, and 0 where it is refused. Assumes nothing.
 use mathlib.Core.Path.{refl}
 use lib.Ieee.{of_bits}
-use borrow.Author.Rules.{rules}
 use Rattle.exports.proofs.answers.tell_bond.Goals as goal
 
 pub returns-in-Refused : goal.returns-in-Refused

@@ -1,7 +1,6 @@
 -- `exports::answers::tell_chain` meets its contract: what is given, and 0 where it is refused. Assumes nothing.
 use mathlib.Core.Path.{refl}
 use lib.Ieee.{of_bits}
-use borrow.Author.Rules.{rules}
 use Rattle.exports.proofs.answers.tell_chain.Goals as goal
 
 pub returns-in-Energy : goal.returns-in-Energy

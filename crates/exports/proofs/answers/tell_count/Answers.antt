@@ -1,6 +1,5 @@
 -- `exports::answers::tell_count` meets its contract: what is given, and 0 where it is refused. Assumes nothing.
 use mathlib.Core.Path.{refl}
-use borrow.Author.Rules.{rules}
 use Rattle.exports.proofs.answers.tell_count.Goals as goal
 
 pub returns-in-Refused : goal.returns-in-Refused

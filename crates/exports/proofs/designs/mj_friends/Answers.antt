@@ -1,10 +1,8 @@
 -- `exports::designs::mj_friends` meets its contract, from the contract of the call. Assumes nothing.
-use borrow.Author.Rules.{rules}
 use Rattle.exports.proofs.designs.mj_friends.Goals as goal
 
 pub returns : goal.returns
 returns c =
-    
     let ambient = c.ambient.ensures in
     record {
       told = rw (c.friends_btm.ensures.result_value, ambient) at c.tell_count.ensures;

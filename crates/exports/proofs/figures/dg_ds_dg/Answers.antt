@@ -1,6 +1,5 @@
 -- `exports::figures::dg_ds_dg` meets its contract: the bits of what is given, and of 0.0 where it is refused. Assumes nothing.
 use lib.Ieee.{to_bits}
-use borrow.Author.Rules.{rules}
 use Rattle.exports.proofs.figures.dg_ds_dg.Goals as goal
 
 pub returns-in-Given : goal.returns-in-Given

@@ -1,5 +1,4 @@
 -- `exports::figures::dg_ds_reply` meets its contract. Assumes nothing.
-use borrow.Author.Rules.{rules}
 use Rattle.exports.proofs.figures.dg_ds_reply.Goals as goal
 
 pub returns-in-Refused : goal.returns-in-Refused

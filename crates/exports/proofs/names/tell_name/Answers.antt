@@ -1,6 +1,5 @@
 -- `exports::names::tell_name` meets its contract: what is given, and 0 where it is refused. Assumes nothing.
 use mathlib.Core.Path.{refl}
-use borrow.Author.Rules.{rules}
 use Rattle.exports.proofs.names.tell_name.Goals as goal
 
 pub returns-in-Given : goal.returns-in-Given

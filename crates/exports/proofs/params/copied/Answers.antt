@@ -1,6 +1,5 @@
 -- `exports::params::copied` meets its contract. Assumes nothing.
 use borrow.Author.Tests.{ne_eqb}
-use borrow.Author.Rules.{rules}
 use Rattle.exports.proofs.params.copied.Goals as goal
 
 pub returns-then-strand-eq0 : goal.returns-then-strand-eq0

@@ -1,5 +1,4 @@
 -- `exports::params::copies` meets its contract. Assumes nothing.
-use borrow.Author.Rules.{rules}
 use Rattle.exports.proofs.params.copies.Goals as goal
 
 pub returns : goal.returns

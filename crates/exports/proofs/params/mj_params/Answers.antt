@@ -1,11 +1,9 @@
 -- `exports::params::mj_params` meets its contract, from the contract of the call; a number that names no build is refused. Assumes nothing.
 use mathlib.Core.Path.{refl, sym, ◌∙◌}
-use borrow.Author.Rules.{rules}
 use Rattle.exports.proofs.params.mj_params.Goals as goal
 
 pub returns-in-Known : goal.returns-in-Known
 returns-in-Known c =
-    
     let named = sym c.of.ensures ∙ c.in-Known.is in
     rw named (rw c.number.ensures (rw c.copies.ensures at c.from_params.ensures))
 

@@ -1,11 +1,9 @@
 -- `exports::rings::mj_ring_search` meets its contract, from the contract of the call. Assumes nothing.
-use borrow.Author.Rules.{rules}
 use Rattle.exports.proofs.Answered.{ring-told}
 use Rattle.exports.proofs.rings.mj_ring_search.Goals as goal
 
 pub returns : goal.returns
 returns c =
-    
     let entries = c.args.configuration.now in
     let ambient = c.ambient.ensures in
     let ensured = c.ring_configuration.ensures in

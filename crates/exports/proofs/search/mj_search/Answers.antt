@@ -1,11 +1,9 @@
 -- `exports::search::mj_search` meets its contract, from the contract of the call. Assumes nothing.
-use borrow.Author.Rules.{rules}
 use Rattle.exports.proofs.Answered.{lowest-told}
 use Rattle.exports.proofs.search.mj_search.Goals as goal
 
 pub returns : goal.returns
 returns c =
-    
     let entries = c.args.configuration.now in
     let ambient = c.ambient.ensures in
     let ensured = c.mfe_configuration.ensures in

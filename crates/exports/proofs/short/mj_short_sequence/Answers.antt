@@ -1,5 +1,4 @@
 -- `exports::short::mj_short_sequence` meets its contract, from the contract of the call. Assumes nothing.
-use borrow.Author.Rules.{rules}
 use Rattle.exports.proofs.short.mj_short_sequence.Goals as goal
 
 pub returns : goal.returns

@@ -1,6 +1,5 @@
 -- `exports::short::tell_sequence` meets its contract: what is given, and 0 where it is refused. Assumes nothing.
 use mathlib.Core.Path.{refl}
-use borrow.Author.Rules.{rules}
 use Rattle.exports.proofs.short.tell_sequence.Goals as goal
 
 pub returns-in-Refused : goal.returns-in-Refused

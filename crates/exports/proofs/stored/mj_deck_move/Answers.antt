@@ -1,7 +1,6 @@
 -- `exports::stored::mj_deck_move` meets its contract, from the contract of the call; an unknown form is refused. Assumes nothing.
 use mathlib.Core.Path.{refl, sym, ◌∙◌}
 use native.Mathlib.Omega.{arith}
-use borrow.Author.Rules.{rules}
 use Rattle.exports.proofs.stored.mj_deck_move.Goals as goal
 
 pub returns-in-Known : goal.returns-in-Known

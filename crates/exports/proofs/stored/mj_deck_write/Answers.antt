@@ -1,6 +1,5 @@
 -- `exports::stored::mj_deck_write` meets its contract, from the contract of the call; an unknown form is refused. Assumes nothing.
 use mathlib.Core.Path.{refl, sym, ◌∙◌}
-use borrow.Author.Rules.{rules}
 use Rattle.exports.proofs.stored.mj_deck_write.Goals as goal
 
 pub returns-in-Known : goal.returns-in-Known

@@ -1,6 +1,5 @@
 -- `exports::stored::tell_read` meets its contract: what is given, and 0 where it is refused. Assumes nothing.
 use mathlib.Core.Path.{refl}
-use borrow.Author.Rules.{rules}
 use Rattle.exports.proofs.stored.tell_read.Goals as goal
 
 pub returns-in-Positions : goal.returns-in-Positions

@@ -1,6 +1,5 @@
 -- `exports::sums::mj_constrained_sum` meets its contract, from the contract of the call. Assumes nothing.
 use lib.ListN.{length}
-use borrow.Author.Rules.{rules}
 use Rattle.design.specs.Design.{Design, lent}
 use Rattle.partition.specs.Weights.{Weights}
 use Rattle.state_sums.specs.Sizes.{Lists}
@@ -11,7 +10,6 @@ use Rattle.exports.proofs.sums.mj_constrained_sum.Goals as goal
 
 pub returns : goal.returns
 returns c =
-    
     let a = c.args in
     let d : Design = lent a.scaffold a.marks a.glues a.dg a.ds a.potentials c.ambient.result in
     let w : Weights = weights (length a.potentials.now) a.place_digits.now a.place_powers.now a.pair_digits.now a.pair_powers.now in

@@ -1,6 +1,5 @@
 -- `exports::sums::tell_sum` meets its contract: what is given, and 0 where it is refused. Assumes nothing.
-use mathlib.Core.Path.{◌≡◌, refl, ap}
-use borrow.Author.Rules.{rules}
+use mathlib.Core.Path.{refl, ap}
 use mir.Syntax.{w32}
 use mir.Val.{SFits}
 use mir.Facts.{to_z-of_z}

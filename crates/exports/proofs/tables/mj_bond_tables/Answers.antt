@@ -1,10 +1,8 @@
 -- `exports::tables::mj_bond_tables` meets its contract, from the contract of the call. Assumes nothing.
-use borrow.Author.Rules.{rules}
 use Rattle.exports.proofs.tables.mj_bond_tables.Goals as goal
 
 pub returns : goal.returns
 returns c =
-    
     let ambient = c.ambient.ensures in
     let ensured = c.fill_bond_tables.ensures in
     record {

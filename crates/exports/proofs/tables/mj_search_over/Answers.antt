@@ -1,11 +1,9 @@
 -- `exports::tables::mj_search_over` meets its contract, from the contract of the call. Assumes nothing.
-use borrow.Author.Rules.{rules}
 use Rattle.exports.proofs.Tabled.{lowest-told-over}
 use Rattle.exports.proofs.tables.mj_search_over.Goals as goal
 
 pub returns : goal.returns
 returns c =
-    
     let a = c.args in
     let ambient = c.ambient.ensures in
     let ensured = c.search_over.ensures in
