@@ -3,6 +3,8 @@ use crate::names::{occupant_at, occupant_width, print_occupant};
 use crate::print::{Style, print, print_blanks, print_bytes, print_count, width};
 use crate::reads::part;
 use statements::words::place_at;
+use std::io;
+use std::io::Write;
 
 // What a line of a stretch holds beside its head.
 const LINE: usize = 66;
@@ -16,12 +18,11 @@ fn larger(a: usize, b: usize) -> usize {
 }
 
 // The glue of a position, or - where it has none: its size is 0.
-fn print_glue(text: &[u8], start: usize, size: usize) {
+fn print_glue<W: Write>(out: &mut W, text: &[u8], start: usize, size: usize) -> io::Result<()> {
     if size == 0 {
-        print(b"-");
-        return;
+        return print(out, b"-");
     }
-    print_bytes(part(text, start, size), Style::People);
+    print_bytes(out, part(text, start, size), Style::People)
 }
 
 // How wide the glue of a position is.
@@ -82,15 +83,16 @@ fn stretch_end(
 }
 
 // Blanks after what was `wide`, up to the end of its column and the gap.
-fn print_gap(column: usize, wide: usize) {
+fn print_gap<W: Write>(out: &mut W, column: usize, wide: usize) -> io::Result<()> {
     if wide < column {
-        print_blanks(column - wide);
+        print_blanks(out, column - wide)?;
     }
-    print(b"  ");
+    print(out, b"  ")
 }
 
 // The strands of a stretch, on one line.
-fn print_strands(
+fn print_strands<W: Write>(
+    out: &mut W,
     text: &[u8],
     glue_starts: &[usize],
     glue_sizes: &[usize],
@@ -100,14 +102,15 @@ fn print_strands(
     marks: &[u8],
     from: usize,
     end: usize,
-) {
-    print(b"    strands   ");
+) -> io::Result<()> {
+    print(out, b"    strands   ")?;
     for i in from..end {
         let occupant = occupant_at(configuration, marks, name_starts.len(), i);
-        print_occupant(occupant, text, name_starts, name_sizes, Style::People);
+        print_occupant(out, occupant, text, name_starts, name_sizes, Style::People)?;
         if i + 1 < end {
             let wide = occupant_width(occupant, text, name_starts, name_sizes);
             print_gap(
+                out,
                 column(
                     text,
                     glue_starts,
@@ -119,14 +122,15 @@ fn print_strands(
                     i,
                 ),
                 wide,
-            );
+            )?;
         }
     }
-    print(b"\n");
+    print(out, b"\n")
 }
 
 // The glues of a stretch, on one line.
-fn print_glues(
+fn print_glues<W: Write>(
+    out: &mut W,
     text: &[u8],
     glue_starts: &[usize],
     glue_sizes: &[usize],
@@ -136,15 +140,16 @@ fn print_glues(
     marks: &[u8],
     from: usize,
     end: usize,
-) {
-    print(b"    scaffold  ");
+) -> io::Result<()> {
+    print(out, b"    scaffold  ")?;
     for i in from..end {
         let start = place_at(glue_starts, i);
         let size = place_at(glue_sizes, i);
-        print_glue(text, start, size);
+        print_glue(out, text, start, size)?;
         if i + 1 < end {
             let wide = glue_width(text, start, size);
             print_gap(
+                out,
                 column(
                     text,
                     glue_starts,
@@ -156,27 +161,28 @@ fn print_glues(
                     i,
                 ),
                 wide,
-            );
+            )?;
         }
     }
-    print(b"\n");
+    print(out, b"\n")
 }
 
 // The head of a stretch, by its first and last position.
-fn print_range(first: usize, last: usize) {
+fn print_range<W: Write>(out: &mut W, first: usize, last: usize) -> io::Result<()> {
     if first == last {
-        print(b"  position ");
+        print(out, b"  position ")?;
     } else {
-        print(b"  positions ");
-        print_count(first);
-        print(b" to ");
+        print(out, b"  positions ")?;
+        print_count(out, first)?;
+        print(out, b" to ")?;
     }
-    print_count(last);
-    print(b"\n");
+    print_count(out, last)?;
+    print(out, b"\n")
 }
 
 // One stretch, and where the next begins.
-fn print_stretch(
+fn print_stretch<W: Write>(
+    out: &mut W,
     text: &[u8],
     glue_starts: &[usize],
     glue_sizes: &[usize],
@@ -185,7 +191,7 @@ fn print_stretch(
     configuration: &[u8],
     marks: &[u8],
     from: usize,
-) -> usize {
+) -> io::Result<usize> {
     let end = stretch_end(
         text,
         glue_starts,
@@ -196,8 +202,9 @@ fn print_stretch(
         marks,
         from,
     );
-    print_range(std::num::wrapping_add_usize(from, 1), end);
+    print_range(out, std::num::wrapping_add_usize(from, 1), end)?;
     print_strands(
+        out,
         text,
         glue_starts,
         glue_sizes,
@@ -207,8 +214,9 @@ fn print_stretch(
         marks,
         from,
         end,
-    );
+    )?;
     print_glues(
+        out,
         text,
         glue_starts,
         glue_sizes,
@@ -218,12 +226,13 @@ fn print_stretch(
         marks,
         from,
         end,
-    );
-    end
+    )?;
+    Ok(end)
 }
 
 // A stretch has one position at least, so there are no more stretches than positions.
-pub(crate) fn draw(
+pub(crate) fn draw<W: Write>(
+    out: &mut W,
     text: &[u8],
     glue_starts: &[usize],
     glue_sizes: &[usize],
@@ -231,11 +240,12 @@ pub(crate) fn draw(
     name_sizes: &[usize],
     configuration: &[u8],
     marks: &[u8],
-) {
+) -> io::Result<()> {
     let mut from = 0;
     for turn in 0..configuration.len() {
         if from < configuration.len() {
             from = print_stretch(
+                out,
                 text,
                 glue_starts,
                 glue_sizes,
@@ -244,7 +254,8 @@ pub(crate) fn draw(
                 configuration,
                 marks,
                 from,
-            );
+            )?;
         }
     }
+    Ok(())
 }

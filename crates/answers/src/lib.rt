@@ -1,5 +1,6 @@
 // What is printed of a design file: its settled configuration, a refusal, or why it can't be read.
 #![tactic(auto)]
+
 mod draw;
 mod names;
 pub mod print;
@@ -15,6 +16,8 @@ use print::{Style, print, print_bytes, print_count, print_fixed, print_hex};
 use reads::part;
 use reasons::{Why, print_reason};
 use reply::Refusal;
+use std::io;
+use std::io::Write;
 use words::print_trade_word;
 
 // Where in a file the reason lies. Line 0 is nowhere; a word of no bytes is none.
@@ -36,147 +39,162 @@ pub enum States {
 const SHOWN: usize = 64;
 
 // A word at fault, its beginning where it is long.
-fn print_word(text: &[u8], spot: Spot, style: Style) {
+fn print_word<W: Write>(out: &mut W, text: &[u8], spot: Spot, style: Style) -> io::Result<()> {
     let start = spot.start;
     if SHOWN < spot.size {
-        print_bytes(part(text, start, SHOWN), style);
-        print(b"...");
-        return;
+        print_bytes(out, part(text, start, SHOWN), style)?;
+        return print(out, b"...");
     }
-    print_bytes(part(text, start, spot.size), style);
+    print_bytes(out, part(text, start, spot.size), style)
 }
 
 // The place of a reason, for people.
-fn print_spot(text: &[u8], spot: Spot) {
+fn print_spot<W: Write>(out: &mut W, text: &[u8], spot: Spot) -> io::Result<()> {
     if 0 < spot.line {
-        print(b", line ");
-        print_count(spot.line);
+        print(out, b", line ")?;
+        print_count(out, spot.line)?;
     }
     if 0 < spot.size {
-        print(b", at ");
-        print_word(text, spot, Style::People);
+        print(out, b", at ")?;
+        print_word(out, text, spot, Style::People)?;
     }
+    Ok(())
 }
 
 // The place of a reason, as two fields.
-fn print_json_spot(text: &[u8], spot: Spot) {
-    print(b",\"line\":");
+fn print_json_spot<W: Write>(out: &mut W, text: &[u8], spot: Spot) -> io::Result<()> {
+    print(out, b",\"line\":")?;
     if 0 < spot.line {
-        print_count(spot.line);
+        print_count(out, spot.line)?;
     } else {
-        print(b"null");
+        print(out, b"null")?;
     }
-    print(b",\"word\":");
+    print(out, b",\"word\":")?;
     if 0 < spot.size {
-        print(b"\"");
-        print_word(text, spot, Style::Json);
-        print(b"\"");
+        print(out, b"\"")?;
+        print_word(out, text, spot, Style::Json)?;
+        print(out, b"\"")
     } else {
-        print(b"null");
+        print(out, b"null")
     }
 }
 
 // The reason as the last field.
-fn print_json_reason(why: Why) {
-    print(b",\"reason\":\"");
-    print_reason(why);
-    print(b"\"}\n");
+fn print_json_reason<W: Write>(out: &mut W, why: Why) -> io::Result<()> {
+    print(out, b",\"reason\":\"")?;
+    print_reason(out, why)?;
+    print(out, b"\"}\n")
 }
 
 // `{"file":"NAME","reply":`
-fn print_json_head(path: &[u8]) {
-    print(b"{\"file\":\"");
-    print_bytes(path, Style::Json);
-    print(b"\",\"reply\":");
+fn print_json_head<W: Write>(out: &mut W, path: &[u8]) -> io::Result<()> {
+    print(out, b"{\"file\":\"")?;
+    print_bytes(out, path, Style::Json)?;
+    print(out, b"\",\"reply\":")
 }
 
 // A file that can't be read, and why.
-pub fn unreadable(style: Style, path: &[u8], text: &[u8], spot: Spot, why: Why) {
+pub fn unreadable<W: Write>(
+    out: &mut W,
+    style: Style,
+    path: &[u8],
+    text: &[u8],
+    spot: Spot,
+    why: Why,
+) -> io::Result<()> {
     match style {
         Style::People => {
-            print_bytes(path, style);
-            print(b"\n  unreadable");
-            print_spot(text, spot);
-            print(b"\n  ");
-            print_reason(why);
-            print(b"\n");
+            print_bytes(out, path, style)?;
+            print(out, b"\n  unreadable")?;
+            print_spot(out, text, spot)?;
+            print(out, b"\n  ")?;
+            print_reason(out, why)?;
+            print(out, b"\n")
         }
         Style::Json => {
-            print_json_head(path);
-            print(b"null");
-            print_json_spot(text, spot);
-            print_json_reason(why);
+            print_json_head(out, path)?;
+            print(out, b"null")?;
+            print_json_spot(out, text, spot)?;
+            print_json_reason(out, why)
         }
     }
 }
 
 // A file whose design is refused, by which number, and why.
-pub fn refused(style: Style, path: &[u8], text: &[u8], refusal: Refusal, spot: Spot, why: Why) {
+pub fn refused<W: Write>(
+    out: &mut W,
+    style: Style,
+    path: &[u8],
+    text: &[u8],
+    refusal: Refusal,
+    spot: Spot,
+    why: Why,
+) -> io::Result<()> {
     match style {
         Style::People => {
-            print_bytes(path, style);
-            print(b"\n  refused ");
-            print_count(refusal.number() as usize);
-            print(b" (");
-            print_trade_word(refusal);
-            print(b")");
-            print_spot(text, spot);
-            print(b"\n  ");
-            print_reason(why);
-            print(b"\n");
+            print_bytes(out, path, style)?;
+            print(out, b"\n  refused ")?;
+            print_count(out, refusal.number() as usize)?;
+            print(out, b" (")?;
+            print_trade_word(out, refusal)?;
+            print(out, b")")?;
+            print_spot(out, text, spot)?;
+            print(out, b"\n  ")?;
+            print_reason(out, why)?;
+            print(out, b"\n")
         }
         Style::Json => {
-            print_json_head(path);
-            print_count(refusal.number() as usize);
-            print(b",\"refused\":\"");
-            print_trade_word(refusal);
-            print(b"\"");
-            print_json_spot(text, spot);
-            print_json_reason(why);
+            print_json_head(out, path)?;
+            print_count(out, refusal.number() as usize)?;
+            print(out, b",\"refused\":\"")?;
+            print_trade_word(out, refusal)?;
+            print(out, b"\"")?;
+            print_json_spot(out, text, spot)?;
+            print_json_reason(out, why)
         }
     }
 }
 
 // How many there are of something, in the singular where it is one.
-fn print_number_of(n: usize, one: &[u8], more: &[u8]) {
-    print_count(n);
-    print(b" ");
+fn print_number_of<W: Write>(out: &mut W, n: usize, one: &[u8], more: &[u8]) -> io::Result<()> {
+    print_count(out, n)?;
+    print(out, b" ")?;
     if n == 1 {
-        print(one);
+        print(out, one)
     } else {
-        print(more);
+        print(out, more)
     }
 }
 
 // The number of states, for people.
-fn print_states(states: States) {
-    print(b"  ");
+fn print_states<W: Write>(out: &mut W, states: States) -> io::Result<()> {
+    print(out, b"  ")?;
     match states {
-        States::Number(n) => print_number_of(n as usize, b"state", b"states"),
-        States::TooMany => print(b"more than 1048576 states"),
+        States::Number(n) => print_number_of(out, n as usize, b"state", b"states")?,
+        States::TooMany => print(out, b"more than 1048576 states")?,
     }
-    print(b"\n");
+    print(out, b"\n")
 }
 
 // The number of states, as a value.
-fn print_json_states(states: States) {
+fn print_json_states<W: Write>(out: &mut W, states: States) -> io::Result<()> {
     match states {
-        States::Number(n) => print_count(n as usize),
-        States::TooMany => print(b"null"),
+        States::Number(n) => print_count(out, n as usize),
+        States::TooMany => print(out, b"null"),
     }
 }
 
 // The words of a deck, eight on a line.
-fn print_deck(deck: &[u32]) {
-    print(b"  deck");
+fn print_deck<W: Write>(out: &mut W, deck: &[u32]) -> io::Result<()> {
+    print(out, b"  deck")?;
     for i in 0..deck.len() {
         if 0 < i && i % 8 == 0 {
-            print(b"\n      ");
+            print(out, b"\n      ")?;
         }
-        print(b" ");
-        print_hex(deck_word(deck, i), 8);
+        print(out, b" ")?;
+        print_hex(out, deck_word(deck, i), 8)?;
     }
-    print(b"\n");
+    print(out, b"\n")
 }
 
 // A word of a deck as a number of 64 bits.
@@ -193,53 +211,59 @@ fn deck_word(deck: &[u32], i: usize) -> u64 {
 }
 
 // The words of a deck, as the items of a list.
-fn print_json_deck(deck: &[u32]) {
+fn print_json_deck<W: Write>(out: &mut W, deck: &[u32]) -> io::Result<()> {
     for i in 0..deck.len() {
-        print_comma(i);
-        print(b"\"");
-        print_hex(deck_word(deck, i), 8);
-        print(b"\"");
+        print_comma(out, i)?;
+        print(out, b"\"")?;
+        print_hex(out, deck_word(deck, i), 8)?;
+        print(out, b"\"")?;
     }
+    Ok(())
 }
 
 // Before every item of a list but the first.
-fn print_comma(i: usize) {
+fn print_comma<W: Write>(out: &mut W, i: usize) -> io::Result<()> {
     if 0 < i {
-        print(b",");
+        print(out, b",")?;
     }
+    Ok(())
 }
 
 // Numbers, one for each position, as the items of a list.
-fn print_json_numbers(numbers: &[u8]) {
+fn print_json_numbers<W: Write>(out: &mut W, numbers: &[u8]) -> io::Result<()> {
     for i in 0..numbers.len() {
-        print_comma(i);
-        print_count(byte_at(numbers, i) as usize);
+        print_comma(out, i)?;
+        print_count(out, byte_at(numbers, i) as usize)?;
     }
+    Ok(())
 }
 
 // The strands' names, as the items of a list.
-fn print_json_names(
+fn print_json_names<W: Write>(
+    out: &mut W,
     text: &[u8],
     name_starts: &[usize],
     name_sizes: &[usize],
     configuration: &[u8],
-) {
+) -> io::Result<()> {
     for i in 0..configuration.len() {
-        print_comma(i);
+        print_comma(out, i)?;
         let occupant = occupant_of(byte_at(configuration, i) as usize, name_starts.len());
         if let Occupant::Nobody = occupant {
-            print(b"null");
+            print(out, b"null")?;
         } else {
-            print(b"\"");
-            print_occupant(occupant, text, name_starts, name_sizes, Style::Json);
-            print(b"\"");
+            print(out, b"\"")?;
+            print_occupant(out, occupant, text, name_starts, name_sizes, Style::Json)?;
+            print(out, b"\"")?;
         }
     }
+    Ok(())
 }
 
 // For people. The name of each user strand is a start and a size in the text, and so is the glue of each position; a mark of 1 is that of a
 // blocked one.
-fn settled_for_people(
+fn settled_for_people<W: Write>(
+    out: &mut W,
     path: &[u8],
     text: &[u8],
     glue_starts: &[usize],
@@ -252,14 +276,15 @@ fn settled_for_people(
     marks: &[u8],
     energy: f64,
     deck: &[u32],
-) {
-    print_bytes(path, Style::People);
-    print(b"\n  ");
-    print_number_of(configuration.len(), b"position, ", b"positions, ");
-    print_number_of(name_starts.len(), b"strand, ", b"strands, ");
-    print_number_of(entries, b"energy\n", b"energies\n");
-    print_states(states);
+) -> io::Result<()> {
+    print_bytes(out, path, Style::People)?;
+    print(out, b"\n  ")?;
+    print_number_of(out, configuration.len(), b"position, ", b"positions, ")?;
+    print_number_of(out, name_starts.len(), b"strand, ", b"strands, ")?;
+    print_number_of(out, entries, b"energy\n", b"energies\n")?;
+    print_states(out, states)?;
     draw(
+        out,
         text,
         glue_starts,
         glue_sizes,
@@ -267,17 +292,18 @@ fn settled_for_people(
         name_sizes,
         configuration,
         marks,
-    );
-    print(b"  energy ");
-    print_fixed(energy);
-    print(b" kcal/mol, bits ");
-    print_hex(bits(energy), 16);
-    print(b"\n");
-    print_deck(deck);
+    )?;
+    print(out, b"  energy ")?;
+    print_fixed(out, energy)?;
+    print(out, b" kcal/mol, bits ")?;
+    print_hex(out, bits(energy), 16)?;
+    print(out, b"\n")?;
+    print_deck(out, deck)
 }
 
 // As one object, on a line of its own.
-fn settled_as_json(
+fn settled_as_json<W: Write>(
+    out: &mut W,
     path: &[u8],
     text: &[u8],
     name_starts: &[usize],
@@ -288,33 +314,34 @@ fn settled_as_json(
     marks: &[u8],
     energy: f64,
     deck: &[u32],
-) {
-    print_json_head(path);
-    print(b"0,\"positions\":");
-    print_count(configuration.len());
-    print(b",\"strands\":");
-    print_count(name_starts.len());
-    print(b",\"energies\":");
-    print_count(entries);
-    print(b",\"states\":");
-    print_json_states(states);
-    print(b",\"configuration\":[");
-    print_json_numbers(configuration);
-    print(b"],\"blocked\":[");
-    print_json_numbers(marks);
-    print(b"],\"names\":[");
-    print_json_names(text, name_starts, name_sizes, configuration);
-    print(b"],\"energy\":");
-    print_fixed(energy);
-    print(b",\"bits\":\"");
-    print_hex(bits(energy), 16);
-    print(b"\",\"deck\":[");
-    print_json_deck(deck);
-    print(b"]}\n");
+) -> io::Result<()> {
+    print_json_head(out, path)?;
+    print(out, b"0,\"positions\":")?;
+    print_count(out, configuration.len())?;
+    print(out, b",\"strands\":")?;
+    print_count(out, name_starts.len())?;
+    print(out, b",\"energies\":")?;
+    print_count(out, entries)?;
+    print(out, b",\"states\":")?;
+    print_json_states(out, states)?;
+    print(out, b",\"configuration\":[")?;
+    print_json_numbers(out, configuration)?;
+    print(out, b"],\"blocked\":[")?;
+    print_json_numbers(out, marks)?;
+    print(out, b"],\"names\":[")?;
+    print_json_names(out, text, name_starts, name_sizes, configuration)?;
+    print(out, b"],\"energy\":")?;
+    print_fixed(out, energy)?;
+    print(out, b",\"bits\":\"")?;
+    print_hex(out, bits(energy), 16)?;
+    print(out, b"\",\"deck\":[")?;
+    print_json_deck(out, deck)?;
+    print(out, b"]}\n")
 }
 
 // A settled design in either style.
-pub fn settled(
+pub fn settled<W: Write>(
+    out: &mut W,
     style: Style,
     path: &[u8],
     text: &[u8],
@@ -328,9 +355,10 @@ pub fn settled(
     marks: &[u8],
     energy: f64,
     deck: &[u32],
-) {
+) -> io::Result<()> {
     match style {
         Style::People => settled_for_people(
+            out,
             path,
             text,
             glue_starts,
@@ -345,6 +373,7 @@ pub fn settled(
             deck,
         ),
         Style::Json => settled_as_json(
+            out,
             path,
             text,
             name_starts,

@@ -3,6 +3,8 @@ use crate::print::{Style, print, print_bytes, width};
 use crate::reads::part;
 use design::reads::byte_at;
 use statements::words::place_at;
+use std::io;
+use std::io::Write;
 
 // Who sits at a place.
 #[derive(Clone, Copy)]
@@ -54,20 +56,25 @@ pub(crate) fn occupant_width(
 }
 
 // Writes the name of who sits at a place.
-pub(crate) fn print_occupant(
+pub(crate) fn print_occupant<W: Write>(
+    out: &mut W,
     occupant: Occupant,
     text: &[u8],
     starts: &[usize],
     sizes: &[usize],
     style: Style,
-) {
+) -> io::Result<()> {
     match occupant {
-        Occupant::Nobody => print(b"-"),
+        Occupant::Nobody => print(out, b"-"),
         Occupant::Strand(i) => {
-            print_bytes(part(text, place_at(starts, i), place_at(sizes, i)), style)
+            print_bytes(
+                out,
+                part(text, place_at(starts, i), place_at(sizes, i)),
+                style,
+            )
         }
-        Occupant::Quencher => print(b"quencher"),
-        Occupant::Reporter => print(b"reporter"),
-        Occupant::Blocked => print(b"blocked"),
+        Occupant::Quencher => print(out, b"quencher"),
+        Occupant::Reporter => print(out, b"reporter"),
+        Occupant::Blocked => print(out, b"blocked"),
     }
 }

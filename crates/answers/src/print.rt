@@ -1,8 +1,9 @@
-// What is written to standard output: texts, numbers, and the bytes of a file as people or a JSON reader can take them.
+// What is written: texts, numbers, and the bytes of a file as people or a JSON reader can take them.
 use crate::reads::part;
 use decimals::Printed;
 use design::reads::byte_at;
-use libc::STDOUT_FILENO;
+use std::io;
+use std::io::Write;
 
 // Whom the output is for.
 #[derive(Clone, Copy)]
@@ -11,37 +12,38 @@ pub enum Style {
     Json,
 }
 
-// Writes to standard output.
-pub(crate) fn print(text: &[u8]) {
-    io::write_all(STDOUT_FILENO, text);
+// Writes a text.
+pub(crate) fn print<W: Write>(out: &mut W, text: &[u8]) -> io::Result<()> {
+    out.write_all(text)
 }
 
 // A number's text, where it has one.
-fn print_made(made: Printed, text: &[u8]) {
+fn print_made<W: Write>(out: &mut W, made: Printed, text: &[u8]) -> io::Result<()> {
     if let Printed::Text(size) = made {
-        print(part(text, 0, size));
+        print(out, part(text, 0, size))?;
     }
+    Ok(())
 }
 
 // A number of things.
-pub(crate) fn print_count(n: usize) {
+pub(crate) fn print_count<W: Write>(out: &mut W, n: usize) -> io::Result<()> {
     let mut text = [0u8; 20];
     let made = decimals::write_count(n as u64, &mut text);
-    print_made(made, &text);
+    print_made(out, made, &text)
 }
 
 // The last digits of a number in hexadecimal.
-pub(crate) fn print_hex(n: u64, digits: usize) {
+pub(crate) fn print_hex<W: Write>(out: &mut W, n: u64, digits: usize) -> io::Result<()> {
     let mut text = [0u8; 16];
     let made = decimals::write_hex(n, digits, &mut text);
-    print_made(made, &text);
+    print_made(out, made, &text)
 }
 
 // A number to six places.
-pub(crate) fn print_fixed(x: f64) {
+pub(crate) fn print_fixed<W: Write>(out: &mut W, x: f64) -> io::Result<()> {
     let mut text = [0u8; 32];
     let made = decimals::write_fixed(x, &mut text);
-    print_made(made, &text);
+    print_made(out, made, &text)
 }
 
 // A byte that stands for itself in any output: printable ASCII, but for the two bytes that JSON strings escape.
@@ -64,44 +66,45 @@ fn plain_end(bytes: &[u8], at: usize) -> usize {
 }
 
 // A byte that is not plain. People get \x and two digits; JSON \u and four, so that the character's number is the byte.
-fn print_odd(byte: u8, style: Style) {
+fn print_odd<W: Write>(out: &mut W, byte: u8, style: Style) -> io::Result<()> {
     let code = byte as u64;
     match byte {
         b'"' | b'\\' => {
             if let Style::Json = style {
-                print(b"\\");
+                print(out, b"\\")?;
             }
-            print(&[byte]);
+            print(out, &[byte])
         }
         _ => {
             match style {
-                Style::People => print(b"\\x"),
-                Style::Json => print(b"\\u00"),
+                Style::People => print(out, b"\\x")?,
+                Style::Json => print(out, b"\\u00")?,
             }
-            print_hex(code, 2);
+            print_hex(out, code, 2)
         }
     }
 }
 
 // Plain bytes from a place on and the odd one behind them, and the place after that.
-fn print_run(bytes: &[u8], at: usize, style: Style) -> usize {
+fn print_run<W: Write>(out: &mut W, bytes: &[u8], at: usize, style: Style) -> io::Result<usize> {
     let end = plain_end(bytes, at);
-    print(part(bytes, at, std::num::wrapping_sub_usize(end, at)));
+    print(out, part(bytes, at, std::num::wrapping_sub_usize(end, at)))?;
     if end < bytes.len() {
-        print_odd(byte_at(bytes, end), style);
+        print_odd(out, byte_at(bytes, end), style)?;
     }
-    std::num::wrapping_add_usize(end, 1)
+    Ok(std::num::wrapping_add_usize(end, 1))
 }
 
 // Bytes of a file, or of its name. A run has a byte at least, so there are turns enough.
-pub(crate) fn print_bytes(bytes: &[u8], style: Style) {
+pub(crate) fn print_bytes<W: Write>(out: &mut W, bytes: &[u8], style: Style) -> io::Result<()> {
     let mut at = 0;
     for turn in 0..bytes.len() {
         if bytes.len() <= at {
-            return;
+            return Ok(());
         }
-        at = print_run(bytes, at, style);
+        at = print_run(out, bytes, at, style)?;
     }
+    Ok(())
 }
 
 // How wide bytes are as people get them.
@@ -122,8 +125,9 @@ fn byte_width(byte: u8) -> usize {
 }
 
 // So many blanks.
-pub(crate) fn print_blanks(n: usize) {
+pub(crate) fn print_blanks<W: Write>(out: &mut W, n: usize) -> io::Result<()> {
     for i in 0..n {
-        print(b" ");
+        print(out, b" ")?;
     }
+    Ok(())
 }

@@ -1,19 +1,22 @@
 // Document 01's bench table, the lines that are run rather than proved, and the worked examples of the paper and of rgrow's
 // documentation. Each answer is compared bit for bit with the sum that the line gives; the file stdout holds what must be written.
 #![tactic(auto)]
+
 use design::answers::CountAnswer;
 use reply::{Refusal, Reply};
 use sdc1d_params::{Build, Copied, Copies, Penalty};
+use std::io;
+use std::io::Write;
 use units::{Ambient, KcalPerMol, KcalPerMolKelvin, Kelvin};
 use utils::{DgAnswer, DgDsAnswer};
 
 // A line of the table, and whether it holds.
-fn say(line: &[u8], holds: bool) {
-    io::write_all(1, line);
+fn say<W: Write>(out: &mut W, line: &[u8], holds: bool) -> io::Result<()> {
+    out.write_all(line)?;
     if holds {
-        io::write_all(1, b": so\n");
+        out.write_all(b": so\n")
     } else {
-        io::write_all(1, b": NOT SO\n");
+        out.write_all(b": NOT SO\n")
     }
 }
 
@@ -143,89 +146,101 @@ fn is_too_many_states(answer: CountAnswer) -> bool {
 }
 
 // The lines on base names and on counts.
-fn limits() {
+fn limits<W: Write>(out: &mut W) -> io::Result<()> {
     say(
+        out,
         b"32 base names: refused, glues",
         is_too_many_glues(named(1)),
-    );
-    say(b"31 base names: built", is_built(named(0)));
+    )?;
+    say(out, b"31 base names: built", is_built(named(0)))?;
     let twenty = [1u8; 20];
     let open = [0u8; 21];
     say(
+        out,
         b"20 positions of one friend: 1,048,576 states",
         is_count(states_of(&twenty, &open[0..20]), 1048576),
-    );
+    )?;
     let more = [1u8; 21];
     say(
+        out,
         b"21 positions of one friend: refused, many",
         is_too_many_states(states_of(&more, &open)),
-    );
+    )
 }
 
 // The lines on sequences and loops.
-fn table() {
+fn table<W: Write>(out: &mut W) -> io::Result<()> {
     say(
+        out,
         b"pair AAAA, TATT: no loop term (dG 0.61 + 0.69 - 1.0, dS -0.0213)",
         is_dg_ds(
             utils::sequence_pair_dg_ds(b"AAAA", b"TATT"),
             0.61 + 0.69 - 1.0,
             -0.0213,
         ),
-    );
+    )?;
     say(
+        out,
         b"internal loop of 30: 6.6",
         is_dg(utils::loop_penalty(30, 0), 6.6),
-    );
+    )?;
     // 6.6 and R × 310.15 × 2.44 × ln (31 / 30), with R as 0.00198720425864083.
     say(
+        out,
         b"internal loop of 31: 6.6493109297, within 2^-30",
         is_near(utils::loop_penalty(31, 0), 6.649310929736642),
-    );
+    )?;
     say(
+        out,
         b"internal loop of 255: refused, loop",
         is_refused(utils::loop_penalty(255, 0), Refusal::NoSuchLoop),
-    );
+    )
 }
 
 // The worked examples.
-fn examples() {
+fn examples<W: Write>(out: &mut W) -> io::Result<()> {
     // SantaLucia's duplex CGTTGA / GCAACT in the Rust's mode, which never adds the terminal A.T term: -5.40.
     say(
+        out,
         b"CGTTGA: -2.17 - 1.44 - 1.00 - 1.45 - 1.30 + 1.96",
         is_dg_ds(
             utils::string_dna_dg_ds(b"CGTTGA"),
             -2.17 - 1.44 - 1.0 - 1.45 - 1.3 + 1.96,
             -0.0272 - 0.0224 - 0.0213 - 0.0227 - 0.0222 + 0.0057,
         ),
-    );
+    )?;
     // The same duplex as the paper has it: -5.35.
     say(
+        out,
         b"CGTTGA as published: -2.17 - 1.44 - 1.00 - 1.45 - 1.30 + 1.96 + 0.05",
         is_dg_ds(
             utils::published_dna_dg_ds(b"CGTTGA"),
             -2.17 - 1.44 - 1.0 - 1.45 - 1.3 + 1.96 + 0.05,
             -0.0272 - 0.0224 - 0.0213 - 0.0227 - 0.0222 - 0.0057 + 0.0069,
         ),
-    );
+    )?;
     // A self-complementary duplex with two A.T ends.
     say(
+        out,
         b"aT as published: -0.88 + 1.96 + 0.05 + 0.05 + 0.43",
         is_dg_ds(
             utils::published_dna_dg_ds(b"aT"),
             -0.88 + 1.96 + 0.05 + 0.05 + 0.43,
             -0.0204 - 0.0057 + 0.0069 + 0.0069 - 0.0014,
         ),
-    );
+    )?;
     // rgrow's documentation gives this energy as the same double as -5.8 + 1.96.
     say(
+        out,
         b"cgatg at 37 C: -5.8 + 1.96",
         is_dg(utils::sequence_strength(b"cgatg", Kelvin(0.0)), -5.8 + 1.96),
-    );
+    )
 }
 
 // Every line in turn.
-fn main() {
-    table();
-    limits();
-    examples();
+fn main(rt: HostRuntime) -> io::Result<()> {
+    let mut out = io::writer(&rt);
+    table(&mut out)?;
+    limits(&mut out)?;
+    examples(&mut out)
 }

@@ -2,3 +2,4 @@ pub mod Tests
 pub mod Words
 pub mod Figures
 pub mod Letters
+pub mod Powers

@@ -4,3 +4,4 @@ pub mod Kinds
 pub mod Places
 pub mod Setting
 pub mod Designs
+pub mod Digits

@@ -1,6 +1,6 @@
 -- The text of a list: parts of it between marks, and numbers as it writes them.
 use Rattle.std.specs.Prelude.{◌≡◌, ℕ, ◌+◌, List, take, drop, nat_eq}
-use Rattle.io.specs.Digits.{last_digits, IsDigitCount}
+use Rattle.replay.specs.Digits.{last_digits, IsDigitCount}
 use Rattle.lists.specs.Find.{first_index}
 use Rattle.replay.specs.declared.numbers.Number.{Number}
 use Rattle.replay.specs.declared.numbers.Number.TheVariants.{Is, Malformed}

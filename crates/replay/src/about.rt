@@ -4,7 +4,7 @@ ghost use Rattle.std.specs.Prelude.{◌≤◌};
 use crate::designs;
 use crate::kind::Kind;
 use crate::numbers::{Number, decimal, hex};
-use crate::parts::{past, up_to};
+use crate::parts::{past, same, up_to};
 use crate::places::read_places;
 use crate::setting::{set_byte, set_double};
 use doubles::double;
@@ -74,19 +74,19 @@ pub(crate) fn begun(words: &[u8]) -> Design {
 
 // `INDEX DOUBLE` of a table or of the potentials.
 fn set_doubles(mut design: Design, word: &[u8], words: &[u8]) -> Step {
-    if check::same(word, b"potential") {
+    if same(word, b"potential") {
         let mut potentials = design.potentials;
         let done = set_double(words, &mut potentials);
         design.potentials = potentials;
         return Step { design, done };
     }
-    if check::same(word, b"dg") {
+    if same(word, b"dg") {
         let mut dg = design.dg;
         let done = set_double(words, &mut dg);
         design.dg = dg;
         return Step { design, done };
     }
-    if check::same(word, b"ds") {
+    if same(word, b"ds") {
         let mut ds = design.ds;
         let done = set_double(words, &mut ds);
         design.ds = ds;
@@ -100,19 +100,19 @@ fn set_doubles(mut design: Design, word: &[u8], words: &[u8]) -> Step {
 
 // A line that sets a number of the design, or begins a new one.
 pub(crate) fn set(mut design: Design, word: &[u8], words: &[u8]) -> Step {
-    if check::same(word, b"design") {
+    if same(word, b"design") {
         return Step {
             design: begun(words),
             done: true,
         };
     }
-    if check::same(word, b"scaffold") {
+    if same(word, b"scaffold") {
         let mut scaffold = design.scaffold;
         let done = set_byte(words, &mut scaffold);
         design.scaffold = scaffold;
         return Step { design, done };
     }
-    if check::same(word, b"glue") {
+    if same(word, b"glue") {
         let mut glues = design.glues;
         let done = set_byte(words, &mut glues);
         design.glues = glues;

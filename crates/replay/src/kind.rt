@@ -1,6 +1,8 @@
 // The kinds of lines that are compared.
 ghost use Rattle.std.specs.Prelude.{◌<◌};
 
+use crate::parts::same;
+
 // A kind of line; each has a count of its own.
 #[derive(Clone, Copy)]
 pub(crate) enum Kind {
@@ -52,25 +54,25 @@ impl Kind {
 
 // The kind of a line about sequences, loops, temperatures and names.
 fn of_sequences(word: &[u8]) -> Kind {
-    if check::same(word, b"seq") {
+    if same(word, b"seq") {
         return Kind::Sequence;
     }
-    if check::same(word, b"pair") {
+    if same(word, b"pair") {
         return Kind::Pair;
     }
-    if check::same(word, b"loop") {
+    if same(word, b"loop") {
         return Kind::Loop;
     }
-    if check::same(word, b"strength") {
+    if same(word, b"strength") {
         return Kind::Strength;
     }
-    if check::same(word, b"strength2") {
+    if same(word, b"strength2") {
         return Kind::Strength2;
     }
-    if check::same(word, b"ambient") {
+    if same(word, b"ambient") {
         return Kind::Ambient;
     }
-    if check::same(word, b"name") {
+    if same(word, b"name") {
         return Kind::Name;
     }
     Kind::Unknown
@@ -78,31 +80,31 @@ fn of_sequences(word: &[u8]) -> Kind {
 
 // The kind of a line; first those about the design that lines have set.
 pub(crate) fn kind_of(word: &[u8]) -> Kind {
-    if check::same(word, b"sbond") {
+    if same(word, b"sbond") {
         return Kind::StrandBond;
     }
-    if check::same(word, b"cbond") {
+    if same(word, b"cbond") {
         return Kind::ScaffoldBond;
     }
-    if check::same(word, b"friends") {
+    if same(word, b"friends") {
         return Kind::Friends;
     }
-    if check::same(word, b"nstates") {
+    if same(word, b"nstates") {
         return Kind::Count;
     }
-    if check::same(word, b"state") {
+    if same(word, b"state") {
         return Kind::State;
     }
-    if check::same(word, b"gsys") {
+    if same(word, b"gsys") {
         return Kind::StateEnergy;
     }
-    if check::same(word, b"chain") {
+    if same(word, b"chain") {
         return Kind::ChainEnergy;
     }
-    if check::same(word, b"mfe") {
+    if same(word, b"mfe") {
         return Kind::Search;
     }
-    if check::same(word, b"settled") {
+    if same(word, b"settled") {
         return Kind::Settled;
     }
     of_sequences(word)

@@ -2,8 +2,10 @@
 // question is asked of the port again, and a line that does not say what the port answers, bit for bit, is a difference; so is a
 // line that is not written as the head says. Then it replays data/false, whose every answer was falsified, and has to report each.
 #![tactic(auto)]
+
 mod about;
 mod designs;
+mod digits;
 mod kind;
 mod kinds;
 mod numbers;
@@ -14,7 +16,11 @@ mod setting;
 
 use about::Design;
 use kind::{Kind, kind_of};
-use libc::STDOUT_FILENO;
+use std::fs::File;
+use std::io;
+use std::io::Write;
+use std::os::unix::fs::FileExt;
+use std::rt::Files;
 
 // How many lines of each kind were compared, and how many of them differ.
 #[derive(Clone, Copy)]
@@ -37,25 +43,25 @@ struct Progress {
 const LONGEST_LINE: usize = 4095;
 
 // The kind's own word.
-fn print_name(kind: Kind) {
+fn print_name<W: Write>(out: &mut W, kind: Kind) -> io::Result<()> {
     match kind {
-        Kind::Sequence => print(b"seq"),
-        Kind::Pair => print(b"pair"),
-        Kind::Loop => print(b"loop"),
-        Kind::Strength => print(b"strength"),
-        Kind::Strength2 => print(b"strength2"),
-        Kind::Ambient => print(b"ambient"),
-        Kind::Name => print(b"name"),
-        Kind::StrandBond => print(b"sbond"),
-        Kind::ScaffoldBond => print(b"cbond"),
-        Kind::Friends => print(b"friends"),
-        Kind::Count => print(b"nstates"),
-        Kind::State => print(b"state"),
-        Kind::StateEnergy => print(b"gsys"),
-        Kind::ChainEnergy => print(b"chain"),
-        Kind::Search => print(b"mfe"),
-        Kind::Settled => print(b"settled"),
-        Kind::Unknown => print(b"of no kind"),
+        Kind::Sequence => print(out, b"seq"),
+        Kind::Pair => print(out, b"pair"),
+        Kind::Loop => print(out, b"loop"),
+        Kind::Strength => print(out, b"strength"),
+        Kind::Strength2 => print(out, b"strength2"),
+        Kind::Ambient => print(out, b"ambient"),
+        Kind::Name => print(out, b"name"),
+        Kind::StrandBond => print(out, b"sbond"),
+        Kind::ScaffoldBond => print(out, b"cbond"),
+        Kind::Friends => print(out, b"friends"),
+        Kind::Count => print(out, b"nstates"),
+        Kind::State => print(out, b"state"),
+        Kind::StateEnergy => print(out, b"gsys"),
+        Kind::ChainEnergy => print(out, b"chain"),
+        Kind::Search => print(out, b"mfe"),
+        Kind::Settled => print(out, b"settled"),
+        Kind::Unknown => print(out, b"of no kind"),
     }
 }
 
@@ -96,18 +102,18 @@ fn is_comment(line: &[u8]) -> bool {
     false
 }
 
-// Writes to standard output.
-fn print(text: &[u8]) {
-    io::write_all(STDOUT_FILENO, text);
+// Writes a text.
+fn print<W: Write>(out: &mut W, text: &[u8]) -> io::Result<()> {
+    out.write_all(text)
 }
 
 // A line that differs, by its number.
-fn print_difference(number: u64, line: &[u8]) {
-    print(b"line ");
-    io::print_decimal(STDOUT_FILENO, number);
-    print(b" differs: ");
-    print(line);
-    print(b"\n");
+fn print_difference<W: Write>(out: &mut W, number: u64, line: &[u8]) -> io::Result<()> {
+    print(out, b"line ")?;
+    write!(out, "{number}")?;
+    print(out, b" differs: ")?;
+    print(out, line)?;
+    print(out, b"\n")
 }
 
 // The tally after one line more.
@@ -128,93 +134,104 @@ struct Replayed {
 }
 
 // A line that is no question. One that sets nothing is a difference.
-fn replay_setting(tally: Tally, design: Design, number: u64, line: &[u8]) -> Replayed {
+fn replay_setting<W: Write>(
+    out: &mut W,
+    tally: Tally,
+    design: Design,
+    number: u64,
+    line: &[u8],
+) -> io::Result<Replayed> {
     let step = about::set(design, parts::up_to(line, b' '), parts::past(line, b' '));
     let design = step.design;
     let done = step.done;
     if is_well_formed(line) && done {
-        return Replayed { tally, design };
+        return Ok(Replayed { tally, design });
     }
-    print_difference(number, line);
-    Replayed {
+    print_difference(out, number, line)?;
+    Ok(Replayed {
         tally: counted(tally, Kind::Unknown, false),
         design,
-    }
+    })
 }
 
 // A line of the list.
-fn replay_line(tally: Tally, design: Design, number: u64, line: &[u8]) -> Replayed {
+fn replay_line<W: Write>(
+    out: &mut W,
+    tally: Tally,
+    design: Design,
+    number: u64,
+    line: &[u8],
+) -> io::Result<Replayed> {
     if is_comment(line) {
-        return Replayed { tally, design };
+        return Ok(Replayed { tally, design });
     }
     let kind = kind_of(parts::up_to(line, b' '));
     if kind.index() == Kind::Unknown.index() {
-        return replay_setting(tally, design, number, line);
+        return replay_setting(out, tally, design, number, line);
     }
     let words = parts::past(line, b' ');
     let agreed = is_well_formed(line) && agrees(kind, words, design);
     if !agreed {
-        print_difference(number, line);
+        print_difference(out, number, line)?;
     }
-    Replayed {
+    Ok(Replayed {
         tally: counted(tally, kind, agreed),
         design,
-    }
+    })
 }
 
-// Where in the file the next line starts; no place that a file has stands for one that is too far.
-fn offset(at: usize) -> i64 {
-    if at < 0x7fff_ffff_ffff_ffff {
-        return at as i64;
-    }
-    -1
+// Where in the file the next line starts.
+fn offset(at: usize) -> u64 {
+    at as u64
 }
 
 // The end of the list, with what is to be said of it.
-fn ended(progress: Progress, complaint: &[u8]) -> Progress {
-    print(complaint);
+fn ended<W: Write>(out: &mut W, progress: Progress, complaint: &[u8]) -> io::Result<Progress> {
+    print(out, complaint)?;
     let tally = progress.tally;
     let design = progress.design;
-    Progress {
+    Ok(Progress {
         tally,
         design,
         number: progress.number,
         at: progress.at,
         ended: true,
-    }
+    })
 }
 
 // One line, read out of a block that starts with it.
-fn replay_next(fd: i32, progress: Progress) -> Progress {
-    let mut block = io::buffer();
-    let got = libc::pread(fd, &mut block, offset(progress.at));
-    if got < 0 {
-        return ended(progress, b"the list can not be read\n");
+fn replay_next<W: Write, F: FileExt>(
+    out: &mut W,
+    file: &F,
+    progress: Progress,
+) -> io::Result<Progress> {
+    let mut block = [0u8; 4096];
+    let Ok(n) = file.read_at(&mut block, offset(progress.at)) else {
+        return ended(out, progress, b"the list can not be read\n");
+    };
+    if n == 0 {
+        return ended(out, progress, b"");
     }
-    if got == 0 {
-        return ended(progress, b"");
-    }
-    let n = io::count(got, &block);
     let line = parts::up_to(&block[..n], b'\n');
     if LONGEST_LINE < line.len() {
-        return ended(progress, b"a line of the list is too long\n");
+        return ended(out, progress, b"a line of the list is too long\n");
     }
     let number = progress.number;
     let next = std::num::wrapping_add_usize(progress.at, line.len());
-    let replayed = replay_line(progress.tally, progress.design, number, line);
+    let replayed = replay_line(out, progress.tally, progress.design, number, line)?;
     let tally = replayed.tally;
     let design = replayed.design;
-    Progress {
+    Ok(Progress {
         tally,
         design,
         number: std::num::wrapping_add_u64(number, 1),
         at: std::num::wrapping_add_usize(next, 1),
         ended: false,
-    }
+    })
 }
 
 // A proved loop has to end, and nothing says that a file does: it is given more turns than any list has lines.
-fn replay(fd: i32) -> Tally {
+fn replay<W: Write, F: FileExt>(out: &mut W, file: &F) -> io::Result<Tally> {
     let mut progress = Progress {
         tally: Tally {
             compared: [0; 17],
@@ -227,63 +244,60 @@ fn replay(fd: i32) -> Tally {
     };
     let mut turns = u64::MAX;
     while turns > 0 && !progress.ended {
-        progress = replay_next(fd, progress);
+        progress = replay_next(out, file, progress)?;
         turns -= 1;
     }
-    progress.tally
+    Ok(progress.tally)
 }
 
 // How many lines were compared, and how many differ.
-fn print_counts(compared: u64, differ: u64) {
-    print(b" ");
-    io::print_decimal(STDOUT_FILENO, compared);
-    print(b" compared, ");
-    io::print_decimal(STDOUT_FILENO, differ);
-    print(b" differ\n");
+fn print_counts<W: Write>(out: &mut W, compared: u64, differ: u64) -> io::Result<()> {
+    print(out, b" ")?;
+    write!(out, "{compared}")?;
+    print(out, b" compared, ")?;
+    write!(out, "{differ}")?;
+    print(out, b" differ\n")
 }
 
 // The counts of one kind.
-fn print_kind(tally: Tally, kind: Kind) {
+fn print_kind<W: Write>(out: &mut W, tally: Tally, kind: Kind) -> io::Result<()> {
     let k = kind.index();
-    print_name(kind);
-    print_counts(tally.compared[k], tally.differ[k]);
+    print_name(out, kind)?;
+    print_counts(out, tally.compared[k], tally.differ[k])
 }
 
 // The counts of all kinds.
-fn summarize(tally: Tally) {
-    print_kind(tally, Kind::Sequence);
-    print_kind(tally, Kind::Pair);
-    print_kind(tally, Kind::Loop);
-    print_kind(tally, Kind::Strength);
-    print_kind(tally, Kind::Strength2);
-    print_kind(tally, Kind::Ambient);
-    print_kind(tally, Kind::Name);
-    print_kind(tally, Kind::StrandBond);
-    print_kind(tally, Kind::ScaffoldBond);
-    print_kind(tally, Kind::Friends);
-    print_kind(tally, Kind::Count);
-    print_kind(tally, Kind::State);
-    print_kind(tally, Kind::StateEnergy);
-    print_kind(tally, Kind::ChainEnergy);
-    print_kind(tally, Kind::Search);
-    print_kind(tally, Kind::Settled);
-    print_kind(tally, Kind::Unknown);
+fn summarize<W: Write>(out: &mut W, tally: Tally) -> io::Result<()> {
+    print_kind(out, tally, Kind::Sequence)?;
+    print_kind(out, tally, Kind::Pair)?;
+    print_kind(out, tally, Kind::Loop)?;
+    print_kind(out, tally, Kind::Strength)?;
+    print_kind(out, tally, Kind::Strength2)?;
+    print_kind(out, tally, Kind::Ambient)?;
+    print_kind(out, tally, Kind::Name)?;
+    print_kind(out, tally, Kind::StrandBond)?;
+    print_kind(out, tally, Kind::ScaffoldBond)?;
+    print_kind(out, tally, Kind::Friends)?;
+    print_kind(out, tally, Kind::Count)?;
+    print_kind(out, tally, Kind::State)?;
+    print_kind(out, tally, Kind::StateEnergy)?;
+    print_kind(out, tally, Kind::ChainEnergy)?;
+    print_kind(out, tally, Kind::Search)?;
+    print_kind(out, tally, Kind::Settled)?;
+    print_kind(out, tally, Kind::Unknown)
 }
 
 // Replays the list of this name.
-fn replay_list(path: &[u8]) {
-    let fd = os::open_read(path);
-    if fd < 0 {
-        os::fail(path);
-        return;
-    }
-    summarize(replay(fd));
-    libc::close(fd);
+fn replay_list<W: Write, R: Files<File = File>>(rt: &R, out: &mut W, path: &str) -> io::Result<()> {
+    let file = File::open(rt, path)?;
+    let tally = replay(out, &file)?;
+    summarize(out, tally)
 }
 
 // The Rust's answers, then the falsified ones.
-fn main() {
-    replay_list(b"answers");
-    print(b"of lines that are false:\n");
-    replay_list(b"false");
+fn main(rt: HostRuntime) -> io::Result<()> {
+    let mut out = io::writer(&rt);
+    replay_list(&rt, &mut out, "answers")?;
+    print(&mut out, b"of lines that are false:\n")?;
+    replay_list(&rt, &mut out, "false")
 }

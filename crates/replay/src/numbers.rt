@@ -3,6 +3,9 @@
 ghost use Rattle.std.specs.Prelude.{◌≡◌, true};
 ghost use Rattle.replay.specs.Text.{hex_text, Decimal, ReadHex, ReadDecimal, ReadByte};
 
+use crate::digits::{put_decimal, put_hex};
+use crate::parts::same;
+
 // A number of 64 bits, or a word that is none.
 #[derive(Clone, Copy)]
 pub(crate) enum Number {
@@ -27,8 +30,8 @@ pub(crate) fn is_hex(word: &[u8], x: u64) -> bool
     ensures { result ≡ true → word.now ≡ hex_text x }
 {
     let mut text = [0u8; 16];
-    let n = io::hex(x, 16, &mut text);
-    check::same(word, &text[..n])
+    put_hex(x, &mut text);
+    same(word, &text)
 }
 
 // Whether a word is x in decimal.
@@ -36,8 +39,8 @@ pub(crate) fn is_decimal(word: &[u8], x: u64) -> bool
     ensures { result ≡ true → Decimal word.now x }
 {
     let mut text = [0u8; 20];
-    let n = io::decimal(x, &mut text);
-    check::same(word, &text[..n])
+    let n = put_decimal(x, &mut text);
+    same(word, &text[..n])
 }
 
 // The value of a hex digit, and some number for any other byte.

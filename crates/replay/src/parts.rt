@@ -1,7 +1,14 @@
 // A text in parts: a list in lines, a line in words.
-ghost use Rattle.std.specs.Prelude.{◌≡◌, nat_eq};
+ghost use Rattle.std.specs.Prelude.{◌≡◌, true, nat_eq};
 ghost use Rattle.lists.specs.Find.{first_index};
 ghost use Rattle.replay.specs.Text.{up_to, past};
+
+// Whether two texts are the same.
+pub(crate) fn same(a: &[u8], b: &[u8]) -> bool
+    ensures { (result ≡ true → a.now ≡ b.now) × (a.now ≡ b.now → result ≡ true) }
+{
+    a == b
+}
 
 // The place of the first mark, or the length.
 fn mark_place(text: &[u8], mark: u8) -> usize

@@ -1,6 +1,10 @@
 // A file's bytes, or why they can't be had.
 use crate::reads::tail;
 use answers::reasons::Why;
+use std::fs::File;
+use std::io::{Error, ErrorKind, Read};
+use std::rt::Files;
+use std::str::from_utf8;
 
 // What became of a file that was to be read.
 #[derive(Clone, Copy)]
@@ -15,60 +19,51 @@ pub(crate) enum FileRead {
 enum Step {
     More(usize),
     End,
-    Failed,
+    Failed(Why),
 }
 
-// By errno, just after a call that failed.
-fn reason() -> Why {
-    let error = os::errno();
-    if error == libc::ENOENT {
-        return Why::NoSuchFile;
+// Why a call failed.
+fn reason(error: Error) -> Why {
+    match error.kind() {
+        ErrorKind::NotFound => Why::NoSuchFile,
+        ErrorKind::IsADirectory => Why::IsAFolder,
+        ErrorKind::PermissionDenied => Why::NotAllowed,
+        _ => Why::ReadFailed,
     }
-    if error == libc::EISDIR {
-        return Why::IsAFolder;
-    }
-    if error == libc::EACCES {
-        return Why::NotAllowed;
-    }
-    Why::ReadFailed
 }
 
 // Reads once, behind the first `size` bytes.
-fn read_more(fd: i32, bytes: &mut [u8], size: usize) -> Step {
+fn read_more<F: Read>(file: &mut F, bytes: &mut [u8], size: usize) -> Step {
     let rest = tail(bytes, size);
-    let got = libc::read(fd, rest);
-    if got < 0 {
-        return Step::Failed;
+    match file.read(rest) {
+        Ok(0) => Step::End,
+        Ok(more) => Step::More(more),
+        Err(error) => Step::Failed(reason(error)),
     }
-    let more = io::count(got, rest);
-    if more == 0 {
-        return Step::End;
-    }
-    Step::More(more)
 }
 
 // Fills the lent bytes as far as the file goes. Each turn reads a byte at least, so there are turns enough.
-fn fill(fd: i32, bytes: &mut [u8]) -> FileRead {
+fn fill<F: Read>(file: &mut F, bytes: &mut [u8]) -> FileRead {
     let mut size = 0;
     for turn in 0..bytes.len() {
-        match read_more(fd, bytes, size) {
+        match read_more(file, bytes, size) {
             Step::More(more) => {
                 size = std::num::wrapping_add_usize(size, more);
             }
             Step::End => return FileRead::Bytes(size),
-            Step::Failed => return FileRead::Failed(reason()),
+            Step::Failed(why) => return FileRead::Failed(why),
         }
     }
     FileRead::Bytes(size)
 }
 
-// Reads as much of a file as there is room for.
-pub(crate) fn read(path: &[u8], bytes: &mut [u8]) -> FileRead {
-    let fd = os::open_read(path);
-    if fd < 0 {
-        return FileRead::Failed(reason());
+// Reads as much of a file as there is room for. A name that is no UTF-8 is that of no file.
+pub(crate) fn read<R: Files>(rt: &R, path: &[u8], bytes: &mut [u8]) -> FileRead {
+    let Ok(name) = from_utf8(path) else {
+        return FileRead::Failed(Why::NoSuchFile);
+    };
+    match File::open(rt, name) {
+        Ok(mut file) => fill(&mut file, bytes),
+        Err(error) => FileRead::Failed(reason(error)),
     }
-    let read = fill(fd, bytes);
-    libc::close(fd);
-    read
 }

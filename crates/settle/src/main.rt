@@ -1,8 +1,9 @@
 // Reads design files and prints, of each, the configuration in which its strands settle, or why there is none.
 //
-// The first argument is --people or --json, the second --ordinary or --archive, the rest are names of files. A program has no exit status: whether all files were answered goes
-// to descriptor 3, as 0 or 1, where the script `settle` reads it.
+// The first argument is --people or --json, the second --ordinary or --archive, the rest are names of files. Whether all files were settled goes
+// to descriptor 3, as 0 or 1, where the script `settle` reads it. The exit status says only how the program ended.
 #![tactic(auto)]
+
 mod build;
 mod file;
 mod lines;
@@ -20,9 +21,18 @@ use answers::{Spot, unreadable};
 use file::FileRead;
 use reads::first_bytes;
 use sdc1d_params::Build;
+use std::env::{Env, FillError};
+use std::fs::OpenOptions;
+use std::io;
+use std::io::{ErrorKind, Write};
+use std::process::ExitCode;
+use std::rt::Files;
 
 // Where the script waits for the status.
-const STATUS: i32 = 3;
+const STATUS: &str = "/dev/fd/3";
+
+// The exit status that a shell tells of a program which a closed pipe ended.
+const PIPE_CLOSED: u8 = 141;
 
 // Room for a file of 1 MiB, and a byte more, so that a longer one is told.
 fn room() -> [u8; 1048577]
@@ -32,71 +42,121 @@ fn room() -> [u8; 1048577]
 }
 
 // A file that can't be had. Answers that it was not settled.
-fn failed(style: Style, path: &[u8], why: Why) -> bool {
+fn failed<W: Write>(out: &mut W, style: Style, path: &[u8], why: Why) -> io::Result<bool> {
     let nowhere = Spot {
         line: 0,
         start: 0,
         size: 0,
     };
-    unreadable(style, path, b"", nowhere, why);
-    false
+    unreadable(out, style, path, b"", nowhere, why)?;
+    Ok(false)
 }
 
 // A file by its name. Answers whether its configuration was settled.
-fn settle_file(style: Style, which: Build, path: &[u8], text: &mut [u8]) -> bool {
-    match file::read(path, text) {
-        FileRead::Failed(why) => failed(style, path, why),
-        FileRead::Bytes(size) => settle::settle(style, which, path, first_bytes(text, size)),
+fn settle_file<R: Files, W: Write>(
+    rt: &R,
+    out: &mut W,
+    style: Style,
+    which: Build,
+    path: &[u8],
+    text: &mut [u8],
+) -> io::Result<bool> {
+    match file::read(rt, path, text) {
+        FileRead::Failed(why) => failed(out, style, path, why),
+        FileRead::Bytes(size) => settle::settle(out, style, which, path, first_bytes(text, size)),
     }
 }
 
 // The file that an argument names.
-fn settle_argument(style: Style, which: Build, i: usize, text: &mut [u8]) -> bool {
-    let mut path = io::buffer();
-    let size = os::arg(i, &mut path);
-    if os::errno() != 0 {
-        return failed(style, first_bytes(&path, size), Why::NoSuchFile);
+fn settle_argument<R: Env + Files, W: Write>(
+    rt: &R,
+    out: &mut W,
+    style: Style,
+    which: Build,
+    i: usize,
+    text: &mut [u8],
+) -> io::Result<bool> {
+    let mut path = [0u8; 4096];
+    match rt.arg(i, &mut path) {
+        Ok(size) => settle_file(rt, out, style, which, first_bytes(&path, size), text),
+        Err(_) => failed(out, style, b"", Why::NoSuchFile),
     }
-    settle_file(style, which, first_bytes(&path, size), text)
+}
+
+// Whether there is such an argument.
+fn is_given<R: Env>(rt: &R, i: usize) -> bool {
+    let mut first = [0u8; 1];
+    match rt.arg(i, &mut first) {
+        Err(FillError::NotPresent) => false,
+        _ => true,
+    }
 }
 
 // All files in turn. Answers whether each was settled.
-fn settle_all(style: Style, which: Build, text: &mut [u8]) -> bool {
+fn settle_all<R: Env + Files, W: Write>(
+    rt: &R,
+    out: &mut W,
+    style: Style,
+    which: Build,
+    text: &mut [u8],
+) -> io::Result<bool> {
     let mut all = true;
-    for i in 3..os::arg_count() {
-        if !settle_argument(style, which, i, text) {
+    for i in 3..usize::MAX {
+        if !is_given(rt, i) {
+            return Ok(all);
+        }
+        if !settle_argument(rt, out, style, which, i, text)? {
             all = false;
         }
     }
-    all
+    Ok(all)
+}
+
+// Whether an argument is this word.
+fn is_word<R: Env>(rt: &R, i: usize, word: &[u8]) -> bool {
+    let mut given = [0u8; 4096];
+    match rt.arg(i, &mut given) {
+        Ok(size) => first_bytes(&given, size) == word,
+        Err(_) => false,
+    }
 }
 
 // The first argument, which the script gives.
-fn style() -> Style {
-    let mut word = io::buffer();
-    let size = os::arg(1, &mut word);
-    if check::same(first_bytes(&word, size), b"--json") {
+fn style<R: Env>(rt: &R) -> Style {
+    if is_word(rt, 1, b"--json") {
         return Style::Json;
     }
     Style::People
 }
 
 // The second argument, which the script gives too.
-fn which() -> Build {
-    let mut word = io::buffer();
-    let size = os::arg(2, &mut word);
-    if check::same(first_bytes(&word, size), b"--archive") {
+fn which<R: Env>(rt: &R) -> Build {
+    if is_word(rt, 2, b"--archive") {
         return Build::Archive;
     }
     Build::Ordinary
 }
 
-// Settles the files, and writes 0 to the script if each was settled, 1 if not.
-fn main() {
-    let mut text = room();
-    if settle_all(style(), which(), &mut text) {
-        io::write_all(STATUS, b"0");
-    } else {
-        io::write_all(STATUS, b"1");
+// Writes to the script, where one waits.
+fn tell<R: Files>(rt: &R, status: &[u8]) {
+    if let Ok(mut script) = OpenOptions::new().write(true).open(rt, STATUS) {
+        let _ = script.write_all(status);
     }
+}
+
+// Settles the files, and writes 0 to the script if each was settled, 1 if not.
+fn main(rt: HostRuntime) -> io::Result<ExitCode> {
+    let mut text = room();
+    let mut out = io::writer(&rt);
+    match settle_all(&rt, &mut out, style(&rt), which(&rt), &mut text) {
+        Ok(true) => tell(&rt, b"0"),
+        Ok(false) => tell(&rt, b"1"),
+        Err(error) => {
+            if let ErrorKind::BrokenPipe = error.kind() {
+                return Ok(ExitCode::from(PIPE_CLOSED));
+            }
+            return Err(error);
+        }
+    }
+    Ok(ExitCode::SUCCESS)
 }

@@ -8,6 +8,8 @@ use design::answers::CountAnswer;
 use sheet::parts;
 use sheet::rows::rows_of;
 use statements::grammar::POSITION;
+use std::io;
+use std::io::Write;
 
 // A design that the search has answered is refused its count only where it has too many states.
 fn states_of(count: CountAnswer) -> States {
@@ -18,7 +20,8 @@ fn states_of(count: CountAnswer) -> States {
 }
 
 // The glues of the positions, then the names of the strands.
-pub(crate) fn report(
+pub(crate) fn report<W: Write>(
+    out: &mut W,
     style: Style,
     path: &[u8],
     text: &[u8],
@@ -30,7 +33,7 @@ pub(crate) fn report(
     configuration: &[u8],
     marks: &[u8],
     energy: f64,
-) -> bool {
+) -> io::Result<bool> {
     let positions = configuration.len();
     let mut rows = [0usize; 128];
     rows_of(kinds, POSITION, reads::places(&mut rows, positions));
@@ -44,6 +47,7 @@ pub(crate) fn report(
         reads::places(&mut sizes, positions),
     );
     report_names(
+        out,
         style,
         path,
         text,
@@ -61,7 +65,8 @@ pub(crate) fn report(
 }
 
 // A strand's name stands in its row where a position's glue stands in its own.
-fn report_names(
+fn report_names<W: Write>(
+    out: &mut W,
     style: Style,
     path: &[u8],
     text: &[u8],
@@ -75,7 +80,7 @@ fn report_names(
     configuration: &[u8],
     marks: &[u8],
     energy: f64,
-) -> bool {
+) -> io::Result<bool> {
     let users = strand_rows.len();
     let mut starts = [0usize; 61];
     let mut sizes = [0usize; 61];
@@ -88,9 +93,10 @@ fn report_names(
     );
     let mut deck = [0u32; 129];
     let DeckWritten::Words(size) = deck::write(DeckForm::Singles, configuration, &mut deck) else {
-        return false;
+        return Ok(false);
     };
     settled(
+        out,
         style,
         path,
         text,
@@ -104,6 +110,6 @@ fn report_names(
         marks,
         energy,
         first_words(&deck, size),
-    );
-    true
+    )?;
+    Ok(true)
 }

@@ -17,6 +17,8 @@ use sheet::rows::rows_of;
 use sheet::{once, parts};
 use statements::ReadAnswer;
 use statements::grammar::{ENERGY_GIVEN, POSITION, STRAND};
+use std::io;
+use std::io::Write;
 use units::{Ambient, AmbientAnswer, KcalPerMol, Kelvin};
 
 // More rows than any design has.
@@ -33,11 +35,18 @@ fn too_many(group: u8) -> Why {
 }
 
 // Prints a refusal, and answers that the file was not settled.
-fn refuse(style: Style, path: &[u8], text: &[u8], refusal: Refusal, found: Found) -> bool {
+fn refuse<W: Write>(
+    out: &mut W,
+    style: Style,
+    path: &[u8],
+    text: &[u8],
+    refusal: Refusal,
+    found: Found,
+) -> io::Result<bool> {
     let spot = found.spot;
     let why = found.why;
-    refused(style, path, text, refusal, spot, why);
-    false
+    refused(out, style, path, text, refusal, spot, why)?;
+    Ok(false)
 }
 
 // A reason that lies in a line.
@@ -53,15 +62,27 @@ fn at_line(line: usize, why: Why) -> Found {
 }
 
 // A file that can't be read. Answers that it was not settled.
-fn complain(style: Style, path: &[u8], text: &[u8], found: Found) -> bool {
+fn complain<W: Write>(
+    out: &mut W,
+    style: Style,
+    path: &[u8],
+    text: &[u8],
+    found: Found,
+) -> io::Result<bool> {
     let spot = found.spot;
     let why = found.why;
-    unreadable(style, path, text, spot, why);
-    false
+    unreadable(out, style, path, text, spot, why)?;
+    Ok(false)
 }
 
 // The text of a file. Answers whether its configuration was settled and printed.
-pub(crate) fn settle(style: Style, which: Build, path: &[u8], text: &[u8]) -> bool {
+pub(crate) fn settle<W: Write>(
+    out: &mut W,
+    style: Style,
+    which: Build,
+    path: &[u8],
+    text: &[u8],
+) -> io::Result<bool> {
     let mut kinds = [0u8; 2048];
     let mut lines = [0usize; 2048];
     let mut words = [0usize; 16384];
@@ -70,6 +91,7 @@ pub(crate) fn settle(style: Style, which: Build, path: &[u8], text: &[u8]) -> bo
         ReadAnswer::Rows(n) => {
             if ROWS < n {
                 return refuse(
+                    out,
                     style,
                     path,
                     text,
@@ -78,6 +100,7 @@ pub(crate) fn settle(style: Style, which: Build, path: &[u8], text: &[u8]) -> bo
                 );
             }
             settle_rows(
+                out,
                 style,
                 which,
                 path,
@@ -98,22 +121,24 @@ pub(crate) fn settle(style: Style, which: Build, path: &[u8], text: &[u8]) -> bo
                 spot,
                 why: Why::Line(reason),
             };
-            complain(style, path, text, found)
+            complain(out, style, path, text, found)
         }
         ReadAnswer::TooManyRows(line) => refuse(
+            out,
             style,
             path,
             text,
             Refusal::WrongSize,
             at_line(line, Why::TooManyRows),
         ),
-        ReadAnswer::TooLong => complain(style, path, text, at_line(0, Why::TooLong)),
-        ReadAnswer::UnequalRoom => complain(style, path, text, at_line(0, Why::ReadFailed)),
+        ReadAnswer::TooLong => complain(out, style, path, text, at_line(0, Why::TooLong)),
+        ReadAnswer::UnequalRoom => complain(out, style, path, text, at_line(0, Why::ReadFailed)),
     }
 }
 
 // A file whose every line can be read.
-fn settle_rows(
+fn settle_rows<W: Write>(
+    out: &mut W,
     style: Style,
     which: Build,
     path: &[u8],
@@ -122,10 +147,10 @@ fn settle_rows(
     lines: &[usize],
     words: &[usize],
     numbers: &[f64],
-) -> bool {
+) -> io::Result<bool> {
     match sheet::faults::check(text, kinds, lines, words) {
         SheetAnswer::Whole(users, positions, entries) => settle_sheet(
-            style, which, path, text, kinds, lines, words, numbers, users, positions, entries,
+            out, style, which, path, text, kinds, lines, words, numbers, users, positions, entries,
         ),
         SheetAnswer::NameTwice(line, word) => {
             let spot = Spot {
@@ -137,25 +162,27 @@ fn settle_rows(
                 spot,
                 why: Why::NameTwice,
             };
-            complain(style, path, text, found)
+            complain(out, style, path, text, found)
         }
         SheetAnswer::GivenTwice(line, _) => {
             let found = place::on_line(text, line, 1, Why::GivenTwice);
-            complain(style, path, text, found)
+            complain(out, style, path, text, found)
         }
         SheetAnswer::TooMany(line, group) => refuse(
+            out,
             style,
             path,
             text,
             Refusal::WrongSize,
             at_line(line, too_many(group)),
         ),
-        SheetAnswer::NoAmbient => complain(style, path, text, at_line(0, Why::NoAmbient)),
+        SheetAnswer::NoAmbient => complain(out, style, path, text, at_line(0, Why::NoAmbient)),
     }
 }
 
 // Builds the design.
-fn settle_sheet(
+fn settle_sheet<W: Write>(
+    out: &mut W,
     style: Style,
     which: Build,
     path: &[u8],
@@ -167,9 +194,10 @@ fn settle_sheet(
     users: usize,
     positions: usize,
     entries: usize,
-) -> bool {
+) -> io::Result<bool> {
     if MOST_USERS < users || MOST_POSITIONS < positions || MOST_ENTRIES < entries {
         return refuse(
+            out,
             style,
             path,
             text,
@@ -200,6 +228,7 @@ fn settle_sheet(
         &mut ds,
     ) {
         Reply::Refused(refusal, _) => refuse(
+            out,
             style,
             path,
             text,
@@ -217,6 +246,7 @@ fn settle_sheet(
             ),
         ),
         Reply::Admitted => settle_design(
+            out,
             style,
             path,
             text,
@@ -248,7 +278,8 @@ fn ambient_of(kinds: &[u8], numbers: &[f64]) -> AmbientAnswer {
 }
 
 // The ambient, then the search.
-fn settle_design(
+fn settle_design<W: Write>(
+    out: &mut W,
     style: Style,
     path: &[u8],
     text: &[u8],
@@ -262,10 +293,11 @@ fn settle_design(
     glues: &[u8],
     dg: &[f64],
     ds: &[f64],
-) -> bool {
+) -> io::Result<bool> {
     match ambient_of(kinds, numbers) {
         AmbientAnswer::Refused(refusal) => {
             refuse(
+                out,
                 style,
                 path,
                 text,
@@ -274,6 +306,7 @@ fn settle_design(
             )
         }
         AmbientAnswer::Given(ambient) => search(
+            out,
             style,
             path,
             text,
@@ -301,7 +334,8 @@ fn mark(kinds: &[u8], marks: &mut [u8]) {
 }
 
 // The search, and what is printed of it.
-fn search(
+fn search<W: Write>(
+    out: &mut W,
     style: Style,
     path: &[u8],
     text: &[u8],
@@ -316,10 +350,10 @@ fn search(
     dg: &[f64],
     ds: &[f64],
     ambient: Ambient,
-) -> bool {
+) -> io::Result<bool> {
     let positions = scaffold.len();
     if MOST_USERS < strand_rows.len() || MOST_POSITIONS < positions {
-        return false;
+        return Ok(false);
     }
     let strands = strand_rows.len() + 3;
     let mut room = [0.0; 64];
@@ -345,6 +379,7 @@ fn search(
         reads::bytes(&mut configuration, positions),
     ) {
         EnergyAnswer::Refused(refusal, place) => refuse(
+            out,
             style,
             path,
             text,
@@ -354,6 +389,7 @@ fn search(
         EnergyAnswer::Energy(energy) => {
             let states = number_of_states(scaffold, marks, glues, dg, ds, potentials, ambient);
             report(
+                out,
                 style,
                 path,
                 text,

@@ -1,5 +1,5 @@
 -- `answers::print::width` is safe and ends. Assumes nothing.
-use Rattle.std.proofs.Common.{◌-◌, rules}
+use Rattle.std.proofs.Common.{◌-◌}
 use Rattle.answers.proofs.print.width.Given as goal
 
 abbrev pub invariant-loop-i : goal.invariant-loop-i

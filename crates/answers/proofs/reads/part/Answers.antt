@@ -1,5 +1,5 @@
 -- `answers::reads::part` meets its contract. Assumes nothing.
-use Rattle.std.proofs.Common.{◌≡◌, ◌+◌, ◌-◌, ◌<◌, ◌≤◌, length, arith, rules, le-ltb, lt-ltb}
+use Rattle.std.proofs.Common.{◌≡◌, ◌+◌, ◌-◌, ◌<◌, ◌≤◌, length, arith, le-ltb, lt-ltb}
 use Rattle.answers.proofs.reads.part.Goals as goal
 
 pub returns-then-text-start : goal.returns-then-text-start

@@ -13,7 +13,6 @@ returns-then-not-is_places c = λ e. never e
 pub returns : goal.returns
 returns c = λ e.
     let told = c.mj_chain_energy-reply.ensures in
-    
     record {
       first = ap letters (sym c.up_to.ensures) ∙ c.is_places.ensures (not-false _ c.if-not-is_places.false-raw);
       answer =

@@ -10,10 +10,9 @@ returns-in_default c = λ e. never e
 
 pub returns : goal.returns
 returns c = λ e.
-    
     let answer = c.mj_friends-reply.ensures in
     record {
-      position = c.position.given.0.0;
-      first = as-decimal c.up_to.ensures c.position.given.1 c.decimal.ensures;
-      answer = places-as c.past.ensures answer.told.number (rw (answer.told.figure, answer.entries_after)) (c.Says-first.ensures e);
+      position = c.in-Is.position;
+      first = as-decimal c.up_to.ensures c.in-Is.is c.decimal.ensures;
+      answer = places-as c.past.ensures answer.told.number (rw (answer.told.figure, answer.entries_after)) (c.says_first.ensures e);
     }

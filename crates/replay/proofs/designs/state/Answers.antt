@@ -10,10 +10,9 @@ returns-in_default c = λ e. never e
 
 pub returns : goal.returns
 returns c = λ e.
-    
     let answer = c.mj_state-reply.ensures in
     record {
-      rank = c.rank.given.0.0;
-      first = as-decimal c.up_to.ensures c.rank.given.1 c.decimal.ensures;
+      rank = c.in-Is.rank;
+      first = as-decimal c.up_to.ensures c.in-Is.is c.decimal.ensures;
       answer = places-as c.past.ensures answer.told.number answer.entries_after (c.says_places.ensures e);
     }

@@ -12,7 +12,6 @@ returns-then-not-is_places c = λ e. never e
 pub returns : goal.returns
 returns c = λ e.
     let told = c.mj_state_energy-reply.ensures in
-    
     record {
       first = ap letters (sym c.up_to.ensures) ∙ c.is_places.ensures (not-false _ c.if-not-is_places.false-raw);
       answer = says-as c.past.ensures told.number (rw (c.bits.ensures, told.figure)) (c.says.ensures e);

@@ -15,8 +15,6 @@ returns-in_default-small c = λ e. never e
 pub returns : goal.returns
 returns c = λ e.
     let told = c.mj_strand_bond-reply.ensures in
-    
-    
     let rest = c.past-rest.ensures in
     record {
       x = c.in-Is.x;

@@ -11,8 +11,6 @@ returns-in_default c = λ e. never e
 pub returns : goal.returns
 returns c = λ e.
     let told = c.mj_ambient-reply.ensures in
-    
-    
     record {
       kelvin = c.in-Is.read;
       first = as-hex c.up_to.ensures c.in-Is.is c.hex.ensures;

@@ -18,8 +18,6 @@ returns-then-kind-gt4294967295 c = λ e. never e
 pub returns : goal.returns
 returns c = λ e.
     let told = c.mj_loop_penalty-reply.ensures in
-    
-    
     let rest = c.past-rest.ensures in
     record {
       size = c.in-Is.length;

@@ -7,6 +7,5 @@ use Rattle.replay.proofs.kinds.name.Goals as goal
 pub returns : goal.returns
 returns c = λ e.
     let told = c.mj_name-reply.ensures in
-    
     let s = c.letters-s.ensures ∙ ap letters c.up_to.ensures in
     says-as c.past.ensures (rw (told.value, s)) (rw (told.base_length_after, told.is_base_after, s)) (c.says.ensures e)

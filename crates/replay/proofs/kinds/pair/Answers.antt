@@ -6,8 +6,6 @@ use Rattle.replay.proofs.kinds.pair.Goals as goal
 
 pub returns : goal.returns
 returns c = λ e.
-    
-    
     let rest = c.past-rest.ensures in
     let a = c.letters-a.ensures ∙ ap letters c.up_to.ensures in
     let b = c.letters-b.ensures ∙ ap letters (c.up_to-2.ensures ∙ ap word rest) in

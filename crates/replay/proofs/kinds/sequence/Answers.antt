@@ -6,7 +6,6 @@ use Rattle.replay.proofs.kinds.sequence.Goals as goal
 
 pub returns : goal.returns
 returns c = λ e.
-    
     let s = c.letters-s.ensures ∙ ap letters c.up_to.ensures in
     says-as c.past.ensures
     (rw (c.mj_sequence_reply-reply.ensures, s))

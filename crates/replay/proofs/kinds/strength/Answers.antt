@@ -12,9 +12,6 @@ returns-in_default c = λ e. never e
 pub returns : goal.returns
 returns c = λ e.
     let told = c.mj_sequence_strength-reply.ensures in
-    
-    
-    
     let rest = c.past-rest.ensures in
     let s = c.letters-s.ensures ∙ ap letters (c.up_to-2.ensures ∙ ap word rest) in
     record {

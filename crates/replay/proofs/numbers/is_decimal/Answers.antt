@@ -1,8 +1,8 @@
--- `replay::numbers::is_decimal` meets its contract: the word is what `io::decimal` writes. Assumes nothing.
+-- `replay::numbers::is_decimal` meets its contract: the word is what `put_decimal` writes. Assumes nothing.
 use Rattle.std.proofs.Common.{◌∙◌, rules}
 use Rattle.replay.proofs.numbers.is_decimal.Goals as goal
 
 pub returns : goal.returns
 returns c = λ e.
-    let d = c.decimal-n in
-    record { places = d.result; fewest = d.ensures.len; written = c.same.ensures.0 e ∙ d.ensures }
+    let d = c.put_decimal-n in
+    record { places = d.result; fewest = d.ensures.fewest; written = c.same.ensures.0 e ∙ d.ensures.digits }

@@ -5,5 +5,4 @@ use Rattle.replay.proofs.numbers.small.Goals as goal
 
 pub returns : goal.returns
 returns c =
-    
     as-decimal refl c.in-Is.is c.decimal.ensures

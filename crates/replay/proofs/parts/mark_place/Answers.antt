@@ -5,7 +5,6 @@ use Rattle.replay.proofs.parts.mark_place.Goals as goal
 
 pub returns-then-mark-text : goal.returns-then-mark-text
 returns-then-mark-text c =
-    
     let text = c.args.text.now in
     let mark = c.args.mark in
     let i = c.loop-i.i in
@@ -13,7 +12,6 @@ returns-then-mark-text c =
 
 pub loop-i-preserved : goal.loop-i-preserved
 loop-i-preserved c =
-    
     let text = c.args.text.now in
     let mark = c.args.mark in
     let i = c.loop-i.i in
@@ -21,5 +19,4 @@ loop-i-preserved c =
 
 pub returns : goal.returns
 returns c =
-    
     omega (arith, first_past (eqb c.args.mark) c.args.text.now c.loop-i.i (omega arith))

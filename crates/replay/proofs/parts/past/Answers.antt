@@ -9,12 +9,10 @@ to_end k text = take_all (length text - k) (drop k text) (simp length-drop (omeg
 
 pub returns-then-text-n : goal.returns-then-text-n
 returns-then-text-n c =
-    
     let text = c.args.text.now in
     to_end (length text) text ∙ drop_of_length-le text {i = length text} (omega arith)
     ∙ sym (drop_of_length-le text {i = first_index (eqb c.args.mark) text + 1} (omega arith))
 
 pub returns : goal.returns
 returns c =
-    
     to_end (c.mark_place-n.result + 1) c.args.text.now ∙ rw c.mark_place-n.ensures

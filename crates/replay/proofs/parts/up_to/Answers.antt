@@ -5,10 +5,9 @@ use Rattle.replay.proofs.parts.up_to.Goals as goal
 
 pub slice_bounds-result-end : goal.slice_bounds-result-end
 slice_bounds-result-end c =
-    
     let text = c.args.text.now in
-    let within : c.mark-place.result ≤ length text = omega (arith, first-le (eqb c.args.mark) text) in
-    sym (length-take-le c.mark-place.result text within)
+    let within : c.mark_place-n.result ≤ length text = omega (arith, first-le (eqb c.args.mark) text) in
+    sym (length-take-le c.mark_place-n.result text within)
 
 pub returns : goal.returns
 returns c = rw c.mark_place-n.ensures

@@ -18,12 +18,10 @@ returns-then-text-i c = λ e. never e
 
 pub loop-i-preserved : goal.loop-i-preserved
 loop-i-preserved c =
-    
     let a = c.args in
     (c.loop-i.invariant.0, (omega arith, λ e. c.loop-i.invariant.1.1 (letters-more a.text.now a.places.now c.loop-i.i (omega arith) (omega (arith, c.loop-i.invariant.0)) c.if-text-i.false e)))
 
 pub returns : goal.returns
 returns c = λ e.
-    
     let a = c.args in
     c.loop-i.invariant.1.1 (letters-done a.text.now a.places.now c.loop-i.i (omega arith) (omega (arith, c.loop-i.invariant.0)))

@@ -13,7 +13,6 @@ returns-then-not-same c = λ e. never e
 
 pub returns : goal.returns
 returns c = λ e.
-    
     inr
     (record {
       answered = c.if-number-ne0.false;

@@ -16,7 +16,6 @@ returns-then-not-same c = λ e. never e
 
 pub loop-i-init : goal.loop-i-init
 loop-i-init c =
-    
     let words = c.args.words.now in
     let two = c.same.ensures.0 (not-false _ c.if-not-same.false-raw) in
     (omega arith, (omega arith, λ e. sym (take-append-drop 2 words) ∙ rw (two, e)))
@@ -26,15 +25,12 @@ returns-then-not-has_figure c = λ e. never e
 
 pub loop-i-preserved : goal.loop-i-preserved
 loop-i-preserved c =
-    
-    
     let a = c.args in
     let figure = c.has_figure.ensures (not-false _ c.if-not-has_figure.false-raw) in
     (omega arith, (figure.within, λ e. c.loop-i.invariant.1.1 (figures-more a.words.now a.figures.now c.loop-i.at c.loop-i.i (omega arith) figure e)))
 
 pub returns : goal.returns
 returns c = λ e.
-    
     let a = c.args in
     let end : c.loop-i.at ≡ length a.words.now = eqb-true _ _ e in
     c.loop-i.invariant.1.1 (figures-done a.words.now a.figures.now c.loop-i.at c.loop-i.i (omega arith) (omega arith))

@@ -15,7 +15,6 @@ returns-then-words-at-ne32 c = λ e. never e
 
 pub returns : goal.returns
 returns c = λ e.
-    
     let a = c.args in
     let sixteen : (a.at + 17) - (a.at + 1) ≡ 16 = omega arith in
     record { within = omega arith; text = figure-text a.words.now a.at a.figure (omega arith) c.if-words-at-ne32.false (rw sixteen at (c.is_hex.ensures e)) }

@@ -5,7 +5,6 @@ use Rattle.replay.proofs.says.refused.Goals as goal
 
 pub returns-then-same : goal.returns-then-same
 returns-then-same c = λ e.
-    
     record {
       first = sym c.up_to.ensures ∙ c.same.ensures.0 c.if-same.true;
       second = rw c.past.ensures at (c.is_decimal.ensures e);

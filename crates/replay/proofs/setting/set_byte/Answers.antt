@@ -15,8 +15,6 @@ returns-then-value-gt255 c = λ e. never e
 
 pub returns : goal.returns
 returns c = λ e.
-    
-    
     record {
       index = c.in-Is.index;
       value = c.in-Is-decimal.value;

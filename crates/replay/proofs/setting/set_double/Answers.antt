@@ -15,8 +15,6 @@ returns-then-slice-at c = λ e. never e
 
 pub returns : goal.returns
 returns c = λ e.
-    
-    
     record {
       index = c.in-Is.index;
       bits = c.in-Is-hex.bits;

@@ -1,5 +1,5 @@
 -- `settle::lines::word_on_line` is safe and ends. Assumes nothing.
-use Rattle.std.proofs.Common.{◌-◌, rules}
+use Rattle.std.proofs.Common.{◌-◌}
 use Rattle.settle.proofs.lines.word_on_line.Given as goal
 
 abbrev pub invariant-loop-i : goal.invariant-loop-i

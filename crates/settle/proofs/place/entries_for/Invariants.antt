@@ -1,5 +1,5 @@
 -- `settle::place::entries_for` is safe and ends. Assumes nothing.
-use Rattle.std.proofs.Common.{◌-◌, rules}
+use Rattle.std.proofs.Common.{◌-◌}
 use Rattle.settle.proofs.place.entries_for.Given as goal
 
 abbrev pub invariant-loop-count : goal.invariant-loop-count

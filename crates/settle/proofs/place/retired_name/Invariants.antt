@@ -1,5 +1,5 @@
 -- `settle::place::retired_name` is safe and ends. Assumes nothing.
-use Rattle.std.proofs.Common.{◌-◌, rules}
+use Rattle.std.proofs.Common.{◌-◌}
 use Rattle.settle.proofs.place.retired_name.Given as goal
 
 abbrev pub invariant-loop-j : goal.invariant-loop-j

@@ -1,5 +1,5 @@
 -- `settle::place::row_of` is safe and ends. Assumes nothing.
-use Rattle.std.proofs.Common.{◌-◌, rules}
+use Rattle.std.proofs.Common.{◌-◌}
 use Rattle.settle.proofs.place.row_of.Given as goal
 
 abbrev pub invariant-loop-row : goal.invariant-loop-row

@@ -1,5 +1,5 @@
 -- `settle::place::sequence_row` is safe and ends. Assumes nothing.
-use Rattle.std.proofs.Common.{◌-◌, rules}
+use Rattle.std.proofs.Common.{◌-◌}
 use Rattle.settle.proofs.place.sequence_row.Given as goal
 
 abbrev pub invariant-loop-row : goal.invariant-loop-row

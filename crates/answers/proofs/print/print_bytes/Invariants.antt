@@ -1,9 +1,0 @@
--- `answers::print::print_bytes` is safe and ends. Assumes nothing.
-use Rattle.std.proofs.Common.{◌-◌, rules}
-use Rattle.answers.proofs.print.print_bytes.Given as goal
-
-abbrev pub invariant-loop-turn : goal.invariant-loop-turn
-invariant-loop-turn l = Unit {0}
-
-abbrev pub decreases-loop-turn : goal.decreases-loop-turn
-decreases-loop-turn l = l.turn-end - l.turn
