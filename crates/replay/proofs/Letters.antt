@@ -1,5 +1,5 @@
 -- Places and their letters, one after the other. Assumes nothing.
-use Rattle.std.proofs.Common.{◌≡◌, ℕ, suc, ◌+◌, ◌<◌, ◌≤◌, List, map, length, get_or, drop, sym, ◌∙◌, subst, add-one, drop_of_length-le, drop-cons}
+use Rattle.std.proofs.Common.{◌≡◌, ℕ, suc, ◌+◌, ◌<◌, ◌≤◌, List, map, length, get_or, drop, subst, add-one, drop_of_length-le, drop-cons}
 use Rattle.replay.specs.Places.{letter, SaysPlaces}
 
 -- a letter, and after it the later ones

@@ -1,5 +1,5 @@
 -- `replay::is_well_formed` is safe and ends. Assumes nothing.
-use Rattle.std.proofs.Common.{◌-◌, ◌≤◌, length, rules}
+use Rattle.std.proofs.Common.{◌-◌, ◌≤◌, length}
 use Rattle.replay.proofs.is_well_formed.Given as goal
 
 abbrev pub invariant-loop-i : goal.invariant-loop-i

@@ -1,5 +1,5 @@
 -- `replay::about::of_places` is safe. Assumes nothing.
-use Rattle.std.proofs.Common.{replicate, sym, arith, length-take-le, rules}
+use Rattle.std.proofs.Common.{replicate, sym, arith, length-take-le}
 use Rattle.replay.proofs.about.of_places.Goals as goal
 
 pub slice_bounds-state-end : goal.slice_bounds-state-end

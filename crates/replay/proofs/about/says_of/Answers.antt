@@ -1,5 +1,5 @@
 -- `replay::about::says_of` is safe. Assumes nothing.
-use Rattle.std.proofs.Common.{replicate, sym, arith, length-take-le, rules}
+use Rattle.std.proofs.Common.{sym, arith, length-take-le}
 use Rattle.replay.proofs.about.says_of.Goals as goal
 
 pub slice_bounds-state_energy-end : goal.slice_bounds-state_energy-end

@@ -1,6 +1,5 @@
 -- `replay::designs::chain_energy` meets its contract: the call has the definition's figures, and the rest of the line says them. Assumes nothing.
-use Rattle.std.proofs.Common.{sym, ap, ◌∙◌, rules}
-use borrow.Author.Tests.{not-false}
+use Rattle.std.proofs.Common.{sym, ap, ◌∙◌}
 use Rattle.design.specs.Answers.{Chain}
 use Rattle.replay.specs.Kinds.{letters}
 use Rattle.replay.proofs.Tests.{never}
@@ -14,7 +13,7 @@ pub returns : goal.returns
 returns c = λ e.
     let told = c.mj_chain_energy-reply.ensures in
     record {
-      first = ap letters (sym c.up_to.ensures) ∙ c.is_places.ensures (not-false _ c.if-not-is_places.false-raw);
+      first = ap letters (sym c.up_to.ensures) ∙ c.is_places.ensures c.if-not-is_places.false;
       answer =
           says-as c.past.ensures told.number
           (rw (c.bits.ensures, c.bits-2.ensures, ap (λ (x : Chain). x.bare) told.figure, ap (λ (x : Chain). x.times_rt) told.figure))

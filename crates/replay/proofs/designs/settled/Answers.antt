@@ -1,5 +1,5 @@
 -- `replay::designs::settled` meets its contract: the call has the definition's figures, and the rest of the line says them. Assumes nothing.
-use Rattle.std.proofs.Common.{refl, rules}
+use Rattle.std.proofs.Common.{refl}
 use Rattle.replay.proofs.Letters.{places-as}
 use Rattle.replay.proofs.designs.settled.Goals as goal
 

@@ -1,6 +1,5 @@
 -- `replay::designs::state_energy` meets its contract: the call has the definition's figures, and the rest of the line says them. Assumes nothing.
-use Rattle.std.proofs.Common.{sym, ap, ◌∙◌, rules}
-use borrow.Author.Tests.{not-false}
+use Rattle.std.proofs.Common.{sym, ap, ◌∙◌}
 use Rattle.replay.specs.Kinds.{letters}
 use Rattle.replay.proofs.Tests.{never}
 use Rattle.replay.proofs.Figures.{says-as}
@@ -13,6 +12,6 @@ pub returns : goal.returns
 returns c = λ e.
     let told = c.mj_state_energy-reply.ensures in
     record {
-      first = ap letters (sym c.up_to.ensures) ∙ c.is_places.ensures (not-false _ c.if-not-is_places.false-raw);
+      first = ap letters (sym c.up_to.ensures) ∙ c.is_places.ensures c.if-not-is_places.false;
       answer = says-as c.past.ensures told.number (rw (c.bits.ensures, told.figure)) (c.says.ensures e);
     }

@@ -4,7 +4,7 @@ use mathlib.Core.Path.{◌≡◌, refl, sym, ap, subst, ◌∙◌}
 use mathlib.Core.List.{List, [], ◌∷◌, ◌++◌, append-nil}
 use Prim.Native.Nat.{ℕ, zero, suc, ◌-◌, ◌/◌, ◌%◌, ◌≤◌, ◌<◌}
 use lib.ListN.{length, take, drop, set, length-set}
-use lib.Seq.{slice, slice_empty, length-take-le, take-set-lt, drop-set-lt, append_snoc}
+use lib.Seq.{slice, slice_empty, length-take-le, take-set-lt, append_snoc}
 use native.Mathlib.Nat.{le_refl, le_of_suc-le-suc, not-suc-le-zero}
 use native.Mathlib.Numerals.{sub-one}
 use Rattle.replay.specs.Digits.{hex_digit_ascii, last_digits}

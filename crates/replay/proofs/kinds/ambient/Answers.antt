@@ -1,5 +1,4 @@
 -- `replay::kinds::ambient` meets its contract: the call has the definition's figures, and the rest of the line says them. Assumes nothing.
-use Rattle.std.proofs.Common.{rules}
 use Rattle.replay.proofs.Words.{as-hex}
 use Rattle.replay.proofs.Tests.{never}
 use Rattle.replay.proofs.Figures.{says-as}

@@ -1,5 +1,5 @@
 -- `replay::kinds::letters` meets its contract. Assumes nothing.
-use Rattle.std.proofs.Common.{rules, eq-eqb, ne_eqb}
+use Rattle.std.proofs.Common.{eq-eqb, ne_eqb}
 use Rattle.replay.specs.Kinds.{letters}
 use Rattle.replay.proofs.kinds.letters.Goals as goal
 

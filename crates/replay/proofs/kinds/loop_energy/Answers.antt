@@ -1,5 +1,5 @@
 -- `replay::kinds::loop_energy` meets its contract: the call has the definition's figures, and the rest of the line says them. Assumes nothing.
-use Rattle.std.proofs.Common.{ap, ◌∙◌, rules}
+use Rattle.std.proofs.Common.{ap, ◌∙◌}
 use Rattle.replay.specs.Kinds.{word, later}
 use Rattle.replay.proofs.Words.{as-decimal}
 use Rattle.replay.proofs.Tests.{never}

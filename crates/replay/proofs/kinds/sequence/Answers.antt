@@ -1,5 +1,5 @@
 -- `replay::kinds::sequence` meets its contract: the call has the definition's figures, and the rest of the line says them. Assumes nothing.
-use Rattle.std.proofs.Common.{ap, ◌∙◌, rules}
+use Rattle.std.proofs.Common.{ap, ◌∙◌}
 use Rattle.replay.specs.Kinds.{letters}
 use Rattle.replay.proofs.Figures.{says-as}
 use Rattle.replay.proofs.kinds.sequence.Goals as goal

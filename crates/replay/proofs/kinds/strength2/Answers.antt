@@ -1,5 +1,5 @@
 -- `replay::kinds::strength2` meets its contract: the call has the definition's figures, and the rest of the line says them. Assumes nothing.
-use Rattle.std.proofs.Common.{ap, ◌∙◌, rules}
+use Rattle.std.proofs.Common.{ap, ◌∙◌}
 use Rattle.replay.specs.Kinds.{word, later, letters}
 use Rattle.replay.proofs.Words.{as-hex}
 use Rattle.replay.proofs.Tests.{never}

@@ -1,5 +1,5 @@
 -- `replay::numbers::decimal_value` is safe and ends. Assumes nothing.
-use Rattle.std.proofs.Common.{◌-◌, ◌≤◌, length, rules}
+use Rattle.std.proofs.Common.{◌-◌, ◌≤◌, length}
 use Rattle.replay.proofs.numbers.decimal_value.Given as goal
 
 abbrev pub invariant-loop-i : goal.invariant-loop-i

@@ -1,5 +1,4 @@
 -- `replay::numbers::hex` meets its contract: the number is one that the word is written as. Assumes nothing.
-use Rattle.std.proofs.Common.{rules}
 use Rattle.replay.proofs.numbers.hex.Goals as goal
 
 pub returns-then-is_hex : goal.returns-then-is_hex

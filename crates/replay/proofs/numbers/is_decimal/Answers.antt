@@ -1,5 +1,5 @@
 -- `replay::numbers::is_decimal` meets its contract: the word is what `put_decimal` writes. Assumes nothing.
-use Rattle.std.proofs.Common.{◌∙◌, rules}
+use Rattle.std.proofs.Common.{◌∙◌}
 use Rattle.replay.proofs.numbers.is_decimal.Goals as goal
 
 pub returns : goal.returns

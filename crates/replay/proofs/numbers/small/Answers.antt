@@ -1,5 +1,5 @@
 -- `replay::numbers::small` meets its contract. Assumes nothing.
-use Rattle.std.proofs.Common.{refl, rules}
+use Rattle.std.proofs.Common.{refl}
 use Rattle.replay.proofs.Words.{as-decimal}
 use Rattle.replay.proofs.numbers.small.Goals as goal
 

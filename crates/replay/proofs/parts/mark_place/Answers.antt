@@ -1,5 +1,4 @@
-use Rattle.std.proofs.Common.{◌≡◌, ◌+◌, ◌-◌, ◌≤◌, eqb, length, drop, arith, rules, eq-eqb, ne_eqb}
-use Rattle.lists.specs.Find.{first_index}
+use Rattle.std.proofs.Common.{eqb, arith, eq-eqb, ne_eqb}
 use Rattle.lists.proofs.Find.{first-here, first-later, first_past}
 use Rattle.replay.proofs.parts.mark_place.Goals as goal
 

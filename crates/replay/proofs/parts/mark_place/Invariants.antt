@@ -1,7 +1,6 @@
 -- `replay::parts::mark_place` meets its contract: the loop has passed over what `first_index` passes over. Assumes nothing.
-use Rattle.std.proofs.Common.{◌≡◌, ◌+◌, ◌-◌, ◌≤◌, eqb, length, drop, arith, rules, eq-eqb, ne_eqb}
+use Rattle.std.proofs.Common.{◌≡◌, ◌+◌, ◌-◌, ◌≤◌, eqb, length, drop}
 use Rattle.lists.specs.Find.{first_index}
-use Rattle.lists.proofs.Find.{first-here, first-later, first_past}
 use Rattle.replay.proofs.parts.mark_place.Given as goal
 
 abbrev pub invariant-loop-i : goal.invariant-loop-i

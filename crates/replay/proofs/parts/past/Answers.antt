@@ -1,5 +1,5 @@
 -- `replay::parts::past` meets its contract: with no mark, nothing is left on either side. Assumes nothing.
-use Rattle.std.proofs.Common.{◌≡◌, ℕ, ◌+◌, ◌-◌, eqb, List, length, take, drop, sym, ◌∙◌, arith, length-drop, drop_of_length-le, take_all, rules}
+use Rattle.std.proofs.Common.{◌≡◌, ℕ, ◌+◌, ◌-◌, eqb, List, length, take, drop, sym, ◌∙◌, arith, length-drop, drop_of_length-le, take_all}
 use Rattle.lists.specs.Find.{first_index}
 use Rattle.replay.proofs.parts.past.Goals as goal
 

@@ -1,5 +1,5 @@
 -- `replay::parts::up_to` meets its contract. Assumes nothing.
-use Rattle.std.proofs.Common.{◌≤◌, eqb, length, sym, arith, length-take-le, rules}
+use Rattle.std.proofs.Common.{◌≤◌, eqb, length, sym, arith, length-take-le}
 use Rattle.lists.proofs.Find.{first-le}
 use Rattle.replay.proofs.parts.up_to.Goals as goal
 

@@ -1,5 +1,4 @@
-use Rattle.std.proofs.Common.{◌≡◌, ◌-◌, ◌≤◌, map, length, drop, arith, rules}
-use Rattle.replay.specs.Places.{letter}
+use Rattle.std.proofs.Common.{arith}
 use Rattle.replay.proofs.Tests.{never}
 use Rattle.replay.proofs.Letters.{letters-more, letters-done}
 use Rattle.replay.proofs.places.are_letters.Goals as goal

@@ -1,8 +1,6 @@
 -- `replay::places::are_letters` meets its contract. Assumes nothing.
-use Rattle.std.proofs.Common.{◌≡◌, ◌-◌, ◌≤◌, map, length, drop, arith, rules}
+use Rattle.std.proofs.Common.{◌≡◌, ◌-◌, ◌≤◌, map, length, drop}
 use Rattle.replay.specs.Places.{letter}
-use Rattle.replay.proofs.Tests.{never}
-use Rattle.replay.proofs.Letters.{letters-more, letters-done}
 use Rattle.replay.proofs.places.are_letters.Given as goal
 
 abbrev pub invariant-loop-i : goal.invariant-loop-i

@@ -1,5 +1,5 @@
 -- `replay::places::is_places` meets its contract. Assumes nothing.
-use Rattle.std.proofs.Common.{sym, ◌∙◌, rules}
+use Rattle.std.proofs.Common.{sym, ◌∙◌}
 use Rattle.replay.proofs.places.is_places.Goals as goal
 
 pub returns : goal.returns

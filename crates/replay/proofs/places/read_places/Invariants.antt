@@ -1,5 +1,5 @@
 -- `replay::places::read_places` meets its contract, is safe and ends. Assumes nothing.
-use Rattle.std.proofs.Common.{◌≡◌, ◌-◌, ◌≤◌, length, ◌∙◌, arith, length-set, rules}
+use Rattle.std.proofs.Common.{◌≡◌, ◌-◌, ◌≤◌, length}
 use Rattle.replay.proofs.places.read_places.Given as goal
 
 abbrev pub invariant-loop-i : goal.invariant-loop-i

@@ -1,5 +1,5 @@
 -- `replay::places::says_first` meets its contract. Assumes nothing.
-use Rattle.std.proofs.Common.{sym, arith, length-take-le, rules}
+use Rattle.std.proofs.Common.{sym, arith, length-take-le}
 use Rattle.replay.proofs.Tests.{never}
 use Rattle.replay.proofs.places.says_first.Goals as goal
 

@@ -1,6 +1,5 @@
 -- `replay::places::says_places` meets its contract. Assumes nothing.
-use Rattle.std.proofs.Common.{sym, ap, ◌∙◌, inl, inr, rules}
-use borrow.Author.Tests.{not-false}
+use Rattle.std.proofs.Common.{sym, ap, ◌∙◌, inl, inr}
 use Rattle.replay.specs.Kinds.{letters}
 use Rattle.replay.proofs.Tests.{never}
 use Rattle.replay.proofs.places.says_places.Goals as goal
@@ -16,6 +15,6 @@ returns c = λ e.
     inr
     (record {
       answered = c.if-number-ne0.false;
-      first = sym c.up_to.ensures ∙ c.same.ensures.0 (not-false _ c.if-not-same.false-raw);
+      first = sym c.up_to.ensures ∙ c.same.ensures.0 c.if-not-same.false;
       second = ap letters (sym c.past.ensures) ∙ c.is_places.ensures e;
     })

@@ -1,8 +1,5 @@
 -- `replay::says::given` meets its contract: the loop has passed over the figures that are there. Assumes nothing.
-use Rattle.std.proofs.Common.{◌≡◌, ◌-◌, ◌≤◌, ◌++◌, length, drop, sym, ◌∙◌, arith, take-append-drop, length-take-le, rules, eqb-true}
-use borrow.Author.Tests.{not-false}
-use Rattle.replay.proofs.Tests.{never}
-use Rattle.replay.proofs.Figures.{figures-more, figures-done}
+use Rattle.std.proofs.Common.{◌≡◌, ◌-◌, ◌≤◌, ◌++◌, length, drop}
 use Rattle.replay.specs.Says.{ok, figures_text}
 use Rattle.replay.proofs.says.given.Given as goal
 

@@ -1,5 +1,5 @@
 -- `replay::says::has_figure` meets its contract. Assumes nothing.
-use Rattle.std.proofs.Common.{◌≡◌, ◌+◌, ◌-◌, arith, rules}
+use Rattle.std.proofs.Common.{◌≡◌, ◌+◌, ◌-◌, arith}
 use Rattle.replay.proofs.Tests.{never}
 use Rattle.replay.proofs.Figures.{figure-text}
 use Rattle.replay.proofs.says.has_figure.Goals as goal

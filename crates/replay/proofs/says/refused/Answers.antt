@@ -1,5 +1,5 @@
 -- `replay::says::refused` meets its contract, word by word. Assumes nothing.
-use Rattle.std.proofs.Common.{sym, ◌∙◌, rules}
+use Rattle.std.proofs.Common.{sym, ◌∙◌}
 use Rattle.replay.proofs.Tests.{never}
 use Rattle.replay.proofs.says.refused.Goals as goal
 

@@ -1,5 +1,5 @@
 -- `replay::says::says` meets its contract. Assumes nothing.
-use Rattle.std.proofs.Common.{inl, inr, rules}
+use Rattle.std.proofs.Common.{inl, inr}
 use Rattle.replay.proofs.says.says.Goals as goal
 
 pub returns-then-number-eq0 : goal.returns-then-number-eq0

@@ -1,5 +1,5 @@
 -- `replay::setting::set_byte` meets its contract. Assumes nothing.
-use Rattle.std.proofs.Common.{refl, rules}
+use Rattle.std.proofs.Common.{refl}
 use Rattle.replay.proofs.Words.{as-decimal}
 use Rattle.replay.proofs.Tests.{never}
 use Rattle.replay.proofs.setting.set_byte.Goals as goal

@@ -1,5 +1,4 @@
 -- `replay::setting::set_double` meets its contract. Assumes nothing.
-use Rattle.std.proofs.Common.{refl, rules}
 use Rattle.replay.proofs.Words.{as-decimal, as-hex}
 use Rattle.replay.proofs.Tests.{never}
 use Rattle.replay.proofs.setting.set_double.Goals as goal
