@@ -34,23 +34,18 @@ module _ (bases place later left : ℕ) (inside : place < bases) (e : later ≡ 
   letters-left : choice_at (replicate (bases - place) letters) left ≡ get_or letters (left / (later / 4)) 0 ∷ choice_at (replicate (bases - (place + 1)) letters) (left % (later / 4))
   letters-left = rw (fewer, next) (first-letter (bases - (place + 1)) left)
 
--- src/lib.rt:47:5
 pub loop-place-init : goal.loop-place-init
 loop-place-init c = (omega arith, simp sub-zero c.requires.count_value, c.requires.rank_lt_count, refl, simp sub-zero (front-none _ _))
 
--- src/lib.rt:49:31
 pub nonzero_div-left : goal.nonzero_div-left
 nonzero_div-left c = let l = c.loop-place in omega (arith, next-some c.args.bases l.place l.later l.left c.loop-place-test.true l.invariant.1 l.invariant.2)
 
--- src/lib.rt:49:24
 pub letter-requires : goal.letter-requires
 letter-requires c = let l = c.loop-place in which c.args.bases l.place l.later l.left c.loop-place-test.true l.invariant.1 l.invariant.2
 
--- src/lib.rt:50:16
 pub nonzero_rem-left : goal.nonzero_rem-left
 nonzero_rem-left c = let l = c.loop-place in omega (arith, next-some c.args.bases l.place l.later l.left c.loop-place-test.true l.invariant.1 l.invariant.2)
 
--- src/lib.rt:47:5
 pub loop-place-preserved : goal.loop-place-preserved
 loop-place-preserved c =
     let l = c.loop-place in
@@ -64,7 +59,6 @@ loop-place-preserved c =
       front-step l.invariant.4 (letters-left bases l.place l.later l.left inside l.invariant.1 l.invariant.2) (omega arith) (ap (λ (x : ℕ). set l.bytes l.place x) c.letter.ensures) refl,
     )
 
--- src/lib.rt:37:1
 pub returns : goal.returns
 unfolding choice_at over
 returns c =
