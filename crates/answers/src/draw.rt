@@ -1,8 +1,8 @@
 // The settled configuration as people see it: the strands over the positions on which they sit, in as many stretches as lines are wide.
-use crate::names::{occupant_at, occupant_width, print_occupant};
+use crate::names::{occupant_at, occupant_width, print_occupant, word_at};
 use crate::print::{Style, print, print_blanks, print_bytes, print_count, width};
 use crate::reads::part;
-use statements::words::place_at;
+use statements::words::Word;
 use std::io;
 use std::io::Write;
 
@@ -18,62 +18,49 @@ fn larger(a: usize, b: usize) -> usize {
 }
 
 // The glue of a position, or - where it has none: its size is 0.
-fn print_glue<W: Write>(out: &mut W, text: &[u8], start: usize, size: usize) -> io::Result<()> {
-    if size == 0 {
+fn print_glue<W: Write>(out: &mut W, text: &[u8], glue: Word) -> io::Result<()> {
+    if glue.size == 0 {
         return print(out, b"-");
     }
-    print_bytes(out, part(text, start, size), Style::People)
+    print_bytes(out, part(text, glue.start, glue.size), Style::People)
 }
 
 // How wide the glue of a position is.
-fn glue_width(text: &[u8], start: usize, size: usize) -> usize {
-    if size == 0 {
+fn glue_width(text: &[u8], glue: Word) -> usize {
+    if glue.size == 0 {
         return 1;
     }
-    width(part(text, start, size))
+    width(part(text, glue.start, glue.size))
 }
 
 // The width of a column, which holds a strand and the position under it.
 fn column(
     text: &[u8],
-    glue_starts: &[usize],
-    glue_sizes: &[usize],
-    name_starts: &[usize],
-    name_sizes: &[usize],
+    glues: &[Word],
+    strand_names: &[Word],
     configuration: &[u8],
     marks: &[u8],
     i: usize,
 ) -> usize {
-    let occupant = occupant_at(configuration, marks, name_starts.len(), i);
+    let occupant = occupant_at(configuration, marks, strand_names.len(), i);
     larger(
-        occupant_width(occupant, text, name_starts, name_sizes),
-        glue_width(text, place_at(glue_starts, i), place_at(glue_sizes, i)),
+        occupant_width(occupant, text, strand_names),
+        glue_width(text, word_at(glues, i)),
     )
 }
 
 // The position after the last that has room on a line which begins with position `from`.
 fn stretch_end(
     text: &[u8],
-    glue_starts: &[usize],
-    glue_sizes: &[usize],
-    name_starts: &[usize],
-    name_sizes: &[usize],
+    glues: &[Word],
+    strand_names: &[Word],
     configuration: &[u8],
     marks: &[u8],
     from: usize,
 ) -> usize {
     let mut used = 0;
     for i in from..configuration.len() {
-        let wide = column(
-            text,
-            glue_starts,
-            glue_sizes,
-            name_starts,
-            name_sizes,
-            configuration,
-            marks,
-            i,
-        );
+        let wide = column(text, glues, strand_names, configuration, marks, i);
         used = std::num::wrapping_add_usize(used, std::num::wrapping_add_usize(wide, 2));
         if LINE < used && from < i {
             return i;
@@ -94,10 +81,8 @@ fn print_gap<W: Write>(out: &mut W, column: usize, wide: usize) -> io::Result<()
 fn print_strands<W: Write>(
     out: &mut W,
     text: &[u8],
-    glue_starts: &[usize],
-    glue_sizes: &[usize],
-    name_starts: &[usize],
-    name_sizes: &[usize],
+    glues: &[Word],
+    strand_names: &[Word],
     configuration: &[u8],
     marks: &[u8],
     from: usize,
@@ -105,22 +90,13 @@ fn print_strands<W: Write>(
 ) -> io::Result<()> {
     print(out, b"    strands   ")?;
     for i in from..end {
-        let occupant = occupant_at(configuration, marks, name_starts.len(), i);
-        print_occupant(out, occupant, text, name_starts, name_sizes, Style::People)?;
+        let occupant = occupant_at(configuration, marks, strand_names.len(), i);
+        print_occupant(out, occupant, text, strand_names, Style::People)?;
         if i + 1 < end {
-            let wide = occupant_width(occupant, text, name_starts, name_sizes);
+            let wide = occupant_width(occupant, text, strand_names);
             print_gap(
                 out,
-                column(
-                    text,
-                    glue_starts,
-                    glue_sizes,
-                    name_starts,
-                    name_sizes,
-                    configuration,
-                    marks,
-                    i,
-                ),
+                column(text, glues, strand_names, configuration, marks, i),
                 wide,
             )?;
         }
@@ -132,10 +108,8 @@ fn print_strands<W: Write>(
 fn print_glues<W: Write>(
     out: &mut W,
     text: &[u8],
-    glue_starts: &[usize],
-    glue_sizes: &[usize],
-    name_starts: &[usize],
-    name_sizes: &[usize],
+    glues: &[Word],
+    strand_names: &[Word],
     configuration: &[u8],
     marks: &[u8],
     from: usize,
@@ -143,23 +117,13 @@ fn print_glues<W: Write>(
 ) -> io::Result<()> {
     print(out, b"    scaffold  ")?;
     for i in from..end {
-        let start = place_at(glue_starts, i);
-        let size = place_at(glue_sizes, i);
-        print_glue(out, text, start, size)?;
+        let glue = word_at(glues, i);
+        print_glue(out, text, glue)?;
         if i + 1 < end {
-            let wide = glue_width(text, start, size);
+            let wide = glue_width(text, glue);
             print_gap(
                 out,
-                column(
-                    text,
-                    glue_starts,
-                    glue_sizes,
-                    name_starts,
-                    name_sizes,
-                    configuration,
-                    marks,
-                    i,
-                ),
+                column(text, glues, strand_names, configuration, marks, i),
                 wide,
             )?;
         }
@@ -184,32 +148,19 @@ fn print_range<W: Write>(out: &mut W, first: usize, last: usize) -> io::Result<(
 fn print_stretch<W: Write>(
     out: &mut W,
     text: &[u8],
-    glue_starts: &[usize],
-    glue_sizes: &[usize],
-    name_starts: &[usize],
-    name_sizes: &[usize],
+    glues: &[Word],
+    strand_names: &[Word],
     configuration: &[u8],
     marks: &[u8],
     from: usize,
 ) -> io::Result<usize> {
-    let end = stretch_end(
-        text,
-        glue_starts,
-        glue_sizes,
-        name_starts,
-        name_sizes,
-        configuration,
-        marks,
-        from,
-    );
+    let end = stretch_end(text, glues, strand_names, configuration, marks, from);
     print_range(out, std::num::wrapping_add_usize(from, 1), end)?;
     print_strands(
         out,
         text,
-        glue_starts,
-        glue_sizes,
-        name_starts,
-        name_sizes,
+        glues,
+        strand_names,
         configuration,
         marks,
         from,
@@ -218,10 +169,8 @@ fn print_stretch<W: Write>(
     print_glues(
         out,
         text,
-        glue_starts,
-        glue_sizes,
-        name_starts,
-        name_sizes,
+        glues,
+        strand_names,
         configuration,
         marks,
         from,
@@ -234,27 +183,15 @@ fn print_stretch<W: Write>(
 pub(crate) fn draw<W: Write>(
     out: &mut W,
     text: &[u8],
-    glue_starts: &[usize],
-    glue_sizes: &[usize],
-    name_starts: &[usize],
-    name_sizes: &[usize],
+    glues: &[Word],
+    strand_names: &[Word],
     configuration: &[u8],
     marks: &[u8],
 ) -> io::Result<()> {
     let mut from = 0;
     for turn in 0..configuration.len() {
         if from < configuration.len() {
-            from = print_stretch(
-                out,
-                text,
-                glue_starts,
-                glue_sizes,
-                name_starts,
-                name_sizes,
-                configuration,
-                marks,
-                from,
-            )?;
+            from = print_stretch(out, text, glues, strand_names, configuration, marks, from)?;
         }
     }
     Ok(())

@@ -16,6 +16,7 @@ use print::{Style, print, print_bytes, print_count, print_fixed, print_hex};
 use reads::part;
 use reasons::{Why, print_reason};
 use reply::Refusal;
+use statements::words::Word;
 use std::io;
 use std::io::Write;
 use words::print_trade_word;
@@ -26,13 +27,6 @@ pub struct Spot {
     pub line: usize,
     pub start: usize,
     pub size: usize,
-}
-
-// How many states a design has, where that many are listed.
-#[derive(Clone, Copy)]
-pub enum States {
-    Number(u64),
-    TooMany,
 }
 
 // How much of a word is shown.
@@ -167,20 +161,20 @@ fn print_number_of<W: Write>(out: &mut W, n: usize, one: &[u8], more: &[u8]) -> 
 }
 
 // The number of states, for people.
-fn print_states<W: Write>(out: &mut W, states: States) -> io::Result<()> {
+fn print_states<W: Write>(out: &mut W, states: Option<u64>) -> io::Result<()> {
     print(out, b"  ")?;
     match states {
-        States::Number(n) => print_number_of(out, n as usize, b"state", b"states")?,
-        States::TooMany => print(out, b"more than 1048576 states")?,
+        Some(n) => print_number_of(out, n as usize, b"state", b"states")?,
+        None => print(out, b"more than 1048576 states")?,
     }
     print(out, b"\n")
 }
 
 // The number of states, as a value.
-fn print_json_states<W: Write>(out: &mut W, states: States) -> io::Result<()> {
+fn print_json_states<W: Write>(out: &mut W, states: Option<u64>) -> io::Result<()> {
     match states {
-        States::Number(n) => print_count(out, n as usize),
-        States::TooMany => print(out, b"null"),
+        Some(n) => print_count(out, n as usize),
+        None => print(out, b"null"),
     }
 }
 
@@ -242,18 +236,17 @@ fn print_json_numbers<W: Write>(out: &mut W, numbers: &[u8]) -> io::Result<()> {
 fn print_json_names<W: Write>(
     out: &mut W,
     text: &[u8],
-    name_starts: &[usize],
-    name_sizes: &[usize],
+    strand_names: &[Word],
     configuration: &[u8],
 ) -> io::Result<()> {
     for i in 0..configuration.len() {
         print_comma(out, i)?;
-        let occupant = occupant_of(byte_at(configuration, i) as usize, name_starts.len());
+        let occupant = occupant_of(byte_at(configuration, i) as usize, strand_names.len());
         if let Occupant::Nobody = occupant {
             print(out, b"null")?;
         } else {
             print(out, b"\"")?;
-            print_occupant(out, occupant, text, name_starts, name_sizes, Style::Json)?;
+            print_occupant(out, occupant, text, strand_names, Style::Json)?;
             print(out, b"\"")?;
         }
     }
@@ -266,12 +259,10 @@ fn settled_for_people<W: Write>(
     out: &mut W,
     path: &[u8],
     text: &[u8],
-    glue_starts: &[usize],
-    glue_sizes: &[usize],
-    name_starts: &[usize],
-    name_sizes: &[usize],
+    glues: &[Word],
+    strand_names: &[Word],
     entries: usize,
-    states: States,
+    states: Option<u64>,
     configuration: &[u8],
     marks: &[u8],
     energy: f64,
@@ -280,19 +271,10 @@ fn settled_for_people<W: Write>(
     print_bytes(out, path, Style::People)?;
     print(out, b"\n  ")?;
     print_number_of(out, configuration.len(), b"position, ", b"positions, ")?;
-    print_number_of(out, name_starts.len(), b"strand, ", b"strands, ")?;
+    print_number_of(out, strand_names.len(), b"strand, ", b"strands, ")?;
     print_number_of(out, entries, b"energy\n", b"energies\n")?;
     print_states(out, states)?;
-    draw(
-        out,
-        text,
-        glue_starts,
-        glue_sizes,
-        name_starts,
-        name_sizes,
-        configuration,
-        marks,
-    )?;
+    draw(out, text, glues, strand_names, configuration, marks)?;
     print(out, b"  energy ")?;
     print_fixed(out, energy)?;
     print(out, b" kcal/mol, bits ")?;
@@ -306,10 +288,9 @@ fn settled_as_json<W: Write>(
     out: &mut W,
     path: &[u8],
     text: &[u8],
-    name_starts: &[usize],
-    name_sizes: &[usize],
+    strand_names: &[Word],
     entries: usize,
-    states: States,
+    states: Option<u64>,
     configuration: &[u8],
     marks: &[u8],
     energy: f64,
@@ -319,7 +300,7 @@ fn settled_as_json<W: Write>(
     print(out, b"0,\"positions\":")?;
     print_count(out, configuration.len())?;
     print(out, b",\"strands\":")?;
-    print_count(out, name_starts.len())?;
+    print_count(out, strand_names.len())?;
     print(out, b",\"energies\":")?;
     print_count(out, entries)?;
     print(out, b",\"states\":")?;
@@ -329,7 +310,7 @@ fn settled_as_json<W: Write>(
     print(out, b"],\"blocked\":[")?;
     print_json_numbers(out, marks)?;
     print(out, b"],\"names\":[")?;
-    print_json_names(out, text, name_starts, name_sizes, configuration)?;
+    print_json_names(out, text, strand_names, configuration)?;
     print(out, b"],\"energy\":")?;
     print_fixed(out, energy)?;
     print(out, b",\"bits\":\"")?;
@@ -345,12 +326,10 @@ pub fn settled<W: Write>(
     style: Style,
     path: &[u8],
     text: &[u8],
-    glue_starts: &[usize],
-    glue_sizes: &[usize],
-    name_starts: &[usize],
-    name_sizes: &[usize],
+    glues: &[Word],
+    strand_names: &[Word],
     entries: usize,
-    states: States,
+    states: Option<u64>,
     configuration: &[u8],
     marks: &[u8],
     energy: f64,
@@ -361,10 +340,8 @@ pub fn settled<W: Write>(
             out,
             path,
             text,
-            glue_starts,
-            glue_sizes,
-            name_starts,
-            name_sizes,
+            glues,
+            strand_names,
             entries,
             states,
             configuration,
@@ -376,8 +353,7 @@ pub fn settled<W: Write>(
             out,
             path,
             text,
-            name_starts,
-            name_sizes,
+            strand_names,
             entries,
             states,
             configuration,

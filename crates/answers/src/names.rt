@@ -2,7 +2,7 @@
 use crate::print::{Style, print, print_bytes, width};
 use crate::reads::part;
 use design::reads::byte_at;
-use statements::words::place_at;
+use statements::words::Word;
 use std::io;
 use std::io::Write;
 
@@ -40,16 +40,19 @@ pub(crate) fn occupant_at(configuration: &[u8], marks: &[u8], users: usize, i: u
     occupant_of(byte_at(configuration, i) as usize, users)
 }
 
-// The names of the user strands stand in the text: a start and a size for each.
-pub(crate) fn occupant_width(
-    occupant: Occupant,
-    text: &[u8],
-    starts: &[usize],
-    sizes: &[usize],
-) -> usize {
+// Word i of a list, an absent one past its end.
+pub(crate) fn word_at(words: &[Word], i: usize) -> Word {
+    words.get(i).copied().unwrap_or_default()
+}
+
+// The names of the user strands stand in the text.
+pub(crate) fn occupant_width(occupant: Occupant, text: &[u8], strand_names: &[Word]) -> usize {
     match occupant {
         Occupant::Nobody => 1,
-        Occupant::Strand(i) => width(part(text, place_at(starts, i), place_at(sizes, i))),
+        Occupant::Strand(i) => {
+            let name = word_at(strand_names, i);
+            width(part(text, name.start, name.size))
+        }
         Occupant::Quencher | Occupant::Reporter => 8,
         Occupant::Blocked => 7,
     }
@@ -60,18 +63,14 @@ pub(crate) fn print_occupant<W: Write>(
     out: &mut W,
     occupant: Occupant,
     text: &[u8],
-    starts: &[usize],
-    sizes: &[usize],
+    strand_names: &[Word],
     style: Style,
 ) -> io::Result<()> {
     match occupant {
         Occupant::Nobody => print(out, b"-"),
         Occupant::Strand(i) => {
-            print_bytes(
-                out,
-                part(text, place_at(starts, i), place_at(sizes, i)),
-                style,
-            )
+            let name = word_at(strand_names, i);
+            print_bytes(out, part(text, name.start, name.size), style)
         }
         Occupant::Quencher => print(out, b"quencher"),
         Occupant::Reporter => print(out, b"reporter"),

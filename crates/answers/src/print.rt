@@ -1,6 +1,6 @@
 // What is written: texts, numbers, and the bytes of a file as people or a JSON reader can take them.
 use crate::reads::part;
-use decimals::Printed;
+use decimals::PrintFault;
 use design::reads::byte_at;
 use std::io;
 use std::io::Write;
@@ -18,8 +18,12 @@ pub(crate) fn print<W: Write>(out: &mut W, text: &[u8]) -> io::Result<()> {
 }
 
 // A number's text, where it has one.
-fn print_made<W: Write>(out: &mut W, made: Printed, text: &[u8]) -> io::Result<()> {
-    if let Printed::Text(size) = made {
+fn print_made<W: Write>(
+    out: &mut W,
+    made: Result<usize, PrintFault>,
+    text: &[u8],
+) -> io::Result<()> {
+    if let Ok(size) = made {
         print(out, part(text, 0, size))?;
     }
     Ok(())

@@ -2,13 +2,13 @@
 // documentation. Each answer is compared bit for bit with the sum that the line gives; the file stdout holds what must be written.
 #![tactic(auto)]
 
-use design::answers::CountAnswer;
-use reply::{Refusal, Reply};
+use design::Design;
+use reply::{Refusal, Refused};
 use sdc1d_params::{Build, Copied, Copies, Penalty};
 use std::io;
 use std::io::Write;
 use units::{Ambient, KcalPerMol, KcalPerMolKelvin, Kelvin};
-use utils::{DgAnswer, DgDsAnswer};
+use utils::DgDs;
 
 // A line of the table, and whether it holds.
 fn say<W: Write>(out: &mut W, line: &[u8], holds: bool) -> io::Result<()> {
@@ -26,42 +26,35 @@ fn same(x: f64, y: f64) -> bool {
 }
 
 // Whether dG and dS were given, with these bits.
-fn is_dg_ds(answer: DgDsAnswer, dg: f64, ds: f64) -> bool {
+fn is_dg_ds(answer: Result<DgDs, Refusal>, dg: f64, ds: f64) -> bool {
     match answer {
-        DgDsAnswer::Given(g, s) => same(g.0, dg) && same(s.0, ds),
-        DgDsAnswer::Refused(_) => false,
+        Ok(given) => same(given.dg.0, dg) && same(given.ds.0, ds),
+        Err(_) => false,
     }
 }
 
 // Whether an energy was given, with these bits.
-fn is_dg(answer: DgAnswer, dg: f64) -> bool {
+fn is_dg(answer: Result<KcalPerMol, Refusal>, dg: f64) -> bool {
     match answer {
-        DgAnswer::Given(g) => same(g.0, dg),
-        DgAnswer::Refused(_) => false,
+        Ok(given) => same(given.0, dg),
+        Err(_) => false,
     }
 }
 
 // Whether an energy lies within 2^-30 of this.
-fn is_near(answer: DgAnswer, dg: f64) -> bool {
+fn is_near(answer: Result<KcalPerMol, Refusal>, dg: f64) -> bool {
     match answer {
-        DgAnswer::Given(g) => {
-            g.0 - dg <= 0.0000000009313225746154785 && dg - g.0 <= 0.0000000009313225746154785
+        Ok(given) => {
+            given.0 - dg <= 0.0000000009313225746154785
+                && dg - given.0 <= 0.0000000009313225746154785
         }
-        DgAnswer::Refused(_) => false,
-    }
-}
-
-// Whether the call was refused so.
-fn is_refused(answer: DgAnswer, refusal: Refusal) -> bool {
-    match answer {
-        DgAnswer::Given(_) => false,
-        DgAnswer::Refused(given) => given.number() == refusal.number(),
+        Err(_) => false,
     }
 }
 
 // The reply to a build of eleven strands, with 33 glues: 31 of as many names, the letter a once, twice and so on; then that letter 32 times
 // by a mark, and none. No scaffold, no entries.
-fn named(mark: usize) -> Reply {
+fn named(mark: usize) -> Result<(), Refusal> {
     let strands = [
         1usize, 0, 1, 1, 0, 2, 1, 0, 3, 1, 0, 4, 1, 0, 5, 1, 0, 6, 1, 0, 7, 1, 0, 8, 1, 0, 9, 1, 0,
         10, 1, 0, 11, 1, 0, 12, 1, 0, 13, 1, 0, 14, 1, 0, 15, 1, 0, 16, 1, 0, 17, 1, 0, 18, 1, 0,
@@ -98,8 +91,30 @@ fn named(mark: usize) -> Reply {
     )
 }
 
+// The states of a design.
+fn count_states<'a>(
+    scaffold: &'a [u8],
+    marks: &'a [u8],
+    glues: &'a [u8],
+    dg: &'a [f64],
+    ds: &'a [f64],
+    potentials: &'a [f64],
+    ambient: Ambient,
+) -> Result<u64, Refused> {
+    let design = Design {
+        scaffold,
+        marks,
+        glues,
+        dg,
+        ds,
+        potentials,
+        ambient,
+    };
+    sdc1d::number_of_states(&design)
+}
+
 // The states of a scaffold whose every open position has strand 1 as its one friend.
-fn states_of(scaffold: &[u8], marks: &[u8]) -> CountAnswer {
+fn states_of(scaffold: &[u8], marks: &[u8]) -> Result<u64, Refused> {
     let glues = [0u8, 0, 0, 0, 1, 0];
     let mut dg = [0.0; 4096];
     dg[65] = -2.0;
@@ -110,39 +125,7 @@ fn states_of(scaffold: &[u8], marks: &[u8]) -> CountAnswer {
         strand_excess: Kelvin(0.0),
         scaffold_excess: Kelvin(0.0),
     };
-    sdc1d::number_of_states(scaffold, marks, &glues, &dg, &ds, &potentials, ambient)
-}
-
-// Whether the tables were built.
-fn is_built(reply: Reply) -> bool {
-    match reply {
-        Reply::Admitted => true,
-        Reply::Refused(_, _) => false,
-    }
-}
-
-// Whether the build was refused for its base names.
-fn is_too_many_glues(reply: Reply) -> bool {
-    match reply {
-        Reply::Admitted => false,
-        Reply::Refused(given, _) => given.number() == Refusal::TooManyGlues.number(),
-    }
-}
-
-// Whether so many states were counted.
-fn is_count(answer: CountAnswer, count: u64) -> bool {
-    match answer {
-        CountAnswer::Count(given) => given == count,
-        CountAnswer::Refused(_, _) => false,
-    }
-}
-
-// Whether the count was refused.
-fn is_too_many_states(answer: CountAnswer) -> bool {
-    match answer {
-        CountAnswer::Count(_) => false,
-        CountAnswer::Refused(given, _) => given.number() == Refusal::TooManyStates.number(),
-    }
+    count_states(scaffold, marks, &glues, &dg, &ds, &potentials, ambient)
 }
 
 // The lines on base names and on counts.
@@ -150,21 +133,21 @@ fn limits<W: Write>(out: &mut W) -> io::Result<()> {
     say(
         out,
         b"32 base names: refused, glues",
-        is_too_many_glues(named(1)),
+        named(1) == Err(Refusal::TooManyGlues),
     )?;
-    say(out, b"31 base names: built", is_built(named(0)))?;
+    say(out, b"31 base names: built", named(0) == Ok(()))?;
     let twenty = [1u8; 20];
     let open = [0u8; 21];
     say(
         out,
         b"20 positions of one friend: 1,048,576 states",
-        is_count(states_of(&twenty, &open[0..20]), 1048576),
+        states_of(&twenty, &open[..20]) == Ok(1048576),
     )?;
     let more = [1u8; 21];
     say(
         out,
         b"21 positions of one friend: refused, many",
-        is_too_many_states(states_of(&more, &open)),
+        states_of(&more, &open) == Err(Refusal::TooManyStates.into()),
     )
 }
 
@@ -193,7 +176,7 @@ fn table<W: Write>(out: &mut W) -> io::Result<()> {
     say(
         out,
         b"internal loop of 255: refused, loop",
-        is_refused(utils::loop_penalty(255, 0), Refusal::NoSuchLoop),
+        utils::loop_penalty(255, 0) == Err(Refusal::NoSuchLoop),
     )
 }
 

@@ -11,13 +11,13 @@ use Rattle.doubles.specs.Decimal.{minus, nearest, zero}
 use Rattle.doubles.specs.Least.{pick}
 use Rattle.reply.specs.Figures.{given, refused_with}
 use Rattle.reply.specs.declared.Refusal.TheVariants.{WrongSize, NotAFriend}
-use Rattle.reply.specs.declared.Place.TheVariants.{Nowhere}
 use Rattle.model.specs.States.{each_before, listing, choices, count, states}
 use Rattle.model.specs.Search.{least_left, left_choice, traced, search_over, search}
 use Rattle.design.specs.Design.{strand_bond, scaffold_bond, befriends, friends_to, model_of}
 use Rattle.design.specs.Checks.{wrong_sizes, cells_out, bad_cell, ambient_out, bad_ambient, somewhere, potentials_out, bad_potential, null_binds, strangers}
 use Rattle.design.specs.Answers.{friends_answer, friends_entries, count_answer, state_energy_answer, scaffold_bond_answer}
 use Rattle.mfe.specs.Answers.{search_answer, search_entries}
+use Rattle.std.specs.Prelude.{None}
 use Rattle.bench_table.specs.Marked.{marked, usual, wild, FirstBlocked, LastBlocked, BothBlocked, NoMarks}
 
 -- what a line unfolds: the checks of a design, and the model that it gives
@@ -51,7 +51,7 @@ first-shown : (x y : ℕ) → search_entries (marked (1 ∷ 0 ∷ []) usual) (x 
 unfolding searched
 first-shown x y = refl
 
-first-stranger : state_energy_answer (marked (1 ∷ 0 ∷ []) usual) (1 ∷ 2 ∷ []) ≡ refused_with zero NotAFriend Nowhere
+first-stranger : state_energy_answer (marked (1 ∷ 0 ∷ []) usual) (1 ∷ 2 ∷ []) ≡ refused_with zero NotAFriend None
 unfolding checked
 first-stranger = refl
 
@@ -100,15 +100,15 @@ both-shown x y = refl
 pub both-blocked : BothBlocked
 both-blocked = record { listed = both-listed; energy = both-energy; shown = both-shown }
 
-no-long : (x y : ℕ) → search_answer (marked (0 ∷ 0 ∷ 0 ∷ []) usual) (x ∷ y ∷ []) ≡ refused_with zero WrongSize Nowhere
+no-long : (x y : ℕ) → search_answer (marked (0 ∷ 0 ∷ 0 ∷ []) usual) (x ∷ y ∷ []) ≡ refused_with zero WrongSize None
 unfolding checked
 no-long x y = refl
 
-no_short : (x y : ℕ) → search_answer (marked (0 ∷ []) usual) (x ∷ y ∷ []) ≡ refused_with zero WrongSize Nowhere
+no_short : (x y : ℕ) → search_answer (marked (0 ∷ []) usual) (x ∷ y ∷ []) ≡ refused_with zero WrongSize None
 unfolding checked
 no_short x y = refl
 
-no-two : (x y : ℕ) → search_answer (marked (0 ∷ 2 ∷ []) usual) (x ∷ y ∷ []) ≡ refused_with zero WrongSize Nowhere
+no-two : (x y : ℕ) → search_answer (marked (0 ∷ 2 ∷ []) usual) (x ∷ y ∷ []) ≡ refused_with zero WrongSize None
 unfolding checked
 no-two x y = refl
 

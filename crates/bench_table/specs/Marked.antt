@@ -1,10 +1,9 @@
 -- Document 01's two positions, with friends 1 and 2, where one or both are blocked: states, search, strangers, bonds.
-use Rattle.std.specs.Prelude.{◌≡◌, List, [], ◌∷◌, ℕ, set, replicate, Float}
+use Rattle.std.specs.Prelude.{◌≡◌, List, [], ◌∷◌, ℕ, set, replicate, Float, None}
 use Rattle.std.specs.Float.{nan}
 use Rattle.doubles.specs.Decimal.{minus, nearest, zero}
 use Rattle.reply.specs.Figures.{given, refused_with}
 use Rattle.reply.specs.declared.Refusal.TheVariants.{WrongSize, NotAFriend}
-use Rattle.reply.specs.declared.Place.TheVariants.{Nowhere}
 use Rattle.model.specs.States.{states}
 use Rattle.design.specs.Design.{Design, design, model_of}
 use Rattle.design.specs.Answers.{friends_answer, friends_entries, count_answer, state_energy_answer, scaffold_bond_answer}
@@ -32,7 +31,7 @@ pub record FirstBlocked : Type 0 where
   pub energy : (x y : ℕ) → search_answer (marked (1 ∷ 0 ∷ []) usual) (x ∷ y ∷ []) ≡ given (nearest (minus 15 1))
   pub shown : (x y : ℕ) → search_entries (marked (1 ∷ 0 ∷ []) usual) (x ∷ y ∷ []) ≡ 0 ∷ 2 ∷ []
   -- a strand on the blocked place
-  pub stranger : state_energy_answer (marked (1 ∷ 0 ∷ []) usual) (1 ∷ 2 ∷ []) ≡ refused_with zero NotAFriend Nowhere
+  pub stranger : state_energy_answer (marked (1 ∷ 0 ∷ []) usual) (1 ∷ 2 ∷ []) ≡ refused_with zero NotAFriend None
   -- it has no friends, and the lent entries are kept
   pub friends : friends_answer (marked (1 ∷ 0 ∷ []) usual) 0 (replicate 64 0) ≡ given 0
   pub kept : friends_entries (marked (1 ∷ 0 ∷ []) usual) 0 (replicate 64 7) ≡ replicate 64 7
@@ -53,6 +52,6 @@ pub record BothBlocked : Type 0 where
 
 -- marks that are none: 1 too many, 1 too few, a mark of 2
 pub record NoMarks : Type 0 where
-  pub long : (x y : ℕ) → search_answer (marked (0 ∷ 0 ∷ 0 ∷ []) usual) (x ∷ y ∷ []) ≡ refused_with zero WrongSize Nowhere
-  pub short : (x y : ℕ) → search_answer (marked (0 ∷ []) usual) (x ∷ y ∷ []) ≡ refused_with zero WrongSize Nowhere
-  pub two : (x y : ℕ) → search_answer (marked (0 ∷ 2 ∷ []) usual) (x ∷ y ∷ []) ≡ refused_with zero WrongSize Nowhere
+  pub long : (x y : ℕ) → search_answer (marked (0 ∷ 0 ∷ 0 ∷ []) usual) (x ∷ y ∷ []) ≡ refused_with zero WrongSize None
+  pub short : (x y : ℕ) → search_answer (marked (0 ∷ []) usual) (x ∷ y ∷ []) ≡ refused_with zero WrongSize None
+  pub two : (x y : ℕ) → search_answer (marked (0 ∷ 2 ∷ []) usual) (x ∷ y ∷ []) ≡ refused_with zero WrongSize None

@@ -1,10 +1,9 @@
 -- Document 01's bench table, the lines that it marks with a dagger, in its order. Each field is one line: the input as the table has it, and what the definitions
 -- of the calls give. `plus 196 2` is the decimal 1.96, `minus 144 2` is −1.44; ⊕ is one rounded sum of doubles.
-use Rattle.std.specs.Prelude.{◌≡◌, List, [], ◌∷◌, ◌++◌, ℕ, length, drop, Float}
+use Rattle.std.specs.Prelude.{◌≡◌, List, [], ◌∷◌, ◌++◌, ℕ, length, drop, Float, Some}
 use Rattle.std.specs.Float.{binary64}
 use Rattle.std.specs.Float.Ieee.{add}
 use Rattle.doubles.specs.Decimal.{plus, minus, nearest, zero}
-use Rattle.reply.specs.declared.Place.TheVariants.{At}
 use Rattle.utils.specs.Answers.{refused_dg_ds, given_dg_ds}
 use Rattle.utils.specs.Single.{string_dna_dg_ds}
 use Rattle.utils.specs.Pair.{sequence_pair_dg_ds}
@@ -76,7 +75,7 @@ pub record BenchTable : Type 0 where
   -- [1,0,0,2]: 10000004 20000001 30000002 20000002
   pub written : (held : List ℕ) → length held ≡ 129 → (write_figures singles configuration held ≡ record { number = 0; count = 4 }) × (write_words singles configuration held ≡ words ++ drop 4 held)
   -- 10000002 30000001 30000001: 14 at word 2 (first word is 0)
-  pub fault : (held : List ℕ) → length held ≡ 128 → (read_figures singles faulty held ≡ record { number = 14; count = 0; place = At 2 }) × (read_entries singles faulty held ≡ held)
+  pub fault : (held : List ℕ) → length held ≡ 128 → (read_figures singles faulty held ≡ record { number = 14; count = 0; place = Some 2 }) × (read_entries singles faulty held ≡ held)
 
 -- Added, no line of document 01: beside the line with `a**`, `a*` is a known name. It is built in both builds, the strand's glue 1 and the scaffold's 2. A strand that
 -- uses `a**` itself is 21 in an ordinary build, and `a` in the archive's.

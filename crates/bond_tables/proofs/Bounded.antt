@@ -28,11 +28,7 @@ use Rattle.design.specs.Laws.{Doubles}
 use Rattle.design.proofs.Sizes.{sized}
 use Rattle.design.proofs.FriendLaws.{friends-right, friend-tested}
 use Rattle.design.proofs.BoundLaws.{bounds-right}
-use Rattle.bond_tables.specs.Tables.{wrong_tables, bonds_out, model_over}
-
--- every cell of a table is a double
-abbrev pub CellDoubles : List Float → Type 0
-CellDoubles cells = (k : ℕ) → k < length cells → T (fits binary64 (get_or cells k nan))
+use Rattle.bond_tables.specs.Tables.{wrong_tables, bonds_out, CellDoubles, model_over}
 
 bond-within : (x : Float) → T (fits binary64 x) → beyond 80000 x ≡ false → Within binary64 80000 x
 unfolding in_range

@@ -11,13 +11,13 @@ use Rattle.doubles.specs.Least.{pick}
 use Rattle.doubles.specs.Sum.{sum_from}
 use Rattle.reply.specs.Figures.{given, refused_with}
 use Rattle.reply.specs.declared.Refusal.TheVariants.{WrongSize, OutOfRange}
-use Rattle.reply.specs.declared.Place.TheVariants.{Nowhere, At}
 use Rattle.model.specs.Energy.{state_terms, state_energy}
 use Rattle.model.specs.Search.{least_left, left_choice, traced, search_over, search}
 use Rattle.design.specs.Design.{strand_bond, scaffold_bond, befriends, friends_to, model_of}
 use Rattle.design.specs.Checks.{wrong_sizes, cells_out, bad_cell, ambient_out, bad_ambient, somewhere, potentials_out, bad_potential, null_binds, strangers}
 use Rattle.bond_tables.specs.Tables.{bonds_out, model_over}
 use Rattle.bond_tables.specs.Answers.{energy_over_answer, search_over_answer, search_over_entries}
+use Rattle.std.specs.Prelude.{None, Some}
 use Rattle.bond_tables.specs.Cases.{two_positions, strand_cells, scaffold_cells, EmptyPlacesCount, EveryCell}
 
 -- what a case unfolds: the checks of a design and of the tables, and the model that they give
@@ -49,19 +49,19 @@ end : (x y : ℕ) → search_over_answer (two_positions zero) (strand_cells (nea
 unfolding searched
 end x y = refl
 
-above : (x y : ℕ) → search_over_answer (two_positions zero) (strand_cells (nearest (minus 80001 0))) scaffold_cells (x ∷ y ∷ []) ≡ refused_with zero OutOfRange Nowhere
+above : (x y : ℕ) → search_over_answer (two_positions zero) (strand_cells (nearest (minus 80001 0))) scaffold_cells (x ∷ y ∷ []) ≡ refused_with zero OutOfRange None
 unfolding checked
 above x y = refl
 
-none : (x y : ℕ) → search_over_answer (two_positions zero) (strand_cells nan) scaffold_cells (x ∷ y ∷ []) ≡ refused_with zero OutOfRange Nowhere
+none : (x y : ℕ) → search_over_answer (two_positions zero) (strand_cells nan) scaffold_cells (x ∷ y ∷ []) ≡ refused_with zero OutOfRange None
 unfolding checked
 none x y = refl
 
-glue : (x y : ℕ) → search_over_answer (two_positions nan) (strand_cells nan) scaffold_cells (x ∷ y ∷ []) ≡ refused_with zero OutOfRange (At 8191)
+glue : (x y : ℕ) → search_over_answer (two_positions nan) (strand_cells nan) scaffold_cells (x ∷ y ∷ []) ≡ refused_with zero OutOfRange (Some 8191)
 unfolding checked
 glue x y = refl
 
-long : (x y : ℕ) → search_over_answer (two_positions nan) (strand_cells nan) (zero ∷ scaffold_cells) (x ∷ y ∷ []) ≡ refused_with zero WrongSize Nowhere
+long : (x y : ℕ) → search_over_answer (two_positions nan) (strand_cells nan) (zero ∷ scaffold_cells) (x ∷ y ∷ []) ≡ refused_with zero WrongSize None
 unfolding checked
 long x y = refl
 

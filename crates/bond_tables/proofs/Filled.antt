@@ -11,7 +11,6 @@ use borrow.Author.Tests.{eq-eqb}
 use Rattle.doubles.specs.Decimal.{zero}
 use Rattle.reply.specs.First.{Check, first_of}
 use Rattle.reply.specs.Figures.{figures_of, entries_of}
-use Rattle.reply.specs.declared.Reply.{Reply}
 use Rattle.reply.proofs.Figures.{same-figures, number-admitted}
 use Rattle.model.specs.Model.{Model, Friend, State}
 use Rattle.model.specs.States.{count, state_at}
@@ -32,6 +31,7 @@ use Rattle.bond_tables.specs.Filled.{OverAlike, FilledTables}
 use Rattle.bond_tables.proofs.Range.{not-out}
 use Rattle.bond_tables.proofs.Table.{length-table, table_at, none-in-table}
 use Rattle.bond_tables.proofs.Over.{same-checks}
+use Rattle.reply.specs.Number.{Reply}
 use Rattle.bond_tables.proofs.Bonds.{state-same, search-same}
 
 -- states do not hang on bonds

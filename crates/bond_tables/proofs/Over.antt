@@ -7,15 +7,16 @@ use lib.Dec.{ltb}
 use lib.Ieee.{Float}
 use Rattle.lists.specs.Find.{any}
 use Rattle.lists.proofs.Tests.{neither}
-use Rattle.reply.specs.First.{Check, first_of, ◌if◌, ◌if◌at◌, ◌or_else◌}
+use Rattle.reply.specs.First.{Check, first_of, ◌if◌, ◌if◌at◌, ◌or_else◌, bare, refused_if, refuses}
+use Rattle.reply.specs.declared.Refusal.{Refusal}
 use Rattle.reply.specs.declared.Refusal.TheVariants.{WrongSize, OutOfRange, NullBinds}
-use Rattle.reply.specs.declared.Place.TheVariants.{Nowhere}
-use Rattle.reply.specs.declared.Reply.{Reply}
 use Rattle.reply.proofs.First.{none-holds, both-pass}
 use Rattle.design.specs.Design.{Design, positions, strands}
 use Rattle.design.specs.Checks.{high_glue, wrong_lengths, wrong_marks, wrong_sizes, sizes_out, cells_out, bad_cell, null_binds, ranged_checks, number_checks, design_checks, Admitted}
 use Rattle.design.proofs.Replies.{own-decide}
 use Rattle.bond_tables.specs.Tables.{wrong_tables, bonds_out}
+use Rattle.std.specs.Prelude.{None, Result, Ok, Err}
+use Rattle.reply.specs.Number.{Reply}
 use Rattle.bond_tables.specs.Answers.{fill_checks, over_checks}
 
 -- a call that is admitted found nothing wrong with a size of its own, the tables, the design, nor by its own checks
@@ -24,7 +25,7 @@ pub record PassedOver (own_size : Bool) (d : Design) (t u : List Float) (own : L
   pub tables : wrong_tables d t u ≡ false
   pub cells : bonds_out t u ≡ false
   pub design : Admitted d
-  pub mine : first_of own ≡ Reply.Admitted
+  pub mine : first_of own ≡ Ok tt
 
 -- the checks of tables of which nothing is wrong are those of the design
 module _ (own sizes cells null : Bool) (place : ℕ) (rest : List Check) where
@@ -70,15 +71,17 @@ filled-sizes false true false true rest = refl
 filled-sizes false true false false rest = refl
 filled-sizes false false tables few rest = refl
 
-size-first : (size : Bool) (rest : List Check) → size ≡ true → Reply.Refused WrongSize Nowhere ≡ first_of (WrongSize if size ∷ rest)
+size-first : (size : Bool) (rest : List Check) → size ≡ true → refuses WrongSize None ≡ first_of (WrongSize if size ∷ rest)
 size-first size rest e = rw e
+
+-- a check without a place that refuses holds, and its refusal is the one given
+pub bare-true : (holds : Bool) (refusal : Refusal) {e : Refusal} → ◌≡◌ {A = Result Unit Refusal} (Err e) (bare (refused_if holds refusal None (Ok tt))) → (holds ≡ true) × (e ≡ refusal)
+bare-true true refusal told = (refl, cc)
+bare-true false refusal told = absurd cc
 
 -- replies put together, where one of them is known
 pub told-by : (r s next full : Reply) → r or_else next ≡ full → r ≡ s → full ≡ s or_else next
 told-by r s next full e f = sym e ∙ ap (λ (x : Reply). x or_else next) f
-
-pub over-told : (bonds next : Reply) {design reply full : Reply} → reply ≡ bonds or_else design → design ≡ next → bonds or_else next ≡ full → reply ≡ full
-over-told bonds next e f g = e ∙ ap (λ (x : Reply). bonds or_else x) f ∙ g
 
 -- the conditions of 1 after the counts
 abbrev other_sizes : Design → Bool
@@ -100,7 +103,7 @@ module _ (d : Design) (t u : List Float) where
       sym (f ∙ ap (λ (b : Bool). first_of (WrongSize if b ∷ rest)) sizes)
 
 module _ (own_size : Bool) (d : Design) (t u : List Float) (own : List Check) where
-  pub wrong-told : Wrong d t u ≡ true → Reply.Refused WrongSize Nowhere ≡ first_of (over_checks own_size d t u own)
+  pub wrong-told : Wrong d t u ≡ true → refuses WrongSize None ≡ first_of (over_checks own_size d t u own)
   unfolding wrong_sizes
   wrong-told e =
       size-first ((own_size || wrong_tables d t u) || sizes_out d)
@@ -112,7 +115,7 @@ module _ (own_size : Bool) (d : Design) (t u : List Float) (own : List Check) wh
   range-told e f next =
       ranged-refuses own_size (wrong_tables d t u) (sizes_out d) (cells_out d.dg d.ds) (bonds_out t u) (null_binds d.glues d.dg d.ds) (bad_cell d.dg d.ds) (own ++ number_checks d) next e f
 
-  pub passed_over : first_of (over_checks own_size d t u own) ≡ Reply.Admitted → PassedOver own_size d t u own
+  pub passed_over : first_of (over_checks own_size d t u own) ≡ Ok tt → PassedOver own_size d t u own
   passed_over h =
       let ranged = ranged_checks (own_size || wrong_tables d t u) (bonds_out t u) d.scaffold d.marks d.glues d.dg d.ds d.potentials in
       let first = both-pass ranged (own ++ number_checks d) h in
@@ -133,5 +136,5 @@ module _ (own_size : Bool) (d : Design) (t u : List Float) (own : List Check) wh
   same-checks e f =
       same_first own_size (sizes_out d) (cells_out d.dg d.ds) (null_binds d.glues d.dg d.ds) (bad_cell d.dg d.ds) (own ++ number_checks d) (wrong_tables d t u) (bonds_out t u) e f
 
-  pub over-admits : PassedOver own_size d t u own → first_of (over_checks own_size d t u own) ≡ Reply.Admitted
+  pub over-admits : PassedOver own_size d t u own → first_of (over_checks own_size d t u own) ≡ Ok tt
   over-admits p = same-checks p.tables p.cells ∙ own-decide own_size d own [] p.size p.design p.mine

@@ -1,5 +1,5 @@
 -- What the calls over tables answer: document 02's number, place and figures, and what stands in the lent slices afterwards.
-use Rattle.std.specs.Prelude.{◌≡◌, Bool, false, not, ◌||◌, List, [], ◌++◌, ℕ, eqb, length, Float}
+use Rattle.std.specs.Prelude.{◌≡◌, Bool, false, not, ◌||◌, List, [], ◌++◌, ℕ, eqb, length, Float, Result}
 use Rattle.doubles.specs.Decimal.{zero}
 use Rattle.reply.specs.First.{Check, first_of}
 use Rattle.reply.specs.Figures.{Figures, figures_of, entries_of}
@@ -10,7 +10,8 @@ use Rattle.model.specs.LowestConfiguration.{LowestConfiguration}
 use Rattle.design.specs.Design.{Design, positions}
 use Rattle.design.specs.Checks.{Admitted, ranged_checks, number_checks, design_checks, own_count_checks, own_rank_checks, own_energy_checks}
 use Rattle.design.specs.Answers.{energy_figures}
-use Rattle.design.specs.declared.answers.EnergyAnswer.{EnergyAnswer}
+use Rattle.reply.specs.declared.Refused.{Refused}
+use Rattle.units.specs.declared.KcalPerMol.{KcalPerMol}
 use Rattle.bond_tables.specs.Tables.{strand_table, scaffold_table, wrong_tables, bonds_out, model_over}
 
 -- ---- filling: both tables are checked before either is written
@@ -86,7 +87,7 @@ search_over_entries d strand_cells scaffold_cells entries =
 
 -- Demand 3 over tables: of every admitted design, with tables of its sizes and cells in range and an entry lent for each position, the lowest
 -- configuration over these cells is written and its energy answered.
-abbrev pub LowestOver : Design → List Float → List Float → List ℕ → List ℕ → EnergyAnswer → Type 0
+abbrev pub LowestOver : Design → List Float → List Float → List ℕ → List ℕ → Result KcalPerMol Refused → Type 0
 LowestOver d strand_cells scaffold_cells entries written r =
     Admitted d
     → wrong_tables d strand_cells scaffold_cells ≡ false

@@ -1,10 +1,9 @@
 -- Document 01's two positions with tables lent beside them, on which readings of document 02 part; proofs/Cases.antt works each of them out.
-use Rattle.std.specs.Prelude.{◌≡◌, List, [], ◌∷◌, ℕ, set, replicate, Float}
+use Rattle.std.specs.Prelude.{◌≡◌, List, [], ◌∷◌, ℕ, set, replicate, Float, None, Some}
 use Rattle.std.specs.Float.{nan}
 use Rattle.doubles.specs.Decimal.{plus, minus, nearest, zero}
 use Rattle.reply.specs.Figures.{given, refused_with}
 use Rattle.reply.specs.declared.Refusal.TheVariants.{WrongSize, OutOfRange}
-use Rattle.reply.specs.declared.Place.TheVariants.{Nowhere, At}
 use Rattle.units.specs.declared.Ambient.{Ambient}
 use Rattle.design.specs.Design.{Design, design}
 use Rattle.bond_tables.specs.Answers.{energy_over_answer, search_over_answer, search_over_entries}
@@ -43,7 +42,7 @@ pub record EmptyPlacesCount : Type 0 where
 -- 80,000 is in range; a NaN is 9 without a place, and where a glue cell is out with that cell's place
 pub record EveryCell : Type 0 where
   pub end : (x y : ℕ) → search_over_answer (two_positions zero) (strand_cells (nearest (plus 80000 0))) scaffold_cells (x ∷ y ∷ []) ≡ given (nearest (minus 2 0))
-  pub above : (x y : ℕ) → search_over_answer (two_positions zero) (strand_cells (nearest (minus 80001 0))) scaffold_cells (x ∷ y ∷ []) ≡ refused_with zero OutOfRange Nowhere
-  pub none : (x y : ℕ) → search_over_answer (two_positions zero) (strand_cells nan) scaffold_cells (x ∷ y ∷ []) ≡ refused_with zero OutOfRange Nowhere
-  pub glue : (x y : ℕ) → search_over_answer (two_positions nan) (strand_cells nan) scaffold_cells (x ∷ y ∷ []) ≡ refused_with zero OutOfRange (At 8191)
-  pub long : (x y : ℕ) → search_over_answer (two_positions nan) (strand_cells nan) (zero ∷ scaffold_cells) (x ∷ y ∷ []) ≡ refused_with zero WrongSize Nowhere
+  pub above : (x y : ℕ) → search_over_answer (two_positions zero) (strand_cells (nearest (minus 80001 0))) scaffold_cells (x ∷ y ∷ []) ≡ refused_with zero OutOfRange None
+  pub none : (x y : ℕ) → search_over_answer (two_positions zero) (strand_cells nan) scaffold_cells (x ∷ y ∷ []) ≡ refused_with zero OutOfRange None
+  pub glue : (x y : ℕ) → search_over_answer (two_positions nan) (strand_cells nan) scaffold_cells (x ∷ y ∷ []) ≡ refused_with zero OutOfRange (Some 8191)
+  pub long : (x y : ℕ) → search_over_answer (two_positions nan) (strand_cells nan) (zero ∷ scaffold_cells) (x ∷ y ∷ []) ≡ refused_with zero WrongSize None

@@ -1,5 +1,7 @@
 -- Document 02's tables of bonds beside a design: what they hold, when lent ones are refused, and the model whose bonds are lent cells.
-use Rattle.std.specs.Prelude.{Bool, not, ◌||◌, List, [], ◌++◌, ℕ, zero, suc, ◌+◌, ◌*◌, eqb, length, get_or, Float}
+use Rattle.std.specs.Prelude.{Bool, not, ◌||◌, List, [], ◌++◌, ℕ, zero, suc, ◌+◌, ◌*◌, ◌<◌, T, eqb, length, get_or, Float}
+use Rattle.std.specs.Float.{nan, binary64}
+use Rattle.std.specs.Float.Ieee.{fits}
 use Rattle.lists.specs.Build.{tabulate}
 use Rattle.lists.specs.Find.{any}
 use Rattle.doubles.specs.Decimal as Decimal
@@ -39,6 +41,10 @@ most_bond = 80000
 unfoldable pub bonds_out : List Float → List Float → Bool
 unfolding any nearest
 bonds_out strand_cells scaffold_cells = any (beyond most_bond) strand_cells || any (beyond most_bond) scaffold_cells
+
+-- every cell of a lent table is a double
+abbrev pub CellDoubles : List Float → Type 0
+CellDoubles cells = (k : ℕ) → k < length cells → T (fits binary64 (get_or cells k nan))
 
 -- ---- the model
 

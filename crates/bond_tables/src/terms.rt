@@ -1,10 +1,12 @@
 // The terms that the places of a configuration add to its energies, out of lent tables.
-ghost use Rattle.std.specs.Prelude.{◌≡◌, List, ℕ, ◌≤◌, length};
+ghost use Rattle.std.specs.Prelude.{◌≡◌, ◌≤◌, length};
 ghost use Rattle.ensemble.specs.Layout.{PlaceTerms};
-ghost use Rattle.design.specs.Design.{Design};
+ghost use Rattle.design.specs.Design.{strands};
 ghost use Rattle.bond_tables.specs.Tables.{bond_cell, model_over};
 
-use design::reads::{byte_at, number_at, potential_of};
+use super::BondTables;
+use design::Design;
+use design::reads::{byte_at, number_at};
 
 // The cell [row][column] of a table as wide as there are strands.
 fn bond_cell(strands: usize, cells: &[f64], row: usize, column: u8) -> f64
@@ -17,29 +19,25 @@ fn bond_cell(strands: usize, cells: &[f64], row: usize, column: u8) -> f64
 
 // For each place its scaffold bond, its strand bond with the place to the right, and its potential.
 pub(crate) fn fill_terms_over(
-    potentials: &[f64],
-    strand_bonds: &[f64],
-    scaffold_bonds: &[f64],
+    design: &Design,
+    tables: &BondTables,
     configuration: &[u8],
     sites: &mut [f64],
     pairs: &mut [f64],
     logs: &mut [f64],
 )
-    requires potentials_len_bound { length potentials.now ≤ 64 }
+    requires strands_bound { strands design.now ≤ 64 }
     requires configuration_len_bound { length configuration.now ≤ 128 }
     requires configuration_in_bounds { length configuration.now ≤ length sites.old }
     requires configuration_in_bounds_2 { length configuration.now ≤ length pairs.old }
     requires configuration_in_bounds_3 { length configuration.now ≤ length logs.old }
-    ensures { (d : Design) → d.potentials ≡ potentials.now → PlaceTerms (model_over d strand_bonds.now scaffold_bonds.now) configuration.now sites.new pairs.new logs.new }
+    ensures { PlaceTerms (model_over design.now tables.now.strand_bonds.now tables.now.scaffold_bonds.now) configuration.now sites.new pairs.new logs.new }
 {
-    let strands = potentials.len();
-    let mut position = 0;
-    while position < configuration.len() {
-        let strand = configuration[position];
+    let strands = design.strands();
+    for (position, &strand) in configuration.iter().enumerate() {
         let right = byte_at(configuration, position + 1);
-        sites[position] = bond_cell(strands, scaffold_bonds, position, strand);
-        pairs[position] = bond_cell(strands, strand_bonds, strand as usize, right);
-        logs[position] = potential_of(potentials, strand);
-        position += 1;
+        sites[position] = bond_cell(strands, tables.scaffold_bonds, position, strand);
+        pairs[position] = bond_cell(strands, tables.strand_bonds, strand as usize, right);
+        logs[position] = design.potential_of(strand);
     }
 }

@@ -7,8 +7,6 @@ use lib.Dec.{T, lit≤}
 use lib.Ieee.{Float, binary64, fits, le, lt, eq, add, mul, sub, div}
 use Rattle.reply.specs.First.{refused_if, answer}
 use Rattle.reply.specs.declared.Refusal.TheVariants.{OutOfRange}
-use Rattle.reply.specs.declared.Place.TheVariants.{Nowhere}
-use Rattle.reply.specs.declared.Reply.TheVariants.{Admitted}
 use Rattle.lists.proofs.Tests.{both}
 use Rattle.doubles.specs.Decimal.{plus, minus, nearest}
 use Rattle.doubles.specs.Range.{within, in_range}
@@ -19,8 +17,8 @@ use Rattle.doubles.proofs.Sums.{sub-mono, sub_within}
 use Rattle.doubles.proofs.Products.{mul-mono-left, mul-within}
 use Rattle.doubles.proofs.Bounds.{test-within}
 use Rattle.units.specs.Ambient.{Figures, refused, ambient_figures, gas_constant, excess_over37_c, ambient_at}
-use Rattle.units.specs.declared.AmbientAnswer.TheVariants.{Given}
 use Rattle.design.specs.Checks.{outside, beyond, ambient_out}
+use Rattle.std.specs.Prelude.{None, Ok}
 use Rattle.built.specs.Fits.{AmbientFits}
 
 holds : (b : Bool) → T b → b ≡ true
@@ -133,7 +131,7 @@ pub ambient-fits : AmbientFits
 unfolding ambient_at in_range ambient_out
 ambient-fits k t a e = go (within (nearest (plus 200 0)) (nearest (plus 500 0)) k) refl e
   where
-    go : (b : Bool) → within (nearest (plus 200 0)) (nearest (plus 500 0)) k ≡ b → ambient_figures (Given a) ≡ answer (refused_if (not b) OutOfRange Nowhere Admitted) refused (record { number = 0; rt = mul binary64 gas_constant k; strand_excess = excess_over37_c k; scaffold_excess = excess_over37_c k }) → ambient_out a ≡ false
+    go : (b : Bool) → within (nearest (plus 200 0)) (nearest (plus 500 0)) k ≡ b → ambient_figures (Ok a) ≡ answer (refused_if (not b) OutOfRange None (Ok tt)) refused (record { number = 0; rt = mul binary64 gas_constant k; strand_excess = excess_over37_c k; scaffold_excess = excess_over37_c k }) → ambient_out a ≡ false
     go true b p =
         none (outside (nearest (plus 125 3)) (nearest (plus 8 0)) a.rt.0) (beyond 1024 a.strand_excess.0) (beyond 1024 a.scaffold_excess.0)
         (ap (λ (f : Figures). outside (nearest (plus 125 3)) (nearest (plus 8 0)) f.rt) p ∙ rt-in k t b)

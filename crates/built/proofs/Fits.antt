@@ -13,8 +13,6 @@ use Rattle.lists.proofs.Any.{all-below}
 use Rattle.lists.proofs.Each.{each_none}
 use Rattle.reply.specs.First.{first_of, refused_if}
 use Rattle.reply.specs.declared.Refusal.TheVariants.{WrongSize, OutOfRange, NullBinds}
-use Rattle.reply.specs.declared.Place.TheVariants.{Nowhere, At}
-use Rattle.reply.specs.declared.Reply.{Reply}
 use Rattle.units.specs.declared.Ambient.{Ambient}
 use Rattle.sdc1d_params.specs.Params.{Params, Outcome, writes_of, strand_glues_of, built_from}
 use Rattle.design.specs.Design.{Design}
@@ -22,6 +20,8 @@ use Rattle.design.specs.Checks.{high_glue, beyond, wrong_marks, wrong_sizes, siz
 use Rattle.sdc1d_params.specs.declared.Build.{Build}
 use Rattle.built.specs.Fits.{Fits, design_of, WrittenFits, Symmetric, WrittenSymmetric}
 use Rattle.built.proofs.Passed.{Passed, answered-as, few-users, strands-many, scaffold-short, writes-small}
+use Rattle.std.specs.Prelude.{None, Some}
+use Rattle.reply.specs.Number.{Reply}
 use Rattle.built.proofs.Written.{strand-glues-many, scaffold-many, strand-glues-low, scaffold-low, dg-mirrored, ds-mirrored, NullZero, dg-null, ds-null, dg-ranged, ds-ranged}
 
 left-of :
@@ -29,7 +29,7 @@ left-of :
     → sizes ≡ false
     → cells ≡ false
     → null ≡ false
-    → refused_if (own || sizes) WrongSize Nowhere (refused_if cells OutOfRange (At cell) (refused_if null NullBinds Nowhere rest)) ≡ refused_if own WrongSize Nowhere rest
+    → refused_if (own || sizes) WrongSize None (refused_if cells OutOfRange (Some cell) (refused_if null NullBinds None rest)) ≡ refused_if own WrongSize None rest
 left-of true sizes cells null cell rest s c n = refl
 left-of false sizes cells null cell rest s c n = rw (s, c, n)
 

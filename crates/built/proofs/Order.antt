@@ -11,8 +11,6 @@ use Rattle.lists.proofs.Tests.{clash, neither}
 use Rattle.lists.proofs.Permuted.{length-permuted, any-permuted, map-permuted}
 use Rattle.reply.specs.First.{first_of, ◌if◌, ◌or_else◌, answer}
 use Rattle.reply.specs.declared.Refusal.TheVariants.{WrongSize, NotABase, TooShort, UnknownName, TooManyGlues, DuplicatePair, OutOfRange, TwoStars}
-use Rattle.reply.specs.declared.Reply.{Reply}
-use Rattle.reply.specs.declared.Reply.TheVariants.{Admitted, Refused}
 use Rattle.reply.proofs.First.{joined}
 use Rattle.sdc_common.specs.Lent.{glues_of, unfit_names, is_retired_glue}
 use Rattle.sdc_common.specs.Spelled.{is_unknown}
@@ -25,6 +23,8 @@ use Rattle.sdc1d_params.specs.declared.Entry.{Entry}
 use Rattle.sdc1d_params.proofs.Passed.{reply-size, build-refused, build-passes}
 use Rattle.built.specs.Order.{with_entries, refused_with, OrderFree}
 use Rattle.built.proofs.Exchanged.{duplicated-permuted, table-permuted}
+use Rattle.std.specs.Prelude.{Ok, Err}
+use Rattle.reply.specs.Number.{Reply}
 use Rattle.built.proofs.Passed.{Passed, checks-pass, sizes, writes-small}
 
 -- ---- the reply
@@ -41,9 +41,9 @@ same-reply :
 same-reply unknown many p q r s t = rw (p, q, r, s, t)
 
 -- where a call is admitted the two results are the same, and a refusal does not look at them
-same_answer : {A : Type 0} (r : Reply) (refused : ℕ → A) (given other : A) → (r ≡ Admitted → given ≡ other) → answer r refused given ≡ answer r refused other
-same_answer Admitted refused given other h = h refl
-same_answer (Refused why place) refused given other h = refl
+same_answer : {A : Type 0} (r : Reply) (refused : ℕ → A) (given other : A) → (r ≡ Ok tt → given ≡ other) → answer r refused given ≡ answer r refused other
+same_answer (Ok u) refused given other h = h refl
+same_answer (Err e) refused given other h = refl
 
 module _ (p : Params) (lent : Outcome) {entries others : List Entry} (permuted : Permᴰ entries others) where
   abbrev one : Params

@@ -12,7 +12,6 @@ use Rattle.lists.proofs.Tests.{neither}
 use Rattle.lists.proofs.Each.{each_all, each_map}
 use Rattle.reply.specs.Number.{answered}
 use Rattle.reply.specs.First.{Check, first_of}
-use Rattle.reply.specs.declared.Reply.TheVariants.{Admitted}
 use Rattle.reply.proofs.First.{passes}
 use Rattle.reply.proofs.Answer.{is-admitted}
 use Rattle.sdc_common.specs.Lent.{glue_of, glues_of, unfit_names}
@@ -25,6 +24,7 @@ use Rattle.sdc1d_params.specs.Params.{Params, Outcome, bases, first_name, write_
 use Rattle.sdc1d_params.specs.declared.Build.{Build}
 use Rattle.sdc1d_params.specs.declared.Entry.{Entry}
 use Rattle.sdc1d_params.proofs.Passed.{build-passes}
+use Rattle.std.specs.Prelude.{Ok}
 use Rattle.built.proofs.Numbers.{Small, cell-small}
 
 numbered : (lent : Outcome) (n : ℕ) → (left_as_lent lent n).number ≡ n
@@ -45,7 +45,7 @@ none-of-seven a b c d e f g none =
     (t1.0, t1.1, t2.1, t3.1, t4.1, t5.1, t6.1)
 
 -- a list of checks that admits has none that holds
-all_pass : (checks : List Check) → first_of checks ≡ Admitted → Each (λ c. c.holds ≡ false) checks
+all_pass : (checks : List Check) → first_of checks ≡ Ok tt → Each (λ c. c.holds ≡ false) checks
 all_pass [] e = tt
 all_pass (c ∷ cs) e = let here = passes c cs e in (here.0, all_pass cs here.1)
 
@@ -59,7 +59,7 @@ pub record Passed (p : Params) (lent : Outcome) : Type 0 where
 
 module _ (p : Params) (lent : Outcome) where
   -- all of it, where no check holds
-  pub checks-pass : first_of (param_checks p lent) ≡ Admitted → Passed p lent
+  pub checks-pass : first_of (param_checks p lent) ≡ Ok tt → Passed p lent
   checks-pass e =
       let none = all_pass (param_checks p lent) e in
       record { size = none.0; known = none.1.1.1.0; few = ltb-false _ _ none.1.1.1.1.0; once = none.1.1.1.1.1.0; ranged = none.1.1.1.1.1.1.0 }

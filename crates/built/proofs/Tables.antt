@@ -16,7 +16,6 @@ use Rattle.lists.proofs.Tests.{clash, both}
 use Rattle.lists.proofs.Places.{any-set}
 use Rattle.sdc1d_params.specs.Entries.{Cell, is_written}
 use Rattle.sdc1d_params.specs.Tables.{place_of, set_both}
-use Rattle.sdc1d_params.proofs.Writes.{set-length}
 use Rattle.design.specs.Design as Design
 use Rattle.built.specs.Fits.{Symmetric}
 use Rattle.built.proofs.Numbers.{Small}
@@ -111,6 +110,15 @@ either_way false b v x = refl
 pub record Mirrored (table : List Float) : Type 0 where
   pub many : length table ≡ 4096
   pub same : Symmetric table
+
+-- a write keeps a table's length
+set-length : (c : Cell) (v : Float) (table : List Float) → length (set_both c v table) ≡ length table
+unfolding set_both
+set-length c v table = go (is_written c)
+  where
+    go : (t : Bool) → length (cond t (set (set table (place_of c.row c.column) v) (place_of c.column c.row) v) table) ≡ length table
+    go true = simp length-set
+    go false = refl
 
 pub set-mirrored : (c : Cell) (v : Float) (table : List Float) → Small c → Mirrored table → Mirrored (set_both c v table)
 set-mirrored c v table small m =

@@ -1,5 +1,5 @@
 -- What `from_params` writes, as a design takes it. proofs/ shows all of this of every parameter set, and of everything that may be lent.
-use Rattle.std.specs.Prelude.{◌≡◌, Bool, false, List, ◌∷◌, ◌++◌, ℕ, ◌+◌, ◌<◌, length, T, Float}
+use Rattle.std.specs.Prelude.{◌≡◌, Bool, false, List, ◌∷◌, ◌++◌, ℕ, ◌+◌, ◌<◌, length, T, Float, Ok}
 use Rattle.std.specs.Float.{binary64}
 use Rattle.std.specs.Float.Ieee.{fits}
 use Rattle.reply.specs.Number.{answered}
@@ -7,7 +7,6 @@ use Rattle.reply.specs.First.{Check, ◌if◌, first_of}
 use Rattle.reply.specs.declared.Refusal.TheVariants.{WrongSize}
 use Rattle.units.specs.Ambient.{ambient_figures, ambient_at}
 use Rattle.units.specs.declared.Ambient.{Ambient}
-use Rattle.units.specs.declared.AmbientAnswer.TheVariants.{Given}
 use Rattle.sdc1d_params.specs.Params.{Params, Outcome, from_params}
 use Rattle.sdc1d_params.specs.declared.Build.{Build}
 use Rattle.design.specs.Design.{Design, design, cell}
@@ -44,7 +43,7 @@ WrittenFits build p lent =
 
 -- Every ambient that `ambient_at` gives, at any double of kelvin, is one that a design takes: RT from 1/8 to 8, excesses within ±1,024.
 abbrev pub AmbientFits : Type 0
-AmbientFits = (kelvin : Float) → T (fits binary64 kelvin) → (ambient : Ambient) → ambient_figures (Given ambient) ≡ ambient_at kelvin → ambient_out ambient ≡ false
+AmbientFits = (kelvin : Float) → T (fits binary64 kelvin) → (ambient : Ambient) → ambient_figures (Ok ambient) ≡ ambient_at kelvin → ambient_out ambient ≡ false
 
 -- a table whose cells are those of its mirror, as data: two zeros of different sign are not the same
 abbrev pub Symmetric : List Float → Type 0

@@ -2,7 +2,7 @@
 use mathlib.Core.Path.{◌≡◌, refl, sym, ap, ◌∙◌}
 use mathlib.Core.Bool.{Bool, true, false, not}
 use mathlib.Core.List.{List, []}
-use mathlib.Core.Option.{some}
+use Rattle.std.specs.Prelude.{Option, Some}
 use Prim.Native.Nat.{ℕ, ◌<◌, ◌≤◌}
 use lib.ListN.{length, get_or}
 use lib.Ieee.{Float, le}
@@ -17,8 +17,6 @@ use Rattle.prepared.proofs.Begun.{whole-energy}
 use Rattle.ceiling.specs.Ceiling.{is_under, first_under, none_under}
 use Rattle.ceiling.specs.inner.Passing.{under_on, Told, UnderFrom}
 use Rattle.ceiling.specs.inner.Found.{FoundUnder}
-use Rattle.ceiling.specs.declared.under.Under.{Under}
-use Rattle.ceiling.specs.declared.under.Under.TheVariants.{Energy}
 use Rattle.ceiling.proofs.Passing.{passing-some, passing-none}
 
 module _ (m : Model) (ceiling : Float) where
@@ -44,14 +42,14 @@ module _ (m : Model) (ceiling : Float) where
       not-true false e = refl
       not-true true e = sym e
 
-  pub found-under : {before after : List ℕ} {r : Under} → UnderFrom m ceiling 0 0 Decimal.zero before after r → FoundUnder m ceiling before after r
+  pub found-under : {before after : List ℕ} {r : Option Float} → UnderFrom m ceiling 0 0 Decimal.zero before after r → FoundUnder m ceiling before after r
   found-under {before} {after} {r} w = record {
     some = λ e.
         let low : first_index (under_on m ceiling 0 0 Decimal.zero) (states m) < length (states m) = rw first-is (under-rank e) in
         let shown : get_or (states m) (first_under m ceiling) [] ≡ state_at m (first_under m ceiling) = (listed m).ranked (first_under m ceiling) (rw (← (listed m).size) (under-rank e)) in
-        let first = passing-some (under_on m ceiling 0 0 Decimal.zero) (states m) low ∙ ap (λ (k : ℕ). some (get_or (states m) k [])) first-is ∙ ap some shown in
-        let told : Told m 0 0 Decimal.zero before after r (some (state_at m (first_under m ceiling))) = rw first at w in
-        (told.0 ∙ ap Energy (whole-energy m (state_at m (first_under m ceiling))), told.1);
+        let first = passing-some (under_on m ceiling 0 0 Decimal.zero) (states m) low ∙ ap (λ (k : ℕ). Some (get_or (states m) k [])) first-is ∙ ap Some shown in
+        let told : Told m 0 0 Decimal.zero before after r (Some (state_at m (first_under m ceiling))) = rw first at w in
+        (told.0 ∙ ap Some (whole-energy m (state_at m (first_under m ceiling))), told.1);
     none = λ e.
         let high : length (states m) ≤ first_index (under_on m ceiling 0 0 Decimal.zero) (states m) = rw first-is (over-rank e) in
         rw (passing-none (under_on m ceiling 0 0 Decimal.zero) (states m) high) at w;

@@ -3,25 +3,25 @@
 
 mod under;
 
-ghost use Rattle.std.specs.Prelude.{◌≡◌, List, ℕ, ◌*◌, ◌<◌, ◌≤◌, length};
+ghost use Rattle.std.specs.Prelude.{◌≡◌, ◌*◌, ◌<◌, ◌≤◌, length};
 ghost use Rattle.ensemble.specs.Layout.{Searchable, OptionRows};
-ghost use Rattle.design.specs.Design.{design, lent, model_of};
+ghost use Rattle.design.specs.Design.{positions, strands, model_of};
 ghost use Rattle.design.specs.Checks.{Admitted, TablesPass};
 ghost use Rattle.design.specs.Answers.{energy_figures};
 ghost use Rattle.ceiling.specs.Ceiling.{finite};
 ghost use Rattle.ceiling.specs.Answers.{counted_answer, counted_entries, ceiling_answer, ceiling_entries};
 ghost use Rattle.ceiling.specs.inner.Found.{FoundUnder};
 
-use design::answers::EnergyAnswer;
+use design::Design;
 use design::checks::{numbers_reply, ranged_reply};
 use ensemble::states::MOST_STATES;
 use prepared::bonds::fill_bonds;
 use prepared::options::count_options;
 use prepared::sums::Begun;
 use reply::limits::POSITIONS;
-use reply::{Place, Refusal, Reply, refused_if};
-use under::{Limit, Under, under_from};
-use units::{Ambient, KcalPerMol};
+use reply::{Refusal, Refused, refused_if};
+use under::{Limit, under_from};
+use units::KcalPerMol;
 
 // The options of all positions, a row of 64 for each.
 const OPTIONS: usize = 8192;
@@ -32,62 +32,41 @@ const STRAND_BONDS: usize = 4096;
 // The scaffold bonds of all positions.
 const SCAFFOLD_BONDS: usize = 8192;
 
-// Whether a number is finite: a NaN is neither above one end nor below the other.
+// Whether a number is finite.
 fn is_finite(x: f64) -> bool
     ensures { result ≡ finite x }
 {
-    let beyond = 1.0 / 0.0;
-    -beyond < x && x < beyond
+    x.is_finite()
 }
 
-// The bonds of an admitted design, and the first state under the ceiling over these.
+// The bonds of an admitted design, and the first state under the ceiling over these: its energy, where there is one.
 fn search_states(
+    design: &Design,
     rows: &[u8],
     counts: &[u8],
-    scaffold: &[u8],
-    glues: &[u8],
-    dg: &[f64],
-    ds: &[f64],
-    potentials: &[f64],
-    ambient: Ambient,
     ceiling: KcalPerMol,
     entries: &mut [u8],
-) -> Under
-    requires searchable { Searchable (length potentials.now) rows.now counts.now }
-    requires potentials_nonzero { 0 < length potentials.now }
+) -> Option<f64>
+    requires searchable { Searchable (strands design.now) rows.now counts.now }
+    requires strands_nonzero { 0 < strands design.now }
     requires entries_len { length entries.old ≡ length counts.now }
-    ensures { (marks : List ℕ) → Admitted (design scaffold.now marks glues.now dg.now ds.now potentials.now ambient) → OptionRows (model_of (design scaffold.now marks glues.now dg.now ds.now potentials.now ambient)) rows.now counts.now → FoundUnder (model_of (design scaffold.now marks glues.now dg.now ds.now potentials.now ambient)) ceiling.0 entries.old entries.new result }
+    ensures { Admitted design.now → OptionRows (model_of design.now) rows.now counts.now → FoundUnder (model_of design.now) ceiling.0 entries.old entries.new result }
 {
     let mut strand_bonds = [0.0; STRAND_BONDS];
     let mut scaffold_bonds = [0.0; SCAFFOLD_BONDS];
-    fill_bonds(
-        rows,
-        counts,
-        scaffold,
-        glues,
-        dg,
-        ds,
-        potentials,
-        ambient,
-        &mut strand_bonds,
-        &mut scaffold_bonds,
-    );
+    fill_bonds(design, rows, counts, &mut strand_bonds, &mut scaffold_bonds);
     let limit = Limit {
-        rt: ambient.rt.0,
+        rt: design.ambient.rt.0,
         ceiling: ceiling.0,
-    };
-    let nobody = Begun {
-        strand: 0,
-        sum: 0.0,
     };
     under_from(
         rows,
         counts,
         &strand_bonds,
         &scaffold_bonds,
-        potentials,
+        design.potentials,
         limit,
-        nobody,
+        Begun::nobody(),
         0,
         entries,
     )
@@ -96,77 +75,46 @@ fn search_states(
 // What is answered where the design's tables pass and the ceiling is finite: the number of states is judged, then the design's numbers, then whether
 // a state is under the ceiling.
 fn counted(
-    scaffold: &[u8],
-    marks: &[u8],
-    glues: &[u8],
-    dg: &[f64],
-    ds: &[f64],
-    potentials: &[f64],
-    ambient: Ambient,
+    design: &Design,
     ceiling: KcalPerMol,
     rows: &mut [u8],
     counts: &mut [u8],
     entries: &mut [u8],
-) -> EnergyAnswer
-    requires tables_pass { TablesPass (lent scaffold marks glues dg ds potentials ambient) }
-    requires scaffold_in_bounds { 64 * length scaffold.now ≤ length rows.old }
-    requires counts_len { length counts.old ≡ length scaffold.now }
-    requires entries_len { length entries.old ≡ length scaffold.now }
-    ensures result_value { energy_figures result ≡ counted_answer (lent scaffold.entry marks.entry glues.entry dg.entry ds.entry potentials.entry ambient) ceiling.0 }
-    ensures entries_after { entries.new ≡ counted_entries (lent scaffold.entry marks.entry glues.entry dg.entry ds.entry potentials.entry ambient) ceiling.0 entries.old }
+) -> Result<KcalPerMol, Refused>
+    requires tables_pass { TablesPass design.now }
+    requires rows_in_bounds { 64 * positions design.now ≤ length rows.old }
+    requires counts_len { length counts.old ≡ positions design.now }
+    requires entries_len { length entries.old ≡ positions design.now }
+    ensures result_value { energy_figures result ≡ counted_answer design.now ceiling.0 }
+    ensures entries_after { entries.new ≡ counted_entries design.now ceiling.0 entries.old }
 {
-    let states = count_options(
-        scaffold, marks, glues, dg, ds, potentials, ambient, rows, counts,
-    );
-    let many = refused_if(Refusal::TooManyStates, MOST_STATES < states);
-    let numbers = numbers_reply(scaffold, marks, glues, dg, ds, potentials, ambient);
-    match many.or(numbers) {
-        Reply::Refused(refusal, place) => EnergyAnswer::Refused(refusal, place),
-        Reply::Admitted => match search_states(
-            rows, counts, scaffold, glues, dg, ds, potentials, ambient, ceiling, entries,
-        ) {
-            Under::Energy(energy) => EnergyAnswer::Energy(KcalPerMol(energy)),
-            Under::Nothing => EnergyAnswer::Refused(Refusal::NoneUnder, Place::Nowhere),
-        },
+    let states = count_options(design, rows, counts);
+    refused_if(Refusal::TooManyStates, MOST_STATES < states)?;
+    numbers_reply(design)?;
+    match search_states(design, rows, counts, ceiling, entries) {
+        Some(energy) => Ok(KcalPerMol(energy)),
+        None => Err(Refusal::NoneUnder.into()),
     }
 }
 
 // The first state in the order of `system_states` whose state energy is at most the ceiling, into one lent entry for each position; and its energy.
 pub fn first_state_under(
-    scaffold: &[u8],
-    marks: &[u8],
-    glues: &[u8],
-    dg: &[f64],
-    ds: &[f64],
-    potentials: &[f64],
-    ambient: Ambient,
+    design: &Design,
     ceiling: KcalPerMol,
     entries: &mut [u8],
-) -> EnergyAnswer
-    ensures result_value { energy_figures result ≡ ceiling_answer (lent scaffold.entry marks.entry glues.entry dg.entry ds.entry potentials.entry ambient) ceiling.0 entries.old }
-    ensures entries_after { entries.new ≡ ceiling_entries (lent scaffold.entry marks.entry glues.entry dg.entry ds.entry potentials.entry ambient) ceiling.0 entries.old }
+) -> Result<KcalPerMol, Refused>
+    ensures result_value { energy_figures result ≡ ceiling_answer design.now ceiling.0 entries.old }
+    ensures entries_after { entries.new ≡ ceiling_entries design.now ceiling.0 entries.old }
 {
-    let wrong_size = entries.len() != scaffold.len();
-    let out = !is_finite(ceiling.0);
-    match ranged_reply(wrong_size, out, scaffold, marks, glues, dg, ds, potentials) {
-        Reply::Refused(refusal, place) => EnergyAnswer::Refused(refusal, place),
-        Reply::Admitted => {
-            let mut rows = [0u8; OPTIONS];
-            let mut counts = [0u8; POSITIONS];
-            let positions = scaffold.len();
-            counted(
-                scaffold,
-                marks,
-                glues,
-                dg,
-                ds,
-                potentials,
-                ambient,
-                ceiling,
-                &mut rows,
-                &mut counts[0..positions],
-                entries,
-            )
-        }
-    }
+    let positions = design.positions();
+    ranged_reply(entries.len() != positions, !is_finite(ceiling.0), design)?;
+    let mut rows = [0; OPTIONS];
+    let mut counts = [0; POSITIONS];
+    counted(
+        design,
+        ceiling,
+        &mut rows,
+        &mut counts[..positions],
+        entries,
+    )
 }

@@ -9,25 +9,11 @@ ghost use Rattle.ceiling.specs.inner.Passing.{UnderFrom};
 
 use prepared::sums::{Begun, begin, ended};
 
-// What is found: the energy of a state, or that there is none.
-#[derive(Clone, Copy)]
-pub enum Under {
-    Energy(f64),
-    Nothing,
-}
-
 // RT, and the most that a state energy may be.
 #[derive(Clone, Copy)]
 pub(crate) struct Limit {
     pub rt: f64,
     pub ceiling: f64,
-}
-
-// A number as an index. As a function of its own it asks the proofs for no bound on the byte.
-fn wide(number: u8) -> usize
-    ensures { result ≡ number }
-{
-    number as usize
 }
 
 // Of all states that begin with the occupants before a position, the first that is under the ceiling: its energy, and its later occupants are written.
@@ -42,7 +28,7 @@ pub(crate) fn under_from(
     begun: Begun,
     position: usize,
     entries: &mut [u8],
-) -> Under
+) -> Option<f64>
     requires searchable { Searchable (length potentials.now) rows.now counts.now }
     requires potentials_in_bounds { length potentials.now * length potentials.now ≤ length strand_bonds.now }
     requires potentials_in_bounds_2 { length counts.now * length potentials.now ≤ length scaffold_bonds.now }
@@ -53,18 +39,17 @@ pub(crate) fn under_from(
 {
     if position == counts.len() {
         let energy = ended(begun, potentials) * limit.rt;
-        if energy <= limit.ceiling {
-            return Under::Energy(energy);
-        }
-        return Under::Nothing;
+        return if energy <= limit.ceiling {
+            Some(energy)
+        } else {
+            None
+        };
     }
     let row = 64 * position;
-    let mut k = 0;
-    while k < wide(counts[position]) {
-        let strand = rows[row + k];
+    for strand in &rows[row..row + usize::from(counts[position])] {
         let next = begin(
             begun,
-            strand,
+            *strand,
             position,
             strand_bonds,
             scaffold_bonds,
@@ -81,11 +66,10 @@ pub(crate) fn under_from(
             position + 1,
             entries,
         );
-        if let Under::Energy(energy) = found {
-            entries[position] = strand;
-            return Under::Energy(energy);
+        if let Some(energy) = found {
+            entries[position] = *strand;
+            return Some(energy);
         }
-        k += 1;
     }
-    Under::Nothing
+    None
 }

@@ -5,9 +5,7 @@ pub mod Powers
 pub mod Quotient
 pub mod Bits
 pub mod Worth
-pub mod Texts
-pub mod Exponents
-pub mod Placed
+pub mod Patterns
 pub mod Fixed
 pub mod Sizes
 pub mod Nearness

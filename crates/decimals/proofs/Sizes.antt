@@ -16,8 +16,6 @@ use Rattle.doubles.proofs.Fields.{low-size, normal-size, top-size, same_size, bi
 use Rattle.decimals.specs.Print.{millionths, unprintable}
 
 -- ---- in limbs
-pub million-room : (m : ℕ) → m < 2 ^ 53 → m * 1000000 < 2 ^ (32 * 47)
-million-room m h = lt_of_lt_of_le (mul-lt-mul_of_pos_right h (zero-lt-suc 999999)) (lit≤ tt)
 
 pub below-unit : (m shift : ℕ) → m < 2 ^ 53 → 10 ≤ shift → m * 1000000 < 1 * 2 ^ (shift + 63)
 below-unit m shift h l =

@@ -1,6 +1,6 @@
 -- What bytes are worth as digits, and numbers by their digits. Assumes nothing.
 use mathlib.Core.Path.{◌≡◌, refl, sym, ap, ◌∙◌}
-use mathlib.Core.Bool.{Bool, true, false, not, ◌&&◌}
+use mathlib.Core.Bool.{Bool, true, false, not, cond, ◌&&◌}
 use mathlib.Core.Logic.{◌⊎◌, inl, inr}
 use mathlib.Core.List.{List, [], ◌∷◌, ◌++◌}
 use Prim.Native.Nat.{ℕ, suc, ◌+◌, ◌-◌, ◌*◌, ◌/◌, ◌^◌, ◌≤◌, ◌<◌, min}
@@ -10,15 +10,28 @@ use native.Mathlib.Omega.{arith}
 use lib.Dec.{T, leb, ltb, ltb→lt, nltb→le}
 use lib.ListN.{length, get_or, drop}
 use lib.Seq.{drop-cons}
-use borrow.Author.Tests.{le-leb, lt-leb, leb-false}
+use borrow.Author.Tests.{le-leb, lt-leb, leb-false, lt-ltb, le-ltb}
+use Rattle.std.specs.Option.{unwrap_or}
+use Rattle.std.specs.List.{position, position_or_len}
+use Rattle.std.proofs.lemmas.Bool.{cases_lt}
+use Rattle.std.proofs.lemmas.List.Recursion.{is_position_or_len}
+use Rattle.lists.specs.Find.{first_index}
+use Rattle.lists.proofs.Find.{first-le}
 use Rattle.decimals.specs.Digits.{among, digit_value, not_digit, numeral}
+
+-- ---- a run
+-- the first place that passes a test, as a search through a slice gives it
+pub position_first : (p : ℕ → Bool) (xs : List ℕ) → unwrap_or (position p xs) (length xs) ≡ first_index p xs
+unfolding first_index
+position_first p xs =
+    let n = position_or_len p xs in
+    let same : first_index p xs ≡ n = is_position_or_len (first_index p) p refl (λ x xs. ap (λ (k : ℕ). cond (p x) 0 k) (omega arith)) xs in
+    let most = first-le p xs in
+    elim (cases_lt n (length xs)) [ inl h ↦ rw (lt-ltb n (length xs) h) (sym same) | inr h ↦ rw (le-ltb n (length xs) h) (omega arith) ]
 
 -- ---- a byte
 inside : (first last b : ℕ) → first ≤ b → b ≤ last → among first last b ≡ true
 inside first last b h k = rw (le-leb first b h, le-leb b last k)
-
-under : (first last b : ℕ) → b < first → among first last b ≡ false
-under first last b h = rw (lt-leb first b h)
 
 over : (first last b : ℕ) → last < b → among first last b ≡ false
 over first last b h = rw (lt-leb b last h) (and-false (leb first b))
@@ -35,26 +48,6 @@ module _ (b : ℕ) where
   pub worth-small : 97 ≤ b → b ≤ 102 → (b - 87 ≡ digit_value b) × (b - 87 ≤ 16)
   unfolding digit_value
   worth-small h k = (rw (over 48 57 b (omega arith), inside 97 102 b h k), omega arith)
-
-  pub worth-large : 65 ≤ b → b ≤ 70 → (b - 55 ≡ digit_value b) × (b - 55 ≤ 16)
-  unfolding digit_value
-  worth-large h k = (rw (over 48 57 b (omega arith), under 97 102 b (omega arith), inside 65 70 b h k), omega arith)
-
-  pub worth-below : b < 48 → (16 ≡ digit_value b) × (16 ≤ 16)
-  unfolding digit_value
-  worth-below h = (rw (under 48 57 b h, under 97 102 b (omega arith), under 65 70 b (omega arith)), omega arith)
-
-  pub worth-between : 57 < b → b < 65 → (16 ≡ digit_value b) × (16 ≤ 16)
-  unfolding digit_value
-  worth-between h k = (rw (over 48 57 b h, under 97 102 b (omega arith), under 65 70 b k), omega arith)
-
-  pub worth-later : 70 < b → b < 97 → (16 ≡ digit_value b) × (16 ≤ 16)
-  unfolding digit_value
-  worth-later h k = (rw (over 48 57 b (omega arith), under 97 102 b k, over 65 70 b h), omega arith)
-
-  pub worth-above : 102 < b → (16 ≡ digit_value b) × (16 ≤ 16)
-  unfolding digit_value
-  worth-above h = (rw (over 48 57 b (omega arith), over 97 102 b h, over 65 70 b (omega arith)), omega arith)
 
 -- ---- digit by digit
 pub numeral-more : (base n : ℕ) (digits : List ℕ) (i : ℕ) → i < length digits
@@ -101,11 +94,13 @@ capped limit base a digits h = go (either a limit)
     go (inl l) = rw (min-eq_right l)
     go (inr l) = rw (min-eq_left l) (min-eq_left (numeral-grows base limit digits h) ∙ sym (min-eq_left (le_trans l (numeral-grows base a digits h))))
 
-pub at-limit : (limit n : ℕ) → limit ≤ min limit n → limit ≤ n
-at-limit limit n h = omega arith
-
-pub under-limit : (limit n : ℕ) → min limit n < limit → (min limit n ≡ n) × (n < limit)
-under-limit limit n h = (omega arith, omega arith)
+-- the digits of two parts, read one after the other
+pub read-both : (limit : ℕ) (whole fraction : List ℕ) (a d : ℕ) → a ≡ min limit (numeral 10 0 whole) → d ≡ min limit (numeral 10 a fraction)
+    → d ≡ min limit (numeral 10 0 (whole ++ fraction))
+read-both limit whole fraction a d e f =
+    f ∙ ap (λ (n : ℕ). min limit (numeral 10 n fraction)) e
+    ∙ capped limit 10 (numeral 10 0 whole) fraction (omega arith)
+    ∙ ap (min limit) (sym (numeral-append 10 0 whole fraction))
 
 -- ---- digits of a base bound the number
 pub numeral-below : (base n : ℕ) (digits : List ℕ) → ((k : ℕ) → k < length digits → not_digit base (get_or digits k 0) ≡ false)

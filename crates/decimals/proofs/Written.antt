@@ -1,15 +1,14 @@
 -- Digits that are written from the last to the first, and how many there are. Assumes nothing.
 use mathlib.Core.Path.{◌≡◌, refl, sym, ap, ◌∙◌}
-use mathlib.Core.List.{List, [], ◌∷◌}
-use Prim.Native.Nat.{ℕ, zero, suc, ◌+◌, ◌-◌, ◌/◌, ◌%◌, ◌^◌, ◌≤◌, ◌<◌}
-use native.Mathlib.Nat.{not-suc-le-zero, le_of_eq, add-suc, suc-add, pow-suc, div-lt_iff_lt-mul, zero-lt-suc}
+use mathlib.Core.List.{List, [], ◌∷◌, ◌++◌, append_assoc}
+use Prim.Native.Nat.{ℕ, zero, suc, ◌-◌, ◌/◌, ◌%◌, ◌^◌, ◌≤◌, ◌<◌}
+use native.Mathlib.Nat.{not-suc-le-zero, pow-suc, div-lt_iff_lt-mul, zero-lt-suc}
 use native.Mathlib.Numerals.{add-one, sub-one}
 use native.Mathlib.Omega.{arith}
-use lib.ListN.{length, set, length-append}
-use lib.Seq.{set_comm, sets}
+use lib.ListN.{length, drop, set, length-append}
 use lib.Arith.{lt_of_le-ne}
+use Rattle.std.proofs.lemmas.List.{drop-set}
 use borrow.Author.Tests.{lt-ltb, le-ltb}
-use Rattle.lists.proofs.Front.{sets-append}
 use Rattle.decimals.specs.Digits.{digit_of, digits_in, places, decimal_digits}
 
 pub digits-length : (base count n : ℕ) → length (digits_in base count n) ≡ count
@@ -17,32 +16,17 @@ unfolding digits_in
 digits-length base zero n = refl
 digits-length base (suc count) n = length-append (digits_in base count (n / base)) (digit_of (n % base) ∷ []) ∙ rw (digits-length base count (n / base)) (add-one count)
 
--- what is stored behind a run may be stored before it
-set-behind : {A : Type 0} (xs : List A) (at : ℕ) (ys : List A) (j : ℕ) (y : A) → at + length ys ≤ j → set (sets xs at ys) j y ≡ sets (set xs j y) at ys
-set-behind xs at [] j y h = refl
-set-behind xs at (z ∷ ys) j y h =
-    set-behind (set xs at z) (suc at) ys j y (rw (add-suc, ← suc-add at (length ys)) at h) ∙ ap (λ l. sets l (suc at) ys) (set_comm xs at j z y (λ (e : at ≡ j). omega arith))
-
 -- the last digit stored, the others are still to come
-sets_more : (base i n at : ℕ) (out : List ℕ) → sets (set out (at + i) (digit_of (n % base))) at (digits_in base i (n / base)) ≡ sets out at (digits_in base (suc i) n)
+pub digits-back : (base n i : ℕ) (out : List ℕ) → 0 < i → i ≤ length out
+    → digits_in base (i - 1) (n / base) ++ drop (i - 1) (set out (i - 1) (digit_of (n % base))) ≡ digits_in base i n ++ drop i out
 unfolding digits_in
-sets_more base i n at out =
-    let front = digits_in base i (n / base) in
-    let last = digit_of (n % base) in
-    let size = digits-length base i (n / base) in
-    sym
-    (sets-append out at front (last ∷ [])
-    ∙ ap (λ k. set (sets out at front) (at + k) last) size
-    ∙ set-behind out at front (at + i) last (le_of_eq (ap (at +◌) size)))
+digits-back base n zero out p h = absurd (not-suc-le-zero p)
+digits-back base n (suc i) out p h =
+    simp sub-one (rw (drop-set out i (digit_of (n % base)) h, append_assoc, add-one))
 
-pub sets-back : (base i n at : ℕ) (out : List ℕ) → 0 < i
-    → sets (set out (at + (i - 1)) (digit_of (n % base))) at (digits_in base (i - 1) (n / base)) ≡ sets out at (digits_in base i n)
-sets-back base zero n at out p = absurd (not-suc-le-zero p)
-sets-back base (suc i) n at out p = simp sub-one (sets_more base i n at out)
-
-pub sets-none : (base n at : ℕ) (out : List ℕ) → sets out at (digits_in base 0 n) ≡ out
+pub digits-done : (base n : ℕ) (out : List ℕ) → digits_in base 0 n ++ drop 0 out ≡ out
 unfolding digits_in
-sets-none base n at out = refl
+digits-done base n out = refl
 
 -- 10 divides out of a number of two digits or more
 pub places-more : (more n : ℕ) → 10 ≤ n → places 10 (suc more) n ≡ suc (places 10 more (n / 10))

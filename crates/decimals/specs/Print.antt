@@ -1,16 +1,16 @@
 -- The texts that numbers are printed as, and what printing one into a lent slice answers and leaves there.
-use Rattle.std.specs.Prelude.{Bool, cond, ◌&&◌, List, ◌∷◌, ◌++◌, ℕ, ◌*◌, ◌/◌, ◌%◌, ◌^◌, leb, ltb, length, replicate, Float}
+use Rattle.std.specs.Prelude.{Bool, cond, ◌&&◌, List, ◌∷◌, ◌++◌, ℕ, ◌*◌, ◌/◌, ◌%◌, ◌^◌, leb, ltb, length, replicate, Float, Result, Ok, Err}
 use Rattle.std.specs.Float.{binary64}
 use Rattle.std.specs.Float.Ieee.Nearest.{closest}
 use Rattle.lists.specs.Front.{over}
 use Rattle.doubles.specs.Size.{sgn, mag}
 use Rattle.decimals.specs.Digits.{digits_in, decimal_digits}
-use Rattle.decimals.specs.declared.Printed.{Printed}
-use Rattle.decimals.specs.declared.Printed.TheVariants.{Text, TooShort, Unprintable}
+use Rattle.decimals.specs.declared.PrintFault.{PrintFault}
+use Rattle.decimals.specs.declared.PrintFault.TheVariants.{TooShort, Unprintable}
 
 -- a text has room in the lent slice, or not
-abbrev pub printed : List ℕ → List ℕ → Printed
-printed text out = cond (ltb (length out) (length text)) TooShort (Text (length text))
+abbrev pub printed : List ℕ → List ℕ → Result ℕ PrintFault
+printed text out = cond (ltb (length out) (length text)) (Err TooShort) (Ok (length text))
 
 -- the text in front, what the slice held past it; all as it was where the text has no room
 abbrev pub laid : List ℕ → List ℕ → List ℕ
@@ -39,9 +39,9 @@ abbrev pub unprintable : Float → Bool
 unprintable x = leb (2 ^ 43 * 2 ^ 1074) (mag binary64 x)
 
 -- what printing x answers
-unfoldable pub fixed_printed : Float → List ℕ → Printed
+unfoldable pub fixed_printed : Float → List ℕ → Result ℕ PrintFault
 unfolding fixed_text
-fixed_printed x out = cond (unprintable x) Unprintable (printed (fixed_text x) out)
+fixed_printed x out = cond (unprintable x) (Err Unprintable) (printed (fixed_text x) out)
 
 -- and what the lent slice then holds
 unfoldable pub fixed_out : Float → List ℕ → List ℕ

@@ -1,39 +1,33 @@
 // Digits of a number in a base of up to 16: their worth, and how they are written.
-ghost use Rattle.std.specs.Prelude.{◌≡◌, ◌+◌, ◌≤◌, ◌<◌, min, length};
+ghost use Rattle.std.specs.Prelude.{position, ◌≡◌, ◌+◌, ◌≤◌, ◌<◌, min, length};
 ghost use Rattle.std.proofs.lemmas.List.Edits.{sets};
-ghost use Rattle.decimals.specs.Digits.{digit_value, digit_run, numeral, digit_of, digits_in, places};
+ghost use Rattle.decimals.specs.Digits.{digit_value, not_digit, digit_run, numeral, digit_of, digits_in, places};
 
-// What a byte is worth as a digit; 16 where it is none.
+// What a byte is worth as a digit; 16 where it is none, so that one comparison with the base tells a digit of it.
+#[tactic(auto, unfolding(crate::specs::Digits::digit_value))]
 fn digit_value(b: u8) -> u64
     ensures { (result ≡ digit_value b) × (result ≤ 16) }
 {
     match b {
-        b'0'..=b'9' => wide(b) - 48,
-        b'a'..=b'f' => wide(b) - 87,
-        b'A'..=b'F' => wide(b) - 55,
+        b'0'..=b'9' => u64::from(b) - 48,
+        b'a'..=b'f' => u64::from(b) - 87,
+        b'A'..=b'F' => u64::from(b) - 55,
         _ => 16,
     }
 }
 
-// A byte as a number.
-fn wide(b: u8) -> u64
-    ensures { result ≡ b }
+// Where the first byte is that is no digit of the base.
+fn first_other(text: &[u8], base: u64) -> Option<usize>
+    ensures { result ≡ position (not_digit base) text.now }
 {
-    b as u64
+    text.iter().position(|&b| base <= digit_value(b))
 }
 
 // How many digits of the base a text begins with.
 pub(crate) fn digit_run(text: &[u8], base: u64) -> usize
     ensures { (result ≡ digit_run base text.now) × (result ≤ length text.now) }
 {
-    let mut i = 0;
-    while i < text.len() {
-        if base <= digit_value(text[i]) {
-            return i;
-        }
-        i += 1;
-    }
-    i
+    first_other(text, base).unwrap_or(text.len())
 }
 
 // The number that digits stand for, after those that stand for `start`; the limit where it is above that.
@@ -42,14 +36,12 @@ pub(crate) fn read_digits(digits: &[u8], base: u64, start: u64, limit: u64) -> u
     ensures { result ≡ min limit (numeral base start digits.now) }
 {
     let mut n = start;
-    let mut i = 0;
-    while i < digits.len() {
-        let digit = digit_value(digits[i]);
+    for b in digits {
+        let digit = digit_value(*b);
         if (limit - digit) / base < n {
             return limit;
         }
         n = n * base + digit;
-        i += 1;
     }
     n
 }
@@ -59,19 +51,21 @@ fn digit(n: u64) -> u8
     requires { n < 16 }
     ensures { result ≡ digit_of n }
 {
-    if n < 10 { 48 + n as u8 } else { 87 + n as u8 }
+    if n < 10 {
+        b'0' + n as u8
+    } else {
+        b'a' + (n as u8 - 10)
+    }
 }
 
-// The last `count` digits of n, into the lent bytes from a place on.
-pub(crate) fn put_digits(n: u64, base: u64, count: usize, at: usize, out: &mut [u8])
-    requires { (1 ≤ base) × (base ≤ 16) × (at + count ≤ length out.old) }
-    ensures { out.new ≡ sets out.old at (digits_in base count n) }
+// The last digits of n, as many as there are lent bytes.
+pub fn put_digits(n: u64, base: u64, out: &mut [u8])
+    requires { (1 ≤ base) × (base ≤ 16) }
+    ensures { out.new ≡ digits_in base (length out.old) n }
 {
     let mut left = n;
-    let mut i = count;
-    while 0 < i {
-        i -= 1;
-        out[at + i] = digit(left % base);
+    for i in (0..out.len()).rev() {
+        out[i] = digit(left % base);
         left /= base;
     }
 }

@@ -12,21 +12,21 @@ ghost use Rattle.decimals.specs.Digits.{digits_in, decimal_digits};
 ghost use Rattle.decimals.specs.Number.{number_of};
 ghost use Rattle.decimals.specs.Print.{printed, laid, fixed_printed, fixed_out};
 
-use digits::{count_places, put_digits, read_digits};
+pub use digits::put_digits;
+use digits::{count_places, read_digits};
 use doubles::double;
 use printing::{in_millionths, write_millionths};
-use reading::{decimal, is_pattern, past};
+use reading::{decimal, is_pattern};
 
 // The bit of the sign.
-const SIGN: u64 = 0x8000_0000_0000_0000;
+const SIGN: u64 = 1 << 63;
 
 // The bits of 2 ^ 43.
 const UNPRINTABLE: u64 = 0x42a0_0000_0000_0000;
 
-// What a word of a design file is as a number, or why it is none.
-#[derive(Clone, Copy)]
-pub enum NumberAnswer {
-    Number(f64),
+// Why a word of a design file is no number.
+#[derive(Clone, Copy, PartialEq, Eq, Debug)]
+pub enum NumberFault {
     // No decimal, and no pattern of bits.
     NotANumber,
     // More than 17 digits from the first that is not 0.
@@ -35,11 +35,9 @@ pub enum NumberAnswer {
     OutOfReach,
 }
 
-// What became of a text that was to be printed.
-#[derive(Clone, Copy)]
-pub enum Printed {
-    // Its length: it stands in the first lent bytes.
-    Text(usize),
+// Why a text was not printed.
+#[derive(Clone, Copy, PartialEq, Eq, Debug)]
+pub enum PrintFault {
     // It is longer than the lent slice.
     TooShort,
     // The number has no such text.
@@ -47,48 +45,50 @@ pub enum Printed {
 }
 
 // Reads a word of a design file as a number.
-pub fn read_number(word: &[u8]) -> NumberAnswer
+#[tactic(auto, unfolding(crate::specs::Number::number_of))]
+pub fn read_number(word: &[u8]) -> Result<f64, NumberFault>
     ensures { result ≡ number_of word.now }
 {
     if is_pattern(word) {
-        let bits = read_digits(past(word, 2), 16, 0, 0xffff_ffff_ffff_ffff);
-        return NumberAnswer::Number(double(bits));
+        let bits = read_digits(&word[2..], 16, 0, u64::MAX);
+        return Ok(double(bits));
     }
     decimal(word)
 }
 
-// The last `digits` hexadecimal digits of n, in lower case: 16 are the bits of a double, 8 a word of a deck.
-pub fn write_hex(n: u64, digits: usize, out: &mut [u8]) -> Printed
+// The last `digits` hexadecimal digits of n, in lower case: 16 are the bits of a double, 8 a word of a deck. The length of a printed text is
+// returned: it stands in the first lent bytes.
+pub fn write_hex(n: u64, digits: usize, out: &mut [u8]) -> Result<usize, PrintFault>
     ensures { (result ≡ printed (digits_in 16 digits n) out.old) × (out.new ≡ laid (digits_in 16 digits n) out.old) }
 {
     if out.len() < digits {
-        return Printed::TooShort;
+        return Err(PrintFault::TooShort);
     }
-    put_digits(n, 16, digits, 0, out);
-    Printed::Text(digits)
+    put_digits(n, 16, &mut out[..digits]);
+    Ok(digits)
 }
 
 // A natural number in decimal digits.
-pub fn write_count(n: u64, out: &mut [u8]) -> Printed
+pub fn write_count(n: u64, out: &mut [u8]) -> Result<usize, PrintFault>
     ensures { (result ≡ printed (decimal_digits n) out.old) × (out.new ≡ laid (decimal_digits n) out.old) }
 {
     let count = count_places(n);
     if out.len() < count {
-        return Printed::TooShort;
+        return Err(PrintFault::TooShort);
     }
-    put_digits(n, 10, count, 0, out);
-    Printed::Text(count)
+    put_digits(n, 10, &mut out[..count]);
+    Ok(count)
 }
 
 // A double with six places: the nearest such decimal, of two equally near the one whose last digit is even. What rounds to 0 has no sign.
 // 2 ^ 43 in size and more, infinities and NaN are unprintable.
-pub fn write_fixed(x: f64, out: &mut [u8]) -> Printed
+pub fn write_fixed(x: f64, out: &mut [u8]) -> Result<usize, PrintFault>
     ensures { (result ≡ fixed_printed x out.old) × (out.new ≡ fixed_out x out.old) }
 {
     let bits = doubles::bits(x);
     let size = bits % SIGN;
     if UNPRINTABLE <= size {
-        return Printed::Unprintable;
+        return Err(PrintFault::Unprintable);
     }
     write_millionths(SIGN <= bits, in_millionths(size), out)
 }

@@ -6,10 +6,10 @@ ghost use Rattle.std.specs.Float.{binary64};
 ghost use Rattle.std.specs.Float.Ieee.Nearest.{closest};
 ghost use Rattle.decimals.specs.Print.{minus_signs, fixed, millionths, printed, laid};
 
-use super::Printed;
+use super::PrintFault;
 use super::digits::{count_places, put_digits};
 use super::limbs::{limbs_of, times, times_power};
-use super::rounding::nearest_quotient;
+use super::rounding::{HIDDEN, nearest_quotient};
 
 // How many millionths are 1.
 const MILLION: u64 = 1_000_000;
@@ -31,50 +31,33 @@ pub(crate) fn in_millionths(bits: u64) -> u64
     requires { bits < 1066 * 2 ^ 52 }
     ensures { result ≡ millionths (Ieee.of_bits binary64 bits) }
 {
-    let field = bits / 0x10_0000_0000_0000;
-    let digits = bits % 0x10_0000_0000_0000;
+    let (field, digits) = (bits / HIDDEN, bits % HIDDEN);
     if field == 0 {
         return shifted_millionths(digits, 1074);
     }
-    shifted_millionths(0x10_0000_0000_0000 + digits, 1075 - field as usize)
+    shifted_millionths(HIDDEN + digits, 1075 - field as usize)
 }
 
 // How many minus signs stand in front: one, but none before 0.
 fn minus_signs(negative: bool, n: u64) -> usize
     ensures { (result ≡ minus_signs negative n) × (result ≤ 1) }
 {
-    if !negative {
-        return 0;
-    }
-    if n == 0 {
-        return 0;
-    }
-    1
-}
-
-// The minus sign, where there is one.
-fn put_signs(signs: usize, out: &mut [u8])
-    requires { (signs ≤ 1) × (signs ≤ length out.old) }
-    ensures { out.new ≡ sets out.old 0 (replicate signs 45) }
-{
-    if signs == 1 {
-        out[0] = b'-';
-    }
+    if negative && n != 0 { 1 } else { 0 }
 }
 
 // n millionths with six places.
-pub(crate) fn write_millionths(negative: bool, n: u64, out: &mut [u8]) -> Printed
+pub(crate) fn write_millionths(negative: bool, n: u64, out: &mut [u8]) -> Result<usize, PrintFault>
     ensures { (result ≡ printed (fixed negative n) out.old) × (out.new ≡ laid (fixed negative n) out.old) }
 {
     let signs = minus_signs(negative, n);
     let whole = count_places(n / MILLION);
     let point = signs + whole;
     if out.len() < point + 7 {
-        return Printed::TooShort;
+        return Err(PrintFault::TooShort);
     }
-    put_signs(signs, out);
-    put_digits(n / MILLION, 10, whole, signs, out);
+    out[..signs].fill(b'-');
+    put_digits(n / MILLION, 10, &mut out[signs..point]);
     out[point] = b'.';
-    put_digits(n % MILLION, 10, 6, point + 1, out);
-    Printed::Text(point + 7)
+    put_digits(n % MILLION, 10, &mut out[point + 1..point + 7]);
+    Ok(point + 7)
 }

@@ -1,8 +1,9 @@
 // A word taken apart as a decimal, and the number that it stands for.
-ghost use Rattle.std.specs.Prelude.{◌≡◌, ◌+◌, ◌^◌, ◌≤◌, ◌<◌, cond, length, take, drop};
-ghost use Rattle.decimals.specs.Number.{begins_with, sign_length, point_length, all_digits, exponent_after, exponent_of, placed, no_digits, valued, is_pattern, parts_of, decimal_of};
+ghost use Rattle.std.specs.Prelude.{◌≡◌, ◌^◌, ◌≤◌, ◌<◌, ◌++◌, length, min};
+ghost use Rattle.decimals.specs.Digits.{numeral};
+ghost use Rattle.decimals.specs.Number.{begins_with, sign_length, point_length, all_digits, exponent_after, exponent_of, placed, valued, is_pattern, parts_of, decimal_of};
 
-use super::NumberAnswer;
+use super::NumberFault;
 use super::digits::{digit_run, read_digits};
 use super::rounding::decimal_double;
 
@@ -12,186 +13,149 @@ const TOO_MANY: u64 = 100_000_000_000_000_000;
 // The first exponent that is out of reach.
 const TOO_HIGH: u64 = 1000;
 
-// The power of ten behind a decimal's digits.
+// The largest power of ten, of either sign, that the last digit may stand for.
+const FARTHEST: usize = 400;
+
+// The power of ten behind a decimal's digits: 10 ^ up / 10 ^ down, of which one is 0.
 #[derive(Clone, Copy)]
-enum Exponent {
-    Up(u64),
-    Down(u64),
-    Malformed,
-}
-
-// The text up to a place.
-fn front(text: &[u8], end: usize) -> &[u8]
-    requires { end ≤ length text.now }
-    ensures { result.now ≡ take end text.now }
-{
-    &text[..end]
-}
-
-// The text from a place on.
-pub(crate) fn past(text: &[u8], start: usize) -> &[u8]
-    requires { start ≤ length text.now }
-    ensures { result.now ≡ drop start text.now }
-{
-    &text[start..]
+struct Exponent {
+    up: u64,
+    down: u64,
 }
 
 // Whether a text begins with a byte.
 fn begins_with(text: &[u8], b: u8) -> bool
     ensures { result ≡ begins_with b text.now }
 {
-    if text.len() == 0 {
-        return false;
-    }
-    text[0] == b
+    !text.is_empty() && text[0] == b
 }
 
 // How long the sign in front of a text is.
 fn sign_length(text: &[u8]) -> usize
     ensures { (result ≡ sign_length text.now) × (result ≤ length text.now) }
 {
-    if begins_with(text, b'+') {
-        return 1;
+    if begins_with(text, b'+') || begins_with(text, b'-') {
+        1
+    } else {
+        0
     }
-    if begins_with(text, b'-') {
-        return 1;
-    }
-    0
 }
 
 // How long the point in front of a text is.
 fn point_length(text: &[u8]) -> usize
     ensures { (result ≡ point_length text.now) × (result ≤ length text.now) }
 {
-    if begins_with(text, b'.') {
-        return 1;
-    }
-    0
+    if begins_with(text, b'.') { 1 } else { 0 }
 }
 
 // Whether a text is nothing but digits, and has one.
 fn all_digits(text: &[u8]) -> bool
     ensures { result ≡ all_digits text.now }
 {
-    if text.len() == 0 {
-        return false;
-    }
-    digit_run(text, 10) == text.len()
+    !text.is_empty() && digit_run(text, 10) == text.len()
 }
 
 // An exponent after its letter.
-fn exponent_after(text: &[u8]) -> Exponent
+#[tactic(auto, unfolding(crate::specs::Number::exponent_after))]
+fn exponent_after(text: &[u8]) -> Result<Exponent, NumberFault>
     ensures { result ≡ exponent_after text.now }
 {
-    let digits = past(text, sign_length(text));
+    let digits = &text[sign_length(text)..];
     if !all_digits(digits) {
-        return Exponent::Malformed;
+        return Err(NumberFault::NotANumber);
     }
     let power = read_digits(digits, 10, 0, TOO_HIGH);
     if begins_with(text, b'-') {
-        return Exponent::Down(power);
+        Ok(Exponent { up: 0, down: power })
+    } else {
+        Ok(Exponent { up: power, down: 0 })
     }
-    Exponent::Up(power)
 }
 
 // What follows a decimal's digits: nothing, or an exponent.
-fn exponent_of(rest: &[u8]) -> Exponent
+#[tactic(auto, unfolding(crate::specs::Number::exponent_of))]
+fn exponent_of(rest: &[u8]) -> Result<Exponent, NumberFault>
     ensures { result ≡ exponent_of rest.now }
 {
-    if rest.len() == 0 {
-        return Exponent::Up(0);
+    match rest {
+        [] => Ok(Exponent { up: 0, down: 0 }),
+        [b'e' | b'E', text @ ..] => exponent_after(text),
+        _ => Err(NumberFault::NotANumber),
     }
-    if begins_with(rest, b'e') {
-        return exponent_after(past(rest, 1));
-    }
-    if begins_with(rest, b'E') {
-        return exponent_after(past(rest, 1));
-    }
-    Exponent::Malformed
 }
 
 // Digits whose last stands for 10 ^ up / 10 ^ down.
-fn place(negative: bool, digits: u64, up: usize, down: usize) -> NumberAnswer
+#[tactic(auto, unfolding(crate::specs::Number::placed, crate::specs::Number::nearest_double))]
+fn place(negative: bool, digits: u64, up: usize, down: usize) -> Result<f64, NumberFault>
     requires { digits < 10 ^ 17 }
     ensures { result ≡ placed negative digits up down }
 {
-    if down < up {
-        if 400 < up - down {
-            return NumberAnswer::OutOfReach;
-        }
-        return NumberAnswer::Number(decimal_double(negative, digits, up - down, 0));
+    let above = up.saturating_sub(down);
+    let below = down.saturating_sub(up);
+    if FARTHEST < above || FARTHEST < below {
+        return Err(NumberFault::OutOfReach);
     }
-    if 400 < down - up {
-        return NumberAnswer::OutOfReach;
-    }
-    NumberAnswer::Number(decimal_double(negative, digits, 0, down - up))
+    Ok(decimal_double(negative, digits, above, below))
 }
 
-// Whether there is a digit neither before the point nor after it.
-fn no_digits(whole: &[u8], fraction: &[u8]) -> bool
-    ensures { result ≡ no_digits whole.now fraction.now }
+// The number that the digits before the point and those after it stand for together; the limit where it is above that.
+fn significand(whole: &[u8], fraction: &[u8]) -> u64
+    ensures { result ≡ min TOO_MANY (numeral 10 0 (whole.now ++ fraction.now)) }
 {
-    if whole.len() != 0 {
-        return false;
-    }
-    fraction.len() == 0
+    read_digits(fraction, 10, read_digits(whole, 10, 0, TOO_MANY), TOO_MANY)
 }
 
-// The digits before the point and those after it, with an exponent that is downwards or not.
-fn value(negative: bool, whole: &[u8], fraction: &[u8], power: u64, downwards: bool) -> NumberAnswer
-    ensures { result ≡ valued negative whole.now fraction.now power (cond downwards 0 power) (cond downwards (length fraction.now + power) (length fraction.now)) }
+// The digits before the point and those after it, with an exponent.
+#[tactic(auto, unfolding(crate::specs::Number::valued))]
+fn value(
+    negative: bool,
+    whole: &[u8],
+    fraction: &[u8],
+    exponent: Exponent,
+) -> Result<f64, NumberFault>
+    ensures { result ≡ valued negative whole.now fraction.now exponent }
 {
-    if no_digits(whole, fraction) {
-        return NumberAnswer::NotANumber;
+    if whole.is_empty() && fraction.is_empty() {
+        return Err(NumberFault::NotANumber);
     }
-    let digits = read_digits(fraction, 10, read_digits(whole, 10, 0, TOO_MANY), TOO_MANY);
+    let digits = significand(whole, fraction);
     if TOO_MANY <= digits {
-        return NumberAnswer::TooManyDigits;
+        return Err(NumberFault::TooManyDigits);
     }
-    if TOO_HIGH <= power {
-        return NumberAnswer::OutOfReach;
+    if TOO_HIGH <= exponent.up || TOO_HIGH <= exponent.down {
+        return Err(NumberFault::OutOfReach);
     }
     // No exponent in reach makes up for so many places, and the sum below has room.
     if 0xffff < fraction.len() {
-        return NumberAnswer::OutOfReach;
+        return Err(NumberFault::OutOfReach);
     }
-    if downwards {
-        return place(negative, digits, 0, fraction.len() + power as usize);
-    }
-    place(negative, digits, power as usize, fraction.len())
+    place(
+        negative,
+        digits,
+        exponent.up as usize,
+        fraction.len() + exponent.down as usize,
+    )
 }
 
 // The number that a word stands for as a decimal.
-pub(crate) fn decimal(word: &[u8]) -> NumberAnswer
+#[tactic(auto, unfolding(crate::specs::Number::decimal_of, crate::specs::Number::parts_of))]
+pub(crate) fn decimal(word: &[u8]) -> Result<f64, NumberFault>
     ensures { result ≡ decimal_of (parts_of word.now) (exponent_of (parts_of word.now).rest) }
 {
-    let body = past(word, sign_length(word));
-    let whole = digit_run(body, 10);
-    let after = past(body, whole);
-    let places = past(after, point_length(after));
-    let fraction = digit_run(places, 10);
-    let before = front(body, whole);
-    let behind = front(places, fraction);
-    let negative = begins_with(word, b'-');
-    match exponent_of(past(places, fraction)) {
-        Exponent::Malformed => NumberAnswer::NotANumber,
-        Exponent::Up(power) => value(negative, before, behind, power, false),
-        Exponent::Down(power) => value(negative, before, behind, power, true),
-    }
+    let body = &word[sign_length(word)..];
+    let (whole, after) = body.split_at(digit_run(body, 10));
+    let places = &after[point_length(after)..];
+    let (fraction, rest) = places.split_at(digit_run(places, 10));
+    let exponent = exponent_of(rest)?;
+    value(begins_with(word, b'-'), whole, fraction, exponent)
 }
 
 // Whether a word is 0x and 16 hexadecimal digits.
 pub(crate) fn is_pattern(word: &[u8]) -> bool
     ensures { result ≡ is_pattern word.now }
 {
-    if word.len() != 18 {
-        return false;
+    match word {
+        [b'0', b'x', digits @ ..] => digits.len() == 16 && digit_run(digits, 16) == 16,
+        _ => false,
     }
-    if word[0] != b'0' {
-        return false;
-    }
-    if word[1] != b'x' {
-        return false;
-    }
-    digit_run(past(word, 2), 16) == 16
 }

@@ -1,52 +1,69 @@
 -- The first stretch of what is left of a configuration. Assumes nothing.
-use mathlib.Core.Path.{◌≡◌, sym, ◌∙◌}
-use mathlib.Core.Bool.{true, false, true≢false}
-use mathlib.Core.List.{List, ◌∷◌, ◌++◌, append_assoc}
-use Prim.Native.Nat.{ℕ, suc, ◌+◌, ◌-◌, ◌≤◌, ◌<◌}
+use mathlib.Core.Path.{◌≡◌, refl, sym, ap, ap₂, ◌∙◌}
+use mathlib.Core.Bool.{Bool, true, false, cond, true≢false}
+use mathlib.Core.List.{List, [], ◌∷◌, ◌++◌}
+use Prim.Native.Nat.{ℕ, suc, ◌+◌, ◌≤◌, ◌<◌}
 use native.Mathlib.Numerals.{add-one}
 use native.Mathlib.Omega.{arith}
-use lib.ListN.{length, get_or, drop, replicate, drop_of_length-le, replicate-append-replicate}
+use lib.Dec.{eqb}
+use lib.ListN.{length, get_or, drop, replicate, length-drop}
 use lib.Seq.{drop-cons}
-use borrow.Author.Tests.{ne_eqb}
+use borrow.Author.Tests.{eqb-true, eqb-false, eq-eqb, ne_eqb}
+use Rattle.std.specs.List.{prefix_len}
+use Rattle.std.proofs.lemmas.List.{drop-drop}
+use Rattle.std.proofs.lemmas.List.Sums.{prefix_len-le-length}
 use Rattle.deck.specs.Form.{Form, stretch}
 use Rattle.deck.specs.Deck.{follow, stretches_of}
 use Rattle.deck.proofs.Stretches.{in-front-single, run-in-front, follow-first}
 
-module _ (c : List ℕ) where
-  -- one occupant from `at` up to `end`
-  abbrev pub Hold : ℕ → ℕ → ℕ → Type 0
-  Hold occupant at end = drop at c ≡ replicate (end - at) occupant ++ drop end c
+-- how many positions at the front have this occupant
+abbrev pub run_of : ℕ → List ℕ → ℕ
+run_of occupant c = prefix_len (λ next. eqb next occupant) c
 
-  pub hold-one : (at : ℕ) → at < length c → Hold (get_or c at 0) at (at + 1)
-  hold-one at h = let n : at + 1 - at ≡ 1 = omega arith in rw (n, add-one, drop-cons c at 0 h)
+-- these are the front
+run-splits : (occupant : ℕ) (c : List ℕ) → c ≡ replicate (run_of occupant c) occupant ++ drop (run_of occupant c) c
+run-splits occupant [] = refl
+run-splits occupant (x ∷ c) = go (eqb x occupant) refl (run-splits occupant c)
+  where
+    go : (t : Bool) → eqb x occupant ≡ t → c ≡ replicate (run_of occupant c) occupant ++ drop (run_of occupant c) c
+        → x ∷ c ≡ replicate (cond t (1 + run_of occupant c) 0) occupant ++ drop (cond t (1 + run_of occupant c) 0) (x ∷ c)
+    go true e rest = let n : 1 + run_of occupant c ≡ suc (run_of occupant c) = omega arith in rw n (ap₂ (λ (y : ℕ) (ys : List ℕ). y ∷ ys) (eqb-true x occupant e) rest)
+    go false e rest = refl
 
-  pub hold-more : (occupant at end : ℕ) → at ≤ end → end < length c → get_or c end 0 ≡ occupant → Hold occupant at end → Hold occupant at (end + 1)
-  hold-more occupant at end l h e w =
-      let n : end + 1 - at ≡ end - at + 1 = omega arith in
-      rw (w, n, ← replicate-append-replicate {A = ℕ} (end - at) 1 occupant, append_assoc, add-one, drop-cons c end 0 h, e)
+module _ (form : Form) where
+  -- a position of no run is a stretch of its own
+  pub alone-first : (c : List ℕ) (at : ℕ) → at < length c → form.in_runs (get_or c at 0) ≡ false → stretches_of form (drop at c) ≡ stretch (get_or c at 0) 1 ∷ stretches_of form (drop (at + 1) c)
+  unfolding stretches_of
+  alone-first c at h n = rw (add-one, drop-cons c at 0 h) (in-front-single form (get_or c at 0) (stretches_of form (drop (suc at) c)) n)
 
-  -- where a run ends
-  pub data Ends (occupant end : ℕ) : Type 0 where
-    at_length : length c ≤ end → Ends occupant end
-    at_other : end < length c → (get_or c end 0 ≡ occupant → ⊥) → Ends occupant end
+  -- and what comes after them is another stretch
+  run-ends : (occupant : ℕ) (c : List ℕ) → follow form (stretch occupant 1) (stretches_of form (drop (run_of occupant c) c)) ≡ true
+  unfolding follow stretches_of
+  run-ends occupant [] = refl
+  run-ends occupant (x ∷ c) = go (eqb x occupant) refl (run-ends occupant c)
+    where
+      go : (t : Bool) → eqb x occupant ≡ t → follow form (stretch occupant 1) (stretches_of form (drop (run_of occupant c) c)) ≡ true
+          → follow form (stretch occupant 1) (stretches_of form (drop (cond t (1 + run_of occupant c) 0) (x ∷ c))) ≡ true
+      go true e rest = let n : 1 + run_of occupant c ≡ suc (run_of occupant c) = omega arith in rw n rest
+      go false e rest = follow-first form (stretch occupant 1) x c (rw (ne_eqb occupant x (λ q. eqb-false x occupant e (sym q))))
 
-  module _ (form : Form) where
-    -- a position of no run is a stretch of its own
-    pub alone-first : (at : ℕ) → at < length c → form.in_runs (get_or c at 0) ≡ false → stretches_of form (drop at c) ≡ stretch (get_or c at 0) 1 ∷ stretches_of form (drop (at + 1) c)
-    unfolding stretches_of
-    alone-first at h n = rw (add-one, drop-cons c at 0 h) (in-front-single form (get_or c at 0) (stretches_of form (drop (suc at) c)) n)
+  run-front : (occupant : ℕ) (c : List ℕ) → form.in_runs occupant ≡ true
+      → stretches_of form (occupant ∷ c) ≡ stretch occupant (suc (run_of occupant c)) ∷ stretches_of form (drop (run_of occupant c) c)
+  run-front occupant c runs =
+      ap (λ (ys : List ℕ). stretches_of form (occupant ∷ ys)) (run-splits occupant c)
+      ∙ run-in-front form (run_of occupant c) occupant (drop (run_of occupant c) c) (λ j. absurd (true≢false (sym runs ∙ j))) (run-ends occupant c)
 
-    follow-ends : (occupant end : ℕ) → Ends occupant end → follow form (stretch occupant 1) (stretches_of form (drop end c)) ≡ true
-    unfolding follow stretches_of
-    follow-ends occupant end (at_length h) = rw (drop_of_length-le c h)
-    follow-ends occupant end (at_other h n) =
-        rw (drop-cons c end 0 h)
-        (follow-first form (stretch occupant 1) (get_or c end 0) (drop (suc end) c) (rw (ne_eqb occupant (get_or c end 0) (λ e. n (sym e)))))
-
-    -- a run is one stretch
-    pub run-first : (at end : ℕ) → at < end → form.in_runs (get_or c at 0) ≡ true → Hold (get_or c at 0) at end → Ends (get_or c at 0) end
-        → stretches_of form (drop at c) ≡ stretch (get_or c at 0) (end - at) ∷ stretches_of form (drop (at + (end - at)) c)
-    run-first at end l runs w ends =
-        let n : end - at ≡ suc (end - at - 1) = omega arith in
-        let m : at + (end - at) ≡ end = omega arith in
-        rw (w, m, n) (run-in-front form (end - at - 1) (get_or c at 0) (drop end c) (λ j. absurd (true≢false (sym runs ∙ j))) (follow-ends (get_or c at 0) end ends))
+  -- a run is one stretch
+  pub run-first : (c : List ℕ) (at run : ℕ) → at < length c → form.in_runs (get_or c at 0) ≡ true → run ≡ run_of (get_or c at 0) (drop at c)
+      → (1 ≤ run) × (at + run ≤ length c) × (stretches_of form (drop at c) ≡ stretch (get_or c at 0) run ∷ stretches_of form (drop (at + run) c))
+  run-first c at run h runs e =
+      let occupant : ℕ = get_or c at 0 in
+      let rest : List ℕ = drop (suc at) c in
+      let n : run ≡ suc (run_of occupant rest) = e ∙ rw (drop-cons c at 0 h, eq-eqb occupant occupant refl) (omega arith) in
+      let few = prefix_len-le-length (λ next. eqb next occupant) rest in
+      let left = length-drop (suc at) c in (
+        omega arith,
+        omega arith,
+        ap (stretches_of form) (drop-cons c at 0 h) ∙ run-front occupant rest runs
+            ∙ ap₂ (λ (k : ℕ) (d : List ℕ). stretch occupant k ∷ stretches_of form d) (sym n) (drop-drop (run_of occupant rest) (suc at) c ∙ ap (λ (k : ℕ). drop k c) (omega arith)),
+      )

@@ -13,7 +13,6 @@ use Rattle.reply.specs.Number.{answered}
 use Rattle.reply.specs.First.{first_of, answer, ◌if◌}
 use Rattle.reply.proofs.Lowest.{lowest-given}
 use Rattle.reply.specs.declared.Refusal.TheVariants.{WrongSize, BadDeck}
-use Rattle.reply.specs.declared.Place.TheVariants.{Nowhere}
 use Rattle.deck.specs.Form.{Form, singles, runs}
 use Rattle.deck.specs.Forms.{form_of}
 use Rattle.deck.specs.Deck.{is_deck, misfit_of, configuration_of, deck_of}
@@ -22,13 +21,14 @@ use Rattle.deck.specs.Moving.{moved_words, MovesTo, move_checks, move_refused, m
 use Rattle.deck.specs.Theorems.{Decks, RefusesAsReading, Moves, given}
 use Rattle.deck.specs.declared.DeckForm.{DeckForm}
 use Rattle.deck.specs.declared.DeckForm.TheVariants.{Singles, Runs}
+use Rattle.std.specs.Prelude.{None}
 use Rattle.deck.proofs.Theorems.{singles-decks, runs-decks}
 
 -- ---- what the call answers, by its conditions
 
 module _ (from to : Form) (words lent : List ℕ) where
   module _ (size : length lent ≡ 129) (valid : is_deck from words ≡ true) where
-    figures-moved : move_figures from to words lent ≡ record { number = answered; count = length (moved_words from to words); place = Nowhere }
+    figures-moved : move_figures from to words lent ≡ record { number = answered; count = length (moved_words from to words); place = None }
     unfolding move_figures
     figures-moved = rw (eq-eqb (length lent) 129 size, valid)
 
@@ -45,7 +45,7 @@ module _ (from to : Form) (words lent : List ℕ) where
   move-admitted e = go (eqb (length lent) 129) refl (is_deck from words) refl e
     where
       go : (t : Bool) → eqb (length lent) 129 ≡ t → (u : Bool) → is_deck from words ≡ u
-          → (answer (first_of (WrongSize if not t ∷ BadDeck if not u ∷ [])) (move_refused (misfit_of from words)) (record { number = answered; count = length (moved_words from to words); place = Nowhere })).number ≡ answered
+          → (answer (first_of (WrongSize if not t ∷ BadDeck if not u ∷ [])) (move_refused (misfit_of from words)) (record { number = answered; count = length (moved_words from to words); place = None })).number ≡ answered
           → (length lent ≡ 129) × (is_deck from words ≡ true)
       go true t true u e = (eqb-true (length lent) 129 t, u)
       go true t false u e = absurd (omega arith)

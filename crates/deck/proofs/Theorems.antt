@@ -14,7 +14,6 @@ use Rattle.reply.specs.Number.{number_of, answered}
 use Rattle.reply.specs.First.{first_of, answer, ◌if◌}
 use Rattle.reply.proofs.Lowest.{lowest-given}
 use Rattle.reply.specs.declared.Refusal.TheVariants.{WrongSize, OutOfRange, BadDeck}
-use Rattle.reply.specs.declared.Place.TheVariants.{Nowhere, At}
 use Rattle.deck.specs.Form.{Form, Rules, singles, runs}
 use Rattle.deck.specs.Deck.{is_deck, FirstMisfit, misfit_of, configuration_of, deck_of, too_high}
 use Rattle.deck.specs.Reading.{ReadFigures, read_checks, read_refused, read_figures, read_entries}
@@ -25,6 +24,7 @@ use Rattle.deck.proofs.Runs.{runs-rules}
 use Rattle.deck.proofs.Decks.{deck-valid, deck-configuration, configuration-few, configuration-strands, configuration-deck}
 use Rattle.deck.proofs.Valid.{valid-right}
 use Rattle.deck.proofs.ValidRuns.{valid-runs-right}
+use Rattle.std.specs.Prelude.{None, Some}
 use Rattle.deck.proofs.Beginning.{begins-right, misfit-right}
 
 pub replies : (form : Form) → Replies form
@@ -38,7 +38,7 @@ replies form =
 
 module _ (form : Form) (words entries : List ℕ) where
   module _ (lent : length entries ≡ 128) where
-    figures-valid : is_deck form words ≡ true → read_figures form words entries ≡ record { number = answered; count = length (configuration_of form words); place = Nowhere }
+    figures-valid : is_deck form words ≡ true → read_figures form words entries ≡ record { number = answered; count = length (configuration_of form words); place = None }
     unfolding read_figures
     figures-valid d = rw (eq-eqb (length entries) 128 lent, d)
 
@@ -46,7 +46,7 @@ module _ (form : Form) (words entries : List ℕ) where
     unfolding read_entries
     entries-valid d = rw (eq-eqb (length entries) 128 lent, d)
 
-    figures-fault : is_deck form words ≡ false → read_figures form words entries ≡ record { number = number_of BadDeck; count = 0; place = At (misfit_of form words) }
+    figures-fault : is_deck form words ≡ false → read_figures form words entries ≡ record { number = number_of BadDeck; count = 0; place = Some (misfit_of form words) }
     unfolding read_figures
     figures-fault d = rw (eq-eqb (length entries) 128 lent, d)
 
@@ -55,7 +55,7 @@ module _ (form : Form) (words entries : List ℕ) where
   read-admitted e = go (eqb (length entries) 128) refl (is_deck form words) refl e
     where
       go : (t : Bool) → eqb (length entries) 128 ≡ t → (u : Bool) → is_deck form words ≡ u
-          → (answer (first_of (WrongSize if not t ∷ BadDeck if not u ∷ [])) (read_refused (misfit_of form words)) (record { number = answered; count = length (configuration_of form words); place = Nowhere })).number ≡ answered
+          → (answer (first_of (WrongSize if not t ∷ BadDeck if not u ∷ [])) (read_refused (misfit_of form words)) (record { number = answered; count = length (configuration_of form words); place = None })).number ≡ answered
           → (length entries ≡ 128) × (is_deck form words ≡ true)
       go true t true u e = (eqb-true (length entries) 128 t, u)
       go true t false u e = absurd (omega arith)
@@ -140,7 +140,7 @@ module _ (form : Form) (rules : Rules form) where
             refused = (λ m. d, λ f. n);
             place = λ i. (
               λ p. let q : misfit_of form words ≡ i = cc in (d, subst (FirstMisfit form words) q (misfit-right form rules words)),
-              λ p. ap (λ (f : ReadFigures). f.place) e ∙ ap At (sym (places.only words i p.1)),
+              λ p. ap (λ (f : ReadFigures). f.place) e ∙ ap Some (sym (places.only words i p.1)),
             );
           }
 

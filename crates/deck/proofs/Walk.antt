@@ -3,7 +3,7 @@ use mathlib.Core.Path.{◌≡◌, refl, sym, ap, ◌∙◌}
 use mathlib.Core.Bool.{Bool, true, false, cond, not, ◌&&◌, and-false}
 use mathlib.Core.List.{List, [], ◌∷◌, map}
 use Prim.Native.Nat.{ℕ, suc, ◌+◌, ◌-◌, ◌≤◌, ◌<◌}
-use native.Mathlib.Nat.{add-zero, not-suc-le-zero}
+use native.Mathlib.Nat.{add-zero}
 use native.Mathlib.Numerals.{add-one}
 use native.Mathlib.Omega.{arith}
 use lib.Dec.{leb, eqb}
@@ -14,12 +14,11 @@ use Rattle.lists.specs.Find.{first_index}
 use Rattle.lists.specs.Front.{beginnings}
 use Rattle.lists.proofs.Find.{first-map, first-same}
 use Rattle.lists.proofs.Front.{beginnings-map}
-use Rattle.reply.specs.declared.Place.{Place}
-use Rattle.reply.specs.declared.Place.TheVariants.{Nowhere, At}
 use Rattle.deck.specs.Word.{payload_of}
 use Rattle.deck.specs.Form.{Form, nothing, may_follow}
 use Rattle.deck.specs.Deck.{is_first, follow, positions, is_deck, begins, does_not_begin, misfit_of}
 use Rattle.deck.specs.inner.Fault.{fault_of}
+use Rattle.std.specs.Prelude.{Option, None, Some}
 use Rattle.deck.specs.declared.form.Stretch.{Stretch}
 
 -- r positions out of those that are left, and p more
@@ -50,9 +49,9 @@ module _ (form : Form) where
   fits before left s = may_follow form before s && leb s.run left
 
   -- the stretches from place i on: where the first that does not fit is, or where they end with positions left
-  pub walk : ℕ → Stretch → ℕ → List Stretch → Place
-  walk i before left [] = cond (eqb 0 left) Nowhere (At i)
-  walk i before left (s ∷ ss) = cond (fits before left s) (walk (i + 1) s (left - s.run) ss) (At i)
+  pub walk : ℕ → Stretch → ℕ → List Stretch → Option ℕ
+  walk i before left [] = cond (eqb 0 left) None (Some i)
+  walk i before left (s ∷ ss) = cond (fits before left s) (walk (i + 1) s (left - s.run) ss) (Some i)
 
   -- ---- the tests of a deck and of a beginning, by way of the first stretch
 
@@ -110,15 +109,15 @@ module _ (form : Form) where
       ∙ first-same (λ b. not_begun before left (s ∷ b)) (not_begun s (left - s.run)) (λ b. ap not (begun-on before left s b e)) (beginnings ss)))
 
   -- going through the stretches finds it
-  walk-right : (i : ℕ) (before : Stretch) (left : ℕ) (ss : List Stretch) → walk i before left ss ≡ cond (complete before left ss) Nowhere (At (i + misfit before left ss))
+  walk-right : (i : ℕ) (before : Stretch) (left : ℕ) (ss : List Stretch) → walk i before left ss ≡ cond (complete before left ss) None (Some (i + misfit before left ss))
   unfolding walk complete ends follow positions misfit first_index beginnings
   walk-right i before left [] = rw add-zero
   walk-right i before left (s ∷ ss) = go (fits before left s) refl (walk-right (i + 1) s (left - s.run) ss)
     where
       go : (t : Bool) → fits before left s ≡ t
-          → walk (i + 1) s (left - s.run) ss ≡ cond (complete s (left - s.run) ss) Nowhere (At (i + 1 + misfit s (left - s.run) ss))
-          → cond t (walk (i + 1) s (left - s.run) ss) (At i) ≡ cond (complete before left (s ∷ ss)) Nowhere (At (i + misfit before left (s ∷ ss)))
-      go true e rest = rw (complete-step before left s ss, e, misfit-later before left s ss e) (rest ∙ ap (λ (k : ℕ). cond (complete s (left - s.run) ss) Nowhere (At k)) (omega arith))
+          → walk (i + 1) s (left - s.run) ss ≡ cond (complete s (left - s.run) ss) None (Some (i + 1 + misfit s (left - s.run) ss))
+          → cond t (walk (i + 1) s (left - s.run) ss) (Some i) ≡ cond (complete before left (s ∷ ss)) None (Some (i + misfit before left (s ∷ ss)))
+      go true e rest = rw (complete-step before left s ss, e, misfit-later before left s ss e) (rest ∙ ap (λ (k : ℕ). cond (complete s (left - s.run) ss) None (Some k)) (omega arith))
       go false e rest = rw (complete-step before left s ss, e, misfit-here before left s ss e, add-zero)
 
   -- ---- where a deck's fault is
@@ -142,51 +141,35 @@ module _ (form : Form) where
         ∙ sym (first-map test (map form.stretch_of) (beginnings rest))
         ∙ ap (first_index test) (sym (beginnings-map form.stretch_of rest))))
 
-    fault-walk : fault_of form (first ∷ rest) ≡ walk 1 nothing (payload_of first) (map form.stretch_of rest)
+    -- where going through the words after the first finds it
+    pub fault-walk : fault_of form (first ∷ rest) ≡ walk 1 nothing (payload_of first) (map form.stretch_of rest)
     unfolding fault_of
     fault-walk =
         let ss = map form.stretch_of rest in
         rw (deck-complete, misfit-words)
-        (ap (λ (k : ℕ). cond (complete nothing (payload_of first) ss) Nowhere (At k)) (omega arith) ∙ sym (walk-right 1 nothing (payload_of first) ss))
+        (ap (λ (k : ℕ). cond (complete nothing (payload_of first) ss) None (Some k)) (omega arith) ∙ sym (walk-right 1 nothing (payload_of first) ss))
 
-  module _ (words : List ℕ) where
-    -- no words: the fault is at their count
-    pub fault-none : length words ≡ 0 → fault_of form words ≡ At 0
-    unfolding fault_of is_deck misfit_of first_index beginnings
-    fault-none e = go words e
-      where
-        go : (ws : List ℕ) → length ws ≡ 0 → fault_of form ws ≡ At 0
-        go [] e = refl
-        go (w ∷ ws) e = absurd (omega arith)
+  -- no words: the fault is at their count
+  pub fault-none : fault_of form [] ≡ Some 0
+  unfolding fault_of is_deck misfit_of first_index beginnings
+  fault-none = refl
 
-    -- a first word that is none
-    pub fault-first : 0 < length words → is_first (get_or words 0 0) ≡ false → fault_of form words ≡ At 0
-    unfolding fault_of is_deck misfit_of first_index beginnings begins
-    fault-first = go words
-      where
-        go : (ws : List ℕ) → 0 < length ws → is_first (get_or ws 0 0) ≡ false → fault_of form ws ≡ At 0
-        go [] h e = absurd (not-suc-le-zero h)
-        go (w ∷ ws) h e = rw e
+  -- a first word that is none
+  pub fault-first : (first : ℕ) (rest : List ℕ) → is_first first ≡ false → fault_of form (first ∷ rest) ≡ Some 0
+  unfolding fault_of is_deck misfit_of first_index beginnings begins
+  fault-first first rest e = rw e
 
-    -- otherwise it is where going through the rest finds it
-    pub fault-rest : 0 < length words → is_first (get_or words 0 0) ≡ true → fault_of form words ≡ walk 1 nothing (payload_of (get_or words 0 0)) (map form.stretch_of (drop 1 words))
-    fault-rest = go words
-      where
-        go : (ws : List ℕ) → 0 < length ws → is_first (get_or ws 0 0) ≡ true → fault_of form ws ≡ walk 1 nothing (payload_of (get_or ws 0 0)) (map form.stretch_of (drop 1 ws))
-        go [] h e = absurd (not-suc-le-zero h)
-        go (w ∷ ws) h e = fault-walk w ws e
+  -- one word further
+  module _ (rest : List ℕ) (i : ℕ) (before : Stretch) (left : ℕ) where
+    pub walk-on : i < length rest → fits before left (form.stretch_of (get_or rest i 0)) ≡ true
+        → walk (i + 1) before left (map form.stretch_of (drop i rest)) ≡ walk (i + 1 + 1) (form.stretch_of (get_or rest i 0)) (left - (form.stretch_of (get_or rest i 0)).run) (map form.stretch_of (drop (i + 1) rest))
+    unfolding walk
+    walk-on h e = rw (drop-cons rest i 0 h, e) (ap (λ (k : ℕ). walk (i + 1 + 1) (form.stretch_of (get_or rest i 0)) (left - (form.stretch_of (get_or rest i 0)).run) (map form.stretch_of (drop k rest))) (sym (add-one i)))
 
-    -- one word further
-    module _ (i : ℕ) (before : Stretch) (left : ℕ) where
-      pub walk-on : i < length words → fits before left (form.stretch_of (get_or words i 0)) ≡ true
-          → walk i before left (map form.stretch_of (drop i words)) ≡ walk (i + 1) (form.stretch_of (get_or words i 0)) (left - (form.stretch_of (get_or words i 0)).run) (map form.stretch_of (drop (i + 1) words))
-      unfolding walk
-      walk-on h e = rw (drop-cons words i 0 h, e, add-one)
+    pub walk-stops : i < length rest → fits before left (form.stretch_of (get_or rest i 0)) ≡ false → walk (i + 1) before left (map form.stretch_of (drop i rest)) ≡ Some (i + 1)
+    unfolding walk
+    walk-stops h e = rw (drop-cons rest i 0 h, e)
 
-      pub walk-stops : i < length words → fits before left (form.stretch_of (get_or words i 0)) ≡ false → walk i before left (map form.stretch_of (drop i words)) ≡ At i
-      unfolding walk
-      walk-stops h e = rw (drop-cons words i 0 h, e)
-
-      pub walk_ends : length words ≤ i → walk i before left (map form.stretch_of (drop i words)) ≡ cond (eqb 0 left) Nowhere (At i)
-      unfolding walk
-      walk_ends h = rw (drop_of_length-le words h)
+    pub walk_ends : length rest ≤ i → walk (i + 1) before left (map form.stretch_of (drop i rest)) ≡ cond (eqb 0 left) None (Some (i + 1))
+    unfolding walk
+    walk_ends h = rw (drop_of_length-le rest h)

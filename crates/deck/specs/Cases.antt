@@ -1,9 +1,8 @@
 -- Decks of document 01's form and what reading them answers, and configurations and what writing them answers, worked out by hand and computed
 -- from the definitions. The numbers are document 01's own, written out.
-use Rattle.std.specs.Prelude.{List, [], ◌∷◌, map, ◌≡◌, refl, ℕ, replicate}
+use Rattle.std.specs.Prelude.{List, [], ◌∷◌, map, ◌≡◌, refl, ℕ, replicate, None, Some}
 use Rattle.lists.specs.Find.{first_index, any}
 use Rattle.lists.specs.Front.{beginnings}
-use Rattle.reply.specs.declared.Place.TheVariants.{Nowhere, At}
 use Rattle.deck.specs.Form.{singles}
 use Rattle.deck.specs.Deck.{follow, positions, is_deck, begins, misfit_of, laid_out, configuration_of, stretches_of, deck_of}
 use Rattle.deck.specs.Reading.{ReadFigures, read_figures}
@@ -23,11 +22,11 @@ words is figures = record { words = words; figures = figures }
 
 -- an answer with so many positions
 abbrev pub configuration : ℕ → ReadFigures
-configuration count = record { number = 0; count = count; place = Nowhere }
+configuration count = record { number = 0; count = count; place = None }
 
 -- refusal 14 with its place
 abbrev pub fault : ℕ → ReadFigures
-fault place = record { number = 14; count = 0; place = At place }
+fault place = record { number = 14; count = 0; place = Some place }
 
 -- so many words of strand 1
 abbrev pub strands : ℕ → List ℕ
@@ -69,7 +68,7 @@ unfolding read_figures is_deck begins follow positions misfit_of first_index beg
 cases-right = refl
 
 -- 1 where another number of entries is lent, though the words are no deck
-pub entries-lent : read_figures singles [] (replicate 127 0) ≡ record { number = 1; count = 0; place = Nowhere }
+pub entries-lent : read_figures singles [] (replicate 127 0) ≡ record { number = 1; count = 0; place = None }
 unfolding read_figures
 entries-lent = refl
 

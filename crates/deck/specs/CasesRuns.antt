@@ -1,9 +1,8 @@
 -- Decks with runs and what reading, writing and moving them answers, worked out by hand and computed from the definitions. The numbers are
 -- written out.
-use Rattle.std.specs.Prelude.{List, [], ◌∷◌, map, ◌≡◌, refl, ℕ, replicate}
+use Rattle.std.specs.Prelude.{List, [], ◌∷◌, map, ◌≡◌, refl, ℕ, replicate, None, Some}
 use Rattle.lists.specs.Find.{first_index}
 use Rattle.lists.specs.Front.{beginnings}
-use Rattle.reply.specs.declared.Place.TheVariants.{Nowhere, At}
 use Rattle.deck.specs.Form.{singles, runs}
 use Rattle.deck.specs.Deck.{follow, positions, is_deck, begins, misfit_of, laid_out, configuration_of, stretches_of, deck_of}
 use Rattle.deck.specs.Reading.{ReadFigures, read_figures}
@@ -98,15 +97,15 @@ unfolding configuration_of laid_out deck_of stretches_of
 moved-right = refl
 
 -- a fault is moved with its number and its place, by the rules of the deck's own form
-pub moved-fault : move_figures runs singles (0x1000_0002 ∷ 0x4000_0041 ∷ 0x4000_0002 ∷ []) (replicate 129 0) ≡ record { number = 14; count = 0; place = At 2 }
+pub moved-fault : move_figures runs singles (0x1000_0002 ∷ 0x4000_0041 ∷ 0x4000_0002 ∷ []) (replicate 129 0) ≡ record { number = 14; count = 0; place = Some 2 }
 unfolding move_figures is_deck begins follow positions misfit_of first_index beginnings
 moved-fault = refl
 
 -- 1 where another number of words is lent, though the words are no deck
-pub words-lent : move_figures runs singles [] (replicate 128 0) ≡ record { number = 1; count = 0; place = Nowhere }
+pub words-lent : move_figures runs singles [] (replicate 128 0) ≡ record { number = 1; count = 0; place = None }
 unfolding move_figures
 words-lent = refl
 
-pub moved-count : move_figures singles runs (0x1000_0002 ∷ 0x2000_0001 ∷ 0x2000_0001 ∷ []) (replicate 129 0) ≡ record { number = 0; count = 2; place = Nowhere }
+pub moved-count : move_figures singles runs (0x1000_0002 ∷ 0x2000_0001 ∷ 0x2000_0001 ∷ []) (replicate 129 0) ≡ record { number = 0; count = 2; place = None }
 unfolding move_figures is_deck follow positions configuration_of laid_out deck_of stretches_of
 moved-count = refl

@@ -1,27 +1,23 @@
 -- What reading a deck answers, and what its lent entries then hold.
-use Rattle.std.specs.Prelude.{Bool, cond, not, List, [], ◌∷◌, ℕ, eqb, length}
+use Rattle.std.specs.Prelude.{Bool, cond, not, List, [], ◌∷◌, ℕ, eqb, length, Option, None, Some, Result, Ok, Err}
 use Rattle.lists.specs.Front.{over}
-use Rattle.reply.specs.Number.{number_of, answered}
+use Rattle.reply.specs.Number.{number_of, answered, Reply}
 use Rattle.reply.specs.First.{Check, ◌if◌, first_of, answer}
 use Rattle.reply.specs.declared.Refusal.TheVariants.{WrongSize, BadDeck}
-use Rattle.reply.specs.declared.Reply.{Reply}
-use Rattle.reply.specs.declared.Place.{Place}
-use Rattle.reply.specs.declared.Place.TheVariants.{Nowhere, At}
+use Rattle.reply.specs.declared.Refused.{Refused}
 use Rattle.deck.specs.Form.{Form}
 use Rattle.deck.specs.Deck.{is_deck, misfit_of, configuration_of}
-use Rattle.deck.specs.declared.DeckRead.{DeckRead}
-use Rattle.deck.specs.declared.DeckRead.TheVariants.{Positions, Refused}
 
 -- document 01's number, the number of positions, and the place of the fault
 pub record ReadFigures : Type 0 where
   pub number : ℕ
   pub count : ℕ
-  pub place : Place
+  pub place : Option ℕ
 
 -- the figures of what the call answers
-abbrev pub read_figures_of : DeckRead → ReadFigures
-read_figures_of (Positions count) = record { number = answered; count = count; place = Nowhere }
-read_figures_of (Refused refusal place) = record { number = number_of refusal; count = 0; place = place }
+abbrev pub read_figures_of : Result ℕ Refused → ReadFigures
+read_figures_of (Ok count) = record { number = answered; count = count; place = None }
+read_figures_of (Err e) = record { number = number_of e.refusal; count = 0; place = e.place }
 
 -- "reading lends 128 entries"
 abbrev pub wrong_entries : List ℕ → Bool
@@ -41,13 +37,13 @@ read_reply form words entries = first_of (read_checks form words entries)
 
 -- "a refusal carries no other figure, except that 14 also gives a word place"
 abbrev pub read_refused : ℕ → ℕ → ReadFigures
-read_refused place number = record { number = number; count = 0; place = cond (eqb number (number_of BadDeck)) (At place) Nowhere }
+read_refused place number = record { number = number; count = 0; place = cond (eqb number (number_of BadDeck)) (Some place) None }
 
 -- what reading answers
 unfoldable pub read_figures : Form → List ℕ → List ℕ → ReadFigures
 read_figures form words entries =
     answer (read_reply form words entries) (read_refused (misfit_of form words))
-    (record { number = answered; count = length (configuration_of form words); place = Nowhere })
+    (record { number = answered; count = length (configuration_of form words); place = None })
 
 -- "entries past the result keep their contents", and all do on a refusal
 unfoldable pub read_entries : Form → List ℕ → List ℕ → List ℕ

@@ -1,12 +1,11 @@
 -- What is shown of decks, each fact as a field. proofs/Theorems.antt and proofs/Moves.antt show them of every form that keeps `Rules`, and of
 -- `singles` and `runs`.
-use Rattle.std.specs.Prelude.{true, false, List, ◌↔◌, ◌≡◌, ℕ, ◌≤◌, length, take}
+use Rattle.std.specs.Prelude.{true, false, List, ◌↔◌, ◌≡◌, ℕ, ◌≤◌, length, take, None, Some}
 use Rattle.lists.specs.Find.{any}
 use Rattle.lists.specs.Front.{over}
 use Rattle.reply.specs.Number.{number_of, answered}
 use Rattle.reply.specs.First.{LowestGiven}
 use Rattle.reply.specs.declared.Refusal.TheVariants.{BadDeck}
-use Rattle.reply.specs.declared.Place.TheVariants.{Nowhere, At}
 use Rattle.deck.specs.Form.{Form, singles, runs}
 use Rattle.deck.specs.Deck.{is_deck, CanBegin, begins, FirstMisfit, misfit_of, configuration_of, deck_of, too_high}
 use Rattle.deck.specs.Valid.{ValidDeck}
@@ -70,7 +69,7 @@ pub record Replies (form : Form) : Type 0 where
 pub record Refusals (form : Form) (words entries : List ℕ) : Type 0 where
   pub admitted : ((read_figures form words entries).number ≡ answered) ↔ (is_deck form words ≡ true)
   pub refused : ((read_figures form words entries).number ≡ number_of BadDeck) ↔ (is_deck form words ≡ false)
-  pub place : (i : ℕ) → ((read_figures form words entries).place ≡ At i) ↔ ((is_deck form words ≡ false) × FirstMisfit form words i)
+  pub place : (i : ℕ) → ((read_figures form words entries).place ≡ Some i) ↔ ((is_deck form words ≡ false) × FirstMisfit form words i)
 
 -- the first lent entries, as many as a call says
 abbrev pub given : ℕ → List ℕ → List ℕ
@@ -79,7 +78,7 @@ given = take
 -- what writing gave, read
 pub record WriteThenRead (form : Form) (configuration words entries : List ℕ) : Type 0 where
   pub figures : read_figures form (given (write_figures form configuration words).count (write_words form configuration words)) entries
-      ≡ record { number = answered; count = length configuration; place = Nowhere }
+      ≡ record { number = answered; count = length configuration; place = None }
   pub lent : read_entries form (given (write_figures form configuration words).count (write_words form configuration words)) entries ≡ over configuration entries
 
 -- what reading gave, written
@@ -106,7 +105,7 @@ pub record RefusesAsReading (from to : Form) (words entries lent : List ℕ) : T
 -- what moving gave, moved back
 pub record MoveThenBack (from to : Form) (words lent again : List ℕ) : Type 0 where
   pub figures : move_figures to from (given (move_figures from to words lent).count (move_words from to words lent)) again
-      ≡ record { number = answered; count = length words; place = Nowhere }
+      ≡ record { number = answered; count = length words; place = None }
   pub written : move_words to from (given (move_figures from to words lent).count (move_words from to words lent)) again ≡ over words again
 
 -- a valid deck moves to that of the same configuration in the other form, and from there back to the same words

@@ -1,15 +1,13 @@
 -- What writing a deck answers, and what its lent words then hold.
-use Rattle.std.specs.Prelude.{Bool, not, ◌||◌, List, [], ◌∷◌, ℕ, ltb, eqb, length}
+use Rattle.std.specs.Prelude.{Bool, not, ◌||◌, List, [], ◌∷◌, ℕ, ltb, eqb, length, Result, Ok, Err}
 use Rattle.lists.specs.Find.{any}
 use Rattle.lists.specs.Front.{over}
-use Rattle.reply.specs.Number.{number_of, answered}
+use Rattle.reply.specs.Number.{number_of, answered, Reply}
 use Rattle.reply.specs.First.{Check, ◌if◌, first_of, answer}
+use Rattle.reply.specs.declared.Refusal.{Refusal}
 use Rattle.reply.specs.declared.Refusal.TheVariants.{WrongSize, OutOfRange}
-use Rattle.reply.specs.declared.Reply.{Reply}
 use Rattle.deck.specs.Form.{Form}
 use Rattle.deck.specs.Deck.{deck_of, too_high}
-use Rattle.deck.specs.declared.DeckWritten.{DeckWritten}
-use Rattle.deck.specs.declared.DeckWritten.TheVariants.{Words, Refused}
 
 -- document 01's number, and the number of words
 pub record WriteFigures : Type 0 where
@@ -21,9 +19,9 @@ abbrev pub write_refused : ℕ → WriteFigures
 write_refused number = record { number = number; count = 0 }
 
 -- the figures of what the call answers
-abbrev pub write_figures_of : DeckWritten → WriteFigures
-write_figures_of (Words count) = record { number = answered; count = count }
-write_figures_of (Refused refusal) = write_refused (number_of refusal)
+abbrev pub write_figures_of : Result ℕ Refusal → WriteFigures
+write_figures_of (Ok count) = record { number = answered; count = count }
+write_figures_of (Err refusal) = write_refused (number_of refusal)
 
 -- "scaffold 0 to 128 positions", "writing 129 words"
 abbrev pub wrong_lengths : List ℕ → List ℕ → Bool

@@ -54,9 +54,7 @@ impl Stretch {
     fn of_singles(bits: u32) -> Self
         ensures { result ≡ singles.stretch_of bits }
     {
-        let word = Word::of(bits);
-        let kind = word.kind;
-        let payload = word.payload;
+        let Word { kind, payload } = Word::of(bits);
         match kind {
             STRAND => Stretch::one_strand(payload),
             EMPTIES => Stretch {
@@ -71,10 +69,7 @@ impl Stretch {
     fn one_strand(payload: u32) -> Self
         ensures { result ≡ one_strand payload }
     {
-        if payload == 0 {
-            return Stretch::nothing();
-        }
-        if payload > LAST_STRAND as u32 {
+        if payload == 0 || payload > u32::from(LAST_STRAND) {
             return Stretch::nothing();
         }
         Stretch {
@@ -87,9 +82,7 @@ impl Stretch {
     fn of_runs(bits: u32) -> Self
         ensures { result ≡ runs.stretch_of bits }
     {
-        let word = Word::of(bits);
-        let kind = word.kind;
-        let payload = word.payload;
+        let Word { kind, payload } = Word::of(bits);
         match kind {
             EMPTIES => Stretch {
                 occupant: 0,
@@ -129,12 +122,12 @@ impl Stretch {
         match form {
             DeckForm::Singles => Word {
                 kind: STRAND,
-                payload: self.occupant as u32,
+                payload: u32::from(self.occupant),
             }
             .bits(),
             DeckForm::Runs => Word {
                 kind: STRAND_RUN,
-                payload: self.occupant as u32 + STRAND_NUMBERS * (self.run - 1) as u32,
+                payload: u32::from(self.occupant) + STRAND_NUMBERS * (self.run - 1) as u32,
             }
             .bits(),
         }
@@ -144,15 +137,7 @@ impl Stretch {
     pub(crate) fn may_follow(self, form: DeckForm, before: Stretch) -> bool
         ensures { result ≡ may_follow (form_of form) before self }
     {
-        if self.run == 0 {
-            return false;
-        }
-        if before.run == 0 {
-            return true;
-        }
-        if before.occupant != self.occupant {
-            return true;
-        }
-        !form.in_runs(self.occupant)
+        self.run != 0
+            && (before.run == 0 || before.occupant != self.occupant || !form.in_runs(self.occupant))
     }
 }

@@ -1,5 +1,5 @@
 // Reading a deck's words: the place of a fault, and the configuration that a valid deck stands for.
-ghost use Rattle.std.specs.Prelude.{◌≡◌, true, ◌+◌, ◌≤◌, length, replicate};
+ghost use Rattle.std.specs.Prelude.{◌≡◌, true, length};
 ghost use Rattle.std.proofs.lemmas.List.Edits.{sets};
 ghost use Rattle.deck.specs.Forms.{form_of};
 ghost use Rattle.deck.specs.Deck.{is_deck, configuration_of};
@@ -8,42 +8,29 @@ ghost use Rattle.deck.specs.inner.Fault.{fault_of};
 use super::DeckForm;
 use super::form::{FIRST, POSITIONS, Stretch};
 use super::word::Word;
-use reply::Place;
 
-// The place of the fault, and nowhere in a valid deck.
-pub(crate) fn fault(form: DeckForm, words: &[u32]) -> Place
+// The place of the fault, and none in a valid deck.
+pub(crate) fn fault(form: DeckForm, words: &[u32]) -> Option<usize>
     ensures { result ≡ fault_of (form_of form) words.now }
 {
-    if words.len() == 0 {
-        return Place::At(0);
-    }
-    let first = Word::of(words[0]);
-    if first.kind != FIRST {
-        return Place::At(0);
-    }
+    let Some((first, rest)) = words.split_first() else {
+        return Some(0);
+    };
+    let first = Word::of(*first);
     let mut left = first.payload as usize;
-    if POSITIONS < left {
-        return Place::At(0);
+    if first.kind != FIRST || POSITIONS < left {
+        return Some(0);
     }
     let mut before = Stretch::nothing();
-    let mut i = 1;
-    while i < words.len() {
-        let here = Stretch::of(form, words[i]);
-        if !here.may_follow(form, before) {
-            return Place::At(i);
-        }
-        if left < here.run {
-            return Place::At(i);
+    for (i, word) in rest.iter().enumerate() {
+        let here = Stretch::of(form, *word);
+        if !here.may_follow(form, before) || left < here.run {
+            return Some(i + 1);
         }
         left -= here.run;
         before = here;
-        i += 1;
     }
-    if left == 0 {
-        Place::Nowhere
-    } else {
-        Place::At(words.len())
-    }
+    if left == 0 { None } else { Some(words.len()) }
 }
 
 // The configuration of a valid deck, and its number of positions.
@@ -51,26 +38,13 @@ pub(crate) fn unpack(form: DeckForm, words: &[u32], entries: &mut [u8]) -> usize
     requires { (is_deck (form_of form) words.now ≡ true) × (length entries.old ≡ 128) }
     ensures { (result ≡ length (configuration_of (form_of form) words.now)) × (entries.new ≡ sets entries.old 0 (configuration_of (form_of form) words.now)) }
 {
+    let (_, rest) = words.split_at(1);
     let mut at = 0;
-    let mut i = 1;
-    while i < words.len() {
-        at = lay(entries, at, Stretch::of(form, words[i]));
-        i += 1;
+    for word in rest {
+        let stretch = Stretch::of(form, *word);
+        let end = at + stretch.run;
+        entries[at..end].fill(stretch.occupant);
+        at = end;
     }
     at
-}
-
-// A stretch laid out from a position on, and the position after it.
-fn lay(entries: &mut [u8], at: usize, stretch: Stretch) -> usize
-    requires { at + stretch.run ≤ length entries.old }
-    ensures { (result ≡ at + stretch.run) × (entries.new ≡ sets entries.old at (replicate stretch.run stretch.occupant)) }
-{
-    let occupant = stretch.occupant;
-    let end = at + stretch.run;
-    let mut i = at;
-    while i < end {
-        entries[i] = occupant;
-        i += 1;
-    }
-    end
 }

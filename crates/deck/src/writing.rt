@@ -1,7 +1,7 @@
 // Writing the deck of a configuration.
 ghost use Rattle.std.specs.Prelude.{◌≡◌, ◌∷◌, ◌+◌, ◌≤◌, ◌<◌, length, get_or, drop};
 ghost use Rattle.std.proofs.lemmas.List.Edits.{sets};
-ghost use Rattle.lists.specs.Find.{first_index};
+ghost use Rattle.lists.specs.Find.{any};
 ghost use Rattle.deck.specs.Form.{stretch};
 ghost use Rattle.deck.specs.Forms.{form_of};
 ghost use Rattle.deck.specs.Deck.{deck_of, stretches_of, too_high};
@@ -10,18 +10,11 @@ use super::DeckForm;
 use super::form::{FIRST, LAST_STRAND, Stretch};
 use super::word::Word;
 
-// The place of the first entry above the highest strand number, and the length if there is none.
-pub(crate) fn first_too_high(configuration: &[u8]) -> usize
-    ensures { result ≡ first_index too_high configuration.now }
+// Whether an entry is above the highest strand number.
+pub(crate) fn some_too_high(configuration: &[u8]) -> bool
+    ensures { result ≡ any too_high configuration.now }
 {
-    let mut i = 0;
-    while i < configuration.len() {
-        if configuration[i] > LAST_STRAND {
-            return i;
-        }
-        i += 1;
-    }
-    i
+    configuration.iter().any(|occupant| *occupant > LAST_STRAND)
 }
 
 // The deck of a configuration, and its number of words.
@@ -58,12 +51,9 @@ fn run_at(form: DeckForm, configuration: &[u8], at: usize) -> usize
     if !form.in_runs(occupant) {
         return 1;
     }
-    let mut end = at + 1;
-    while end < configuration.len() {
-        if configuration[end] != occupant {
-            return end - at;
-        }
-        end += 1;
-    }
-    end - at
+    configuration
+        .iter()
+        .skip(at)
+        .take_while(|next| **next == occupant)
+        .count()
 }

@@ -15,7 +15,6 @@ use Rattle.doubles.proofs.Sums.{weaken}
 use Rattle.doubles.proofs.Bounds.{zero-within}
 use Rattle.reply.specs.First.{◌if◌, first_of}
 use Rattle.reply.specs.declared.Refusal.TheVariants.{NotAFriend}
-use Rattle.reply.specs.declared.Reply.TheVariants as Reply
 use Rattle.reply.proofs.First.{passes}
 use Rattle.reply.proofs.Figures.{by-reply}
 use Rattle.model.specs.Model.{State}
@@ -28,6 +27,7 @@ use Rattle.design.specs.Laws.{Doubles}
 use Rattle.design.specs.Finite.{DesignFinite}
 use Rattle.design.proofs.FriendLaws.{friends-right}
 use Rattle.design.proofs.BoundLaws.{strand-bond-within, scaffold-bond-within, bounds-right}
+use Rattle.std.specs.Prelude.{Ok}
 use Rattle.design.proofs.Replies.{passed}
 
 -- ---- a configuration that a call takes is a state
@@ -36,7 +36,7 @@ pub record Taken (d : Design) (s : List ℕ) : Type 0 where
   pub admitted : Admitted d
   pub state : State (model_of d) s
 
-pub taken : (d : Design) (s : List ℕ) → first_of (energy_checks d s) ≡ Reply.Admitted → Taken d s
+pub taken : (d : Design) (s : List ℕ) → first_of (energy_checks d s) ≡ Ok tt → Taken d s
 taken d s e =
     let p = passed (not (eqb (length s) (positions d))) d (own_energy_checks d s) [] e in
     let sized : length s ≡ positions d = eqb-true _ _ (not-false _ p.size) in

@@ -1,5 +1,5 @@
 -- Cells that hold their bonds: a cell that is stored, and what a search reads of them. Assumes nothing.
-use mathlib.Core.Path.{◌≡◌, refl, ◌∙◌}
+use mathlib.Core.Path.{◌≡◌, refl, sym, ◌∙◌}
 use mathlib.Core.List.{List}
 use Prim.Native.Nat.{ℕ, ◌+◌, ◌*◌, ◌-◌, ◌<◌, ◌≤◌}
 use native.Mathlib.Decide.{ℕ_discrete, dec_lt}
@@ -111,3 +111,9 @@ module _ (bond : ℕ → ℕ → Float) {strands : ℕ} {rows counts : List ℕ}
         let inside : j < n = omega arith in
         let held = new j (rw (part-whole w i here n (omega arith)) inside) k (rw (part-whole w (i + 1) next m (omega arith)) (omega arith)) in
         rw (option-part w i here n (omega arith) j inside, option-part w (i + 1) next m (omega arith) k (omega arith)) at held) p h j k l q
+
+    -- the same, by the right one of the two
+    pub pairs-next : (right : ℕ) → i + 1 ≡ right → right < length counts → (n m : ℕ) → n ≡ get_or counts i 0 → m + 1 ≡ get_or counts right 0
+        → ((j : ℕ) → j < length (take n (drop (64 * i) rows)) → HeldAt bond strands after (get_or (take n (drop (64 * i) rows)) j 0) (take m (drop (64 * right) rows)) (length (take m (drop (64 * right) rows))))
+        → PairsHeld bond strands before rows counts i → PairsHeld bond strands after rows counts right
+    pairs-next right same = rw (sym same) (pairs-more)

@@ -1,3 +1,4 @@
+pub mod Searches
 pub mod Sizes
 pub mod Parts
 pub mod Optioned

@@ -25,7 +25,6 @@ use Rattle.doubles.proofs.Bounds.{Rt, rt-range, zero-within}
 use Rattle.model.specs.TwoEnergies.{NullBonds}
 use Rattle.model.proofs.TwoEnergies.{zero-parts, two-energies}
 use Rattle.reply.specs.First.{first_of}
-use Rattle.reply.specs.declared.Reply.{Reply}
 use Rattle.design.specs.Design.{Design, strands, west, bottom, east, cell, binding, bond_of, strand_bond, strand_bond_in, model_of}
 use Rattle.design.specs.Checks.{Admitted, null_glued, null_cells, null_binds, energy_checks}
 use Rattle.design.specs.Answers.{state_energy_answer, chain_energy_answer}
@@ -33,6 +32,8 @@ use Rattle.design.specs.Laws.{Doubles}
 use Rattle.design.specs.TwoEnergies.{AdmittedNear, FiguresNear}
 use Rattle.design.proofs.Sizes.{Sized, sized}
 use Rattle.design.proofs.BoundLaws.{dg-in, ds-in, rt-in, excesses-in, not_beyond, strand-bond-within, bounds-right}
+use Rattle.std.specs.Prelude.{Ok, Err}
+use Rattle.reply.specs.Number.{Reply}
 use Rattle.design.proofs.Finite.{taken}
 
 -- nothing over zero, and nothing under it
@@ -152,5 +153,5 @@ pub figures-near : FiguresNear
 figures-near d doubles s = go (first_of (energy_checks d s)) refl
   where
     go : (reply : Reply) → first_of (energy_checks d s) ≡ reply → Near binary64 (two_to_minus binary64 16) (state_energy_answer d s).figure (chain_energy_answer d s).figure.times_rt
-    go Reply.Admitted e = let t = taken d s e in rw e ((admitted-near d doubles t.admitted).states s t.state)
-    go (Reply.Refused why place) e = rw e (zeros-near (two_to_minus binary64 16))
+    go (Ok u) e = let t = taken d s e in rw e ((admitted-near d doubles t.admitted).states s t.state)
+    go (Err refused) e = rw e (zeros-near (two_to_minus binary64 16))

@@ -19,7 +19,6 @@ use Rattle.doubles.specs.Decimal.{zero}
 use Rattle.reply.specs.First.{Check, ◌if◌, first_of}
 use Rattle.reply.specs.Figures.{figures_of, entries_of}
 use Rattle.reply.specs.declared.Refusal.TheVariants.{NotAFriend, TooManyStates, RankTooHigh}
-use Rattle.reply.specs.declared.Reply.TheVariants as Reply
 use Rattle.reply.proofs.Figures.{same-figures, same_entries}
 use Rattle.model.specs.Read.{SameRead, Alike}
 use Rattle.model.proofs.Read.{only-friends-read}
@@ -28,6 +27,7 @@ use Rattle.design.specs.Checks.{beyond, friend_at, somewhere, unfit, wrong_sizes
 use Rattle.design.specs.Answers.{no_chain}
 use Rattle.design.specs.Unread.{with_potentials, ReadAlike, AnswersAlike, UnreadPotentials}
 use Rattle.design.proofs.FriendLaws.{tested-friend}
+use Rattle.std.specs.Prelude.{Ok}
 use Rattle.design.proofs.Finite.{taken}
 
 -- ---- tests of the numbers below n that agree
@@ -144,10 +144,10 @@ module _ (d : Design) (potentials : List Float) (r : ReadAlike d potentials) whe
 
   -- ---- the answers
 
-  answered : {A : Type 0} (xs ys : List Check) (blank x y : A) → xs ≡ ys → (first_of ys ≡ Reply.Admitted → y ≡ x) → figures_of (first_of ys) blank y ≡ figures_of (first_of xs) blank x
+  answered : {A : Type 0} (xs ys : List Check) (blank x y : A) → xs ≡ ys → (first_of ys ≡ Ok tt → y ≡ x) → figures_of (first_of ys) blank y ≡ figures_of (first_of xs) blank x
   answered xs ys blank x y e h = same-figures (first_of ys) blank y x h ∙ ap (λ (cs : List Check). figures_of (first_of cs) blank x) (sym e)
 
-  written : {A : Type 0} (xs ys : List Check) (before x y : A) → xs ≡ ys → (first_of ys ≡ Reply.Admitted → y ≡ x) → entries_of (first_of ys) before y ≡ entries_of (first_of xs) before x
+  written : {A : Type 0} (xs ys : List Check) (before x y : A) → xs ≡ ys → (first_of ys ≡ Ok tt → y ≡ x) → entries_of (first_of ys) before y ≡ entries_of (first_of xs) before x
   written xs ys before x y e h = same_entries (first_of ys) before y x h ∙ ap (λ (cs : List Check). entries_of (first_of cs) before x) (sym e)
 
   alike : AnswersAlike d other

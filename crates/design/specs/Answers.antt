@@ -1,16 +1,15 @@
 -- What each call answers of a design and of what is asked of it: document 01's number and figures, and what stands in the lent entries
 -- afterwards; and the number and figures of each case of an answer of the code.
-use Rattle.std.specs.Prelude.{List, ◌++◌, ℕ, length, drop, Float}
+use Rattle.std.specs.Prelude.{List, ◌++◌, ℕ, length, drop, Float, Result}
 use Rattle.doubles.specs.Decimal.{zero}
 use Rattle.reply.specs.First.{first_of}
-use Rattle.reply.specs.Figures.{Figures, given, refused_with, figures_of, entries_of}
+use Rattle.reply.specs.Figures.{Figures, figures_of, entries_of, result_figures}
+use Rattle.reply.specs.declared.Refused.{Refused}
 use Rattle.model.specs.States.{count, state_at}
 use Rattle.model.specs.Energy.{state_energy, chain_energy, chain_product}
+use Rattle.units.specs.declared.KcalPerMol.{KcalPerMol}
+use Rattle.design.specs.declared.answers.ChainEnergy.{ChainEnergy}
 use Rattle.design.specs.Design.{Design, strand_bond_in, scaffold_bond_in, friends_of, model_of}
-use Rattle.design.specs.declared.answers.BondAnswer.{BondAnswer}
-use Rattle.design.specs.declared.answers.CountAnswer.{CountAnswer}
-use Rattle.design.specs.declared.answers.EnergyAnswer.{EnergyAnswer}
-use Rattle.design.specs.declared.answers.ChainAnswer.{ChainAnswer}
 use Rattle.design.specs.Checks.{strand_bond_checks, scaffold_bond_checks, friends_checks, count_checks, rank_checks, energy_checks}
 
 -- ---- bonds
@@ -68,24 +67,20 @@ abbrev pub chain_energy_answer : Design → List ℕ → Figures Chain
 chain_energy_answer d s =
     figures_of (first_of (energy_checks d s)) no_chain (record { bare = chain_energy (model_of d) s; times_rt = chain_product (model_of d) s })
 
--- ---- the answers of the code
+-- ---- the results of the code
 
 -- of a bond
-abbrev pub bond_figures : BondAnswer → Figures Float
-bond_figures (BondAnswer.Bond bond) = given bond
-bond_figures (BondAnswer.Refused refusal place) = refused_with zero refusal place
+abbrev pub bond_figures : Result Float Refused → Figures Float
+bond_figures = result_figures zero (λ bond. bond)
 
 -- of a number of friends or of states
-abbrev pub count_figures : CountAnswer → Figures ℕ
-count_figures (CountAnswer.Count number) = given number
-count_figures (CountAnswer.Refused refusal place) = refused_with 0 refusal place
+abbrev pub count_figures : Result ℕ Refused → Figures ℕ
+count_figures = result_figures 0 (λ number. number)
 
 -- of an energy
-abbrev pub energy_figures : EnergyAnswer → Figures Float
-energy_figures (EnergyAnswer.Energy energy) = given energy.0
-energy_figures (EnergyAnswer.Refused refusal place) = refused_with zero refusal place
+abbrev pub energy_figures : Result KcalPerMol Refused → Figures Float
+energy_figures = result_figures zero (λ energy. energy.0)
 
 -- of the chain energy
-abbrev pub chain_figures : ChainAnswer → Figures Chain
-chain_figures (ChainAnswer.Energy bare energy) = given (record { bare = bare; times_rt = energy.0 })
-chain_figures (ChainAnswer.Refused refusal place) = refused_with no_chain refusal place
+abbrev pub chain_figures : Result ChainEnergy Refused → Figures Chain
+chain_figures = result_figures no_chain (λ energy. record { bare = energy.bare; times_rt = energy.times_rt.0 })

@@ -1,10 +1,9 @@
 -- What the fillers leave in lent rows and cells: the options of each position, and the bonds of the cells that a search reads.
 use Rattle.std.specs.Prelude.{◌≡◌, false, List, ℕ, ◌+◌, ◌*◌, ◌-◌, ◌<◌, ◌≤◌, length, get_or, take, Float}
 use Rattle.std.specs.Float.{nan}
-use Rattle.units.specs.declared.Ambient.{Ambient}
 use Rattle.model.specs.Model.{options_of}
 use Rattle.ensemble.specs.Layout.{option_in}
-use Rattle.design.specs.Design.{befriends, scaffold_bond}
+use Rattle.design.specs.Design.{befriends}
 
 -- ---- options
 
@@ -24,9 +23,13 @@ pub record Optioned (friends row : List ℕ) (count : ℕ) : Type 0 where
 abbrev pub Among : ℕ → List ℕ → Type 0
 Among strands row = (k : ℕ) → k < length row → get_or row k 0 < strands
 
--- the scaffold bond of a position and a strand
-abbrev pub site_bond : List ℕ → List ℕ → List Float → List Float → Ambient → ℕ → ℕ → Float
-site_bond scaffold glues dg ds ambient i = scaffold_bond (get_or scaffold i 0) glues dg ds ambient
+-- what a call answers of a byte is a function's value there
+abbrev pub GivesAt : (ℕ → Float → Type 0) → (ℕ → Float) → Type 0
+GivesAt answers f = (column : ℕ) (answer : Float) → column < 256 → answers column answer → answer ≡ f column
+
+-- and of two bytes
+abbrev pub Gives : (ℕ → ℕ → Float → Type 0) → (ℕ → ℕ → Float) → Type 0
+Gives answers f = (row column : ℕ) (answer : Float) → row < 256 → column < 256 → answers row column answer → answer ≡ f row column
 
 -- the cell [row][column] holds its bond
 abbrev pub Holds : (ℕ → ℕ → Float) → ℕ → List Float → ℕ → ℕ → Type 0

@@ -1,283 +1,200 @@
 // The conditions on which a design is refused.
-ghost use Rattle.std.specs.Prelude.{◌≡◌, [], ◌∷◌, ◌≤◌, ltb, length};
+ghost use Rattle.std.specs.Prelude.{◌≡◌, cond, Some, None, [], ◌∷◌, ◌≤◌, ltb, length, position, find, false, OnOk, ◌<◌};
 ghost use Rattle.std.specs.Float.Ieee.{neg};
 ghost use Rattle.lists.specs.Build.{up_to};
-ghost use Rattle.lists.specs.Find.{any, first_index};
+ghost use Rattle.lists.specs.Find.{any};
 ghost use Rattle.reply.specs.First.{first_of, ◌if◌at◌};
 ghost use Rattle.reply.specs.declared.Refusal.TheVariants.{OutOfRange, AmbientOut};
-ghost use Rattle.design.specs.Design.{lent};
-ghost use Rattle.design.specs.Checks.{wrong_sizes, outside, cells_out, bad_cell, ambient_out, bad_ambient, unfit, null_cells, null_binds, ranged_checks, table_checks, number_checks, design_checks};
+ghost use Rattle.design.specs.Design.{positions, strands};
+ghost use Rattle.design.specs.Places.{potential_out};
+ghost use Rattle.design.specs.Checks.{sizes_out, outside, cells_out, bad_cell, ambient_out, bad_ambient, null_cells, null_binds, ranged_checks, table_checks, number_checks, design_checks, TablesPass, Admitted};
 
-use super::friends::{BLOCKED, binds, is_friend_somewhere};
-use super::reads::{bottom_glue, east_glue, potential_of, west_glue};
+use super::Design;
+use super::friends::BLOCKED;
 use reply::limits::{
     CELLS, DG, DS, EXCESS, LAST_GLUE, LEAST_RT, MOST_RT, POSITIONS, POTENTIAL, SIDES, STRANDS,
 };
-use reply::{Place, Refusal, Reply, refused_at, refused_if};
+use reply::{Refusal, Refused, refused_at, refused_if};
 use units::Ambient;
 
-// Whether a number is above the most that it may be. All are counted: a loop with one way out is one that the compiler takes several at a time.
+// Whether a number is above the most that it may be. All are counted: so a turn has no way out to look at.
 fn some_above(most: u8, numbers: &[u8]) -> bool
     ensures { result ≡ any (ltb most) numbers.now }
 {
     let mut above: usize = 0;
-    let mut i = 0;
-    while i < numbers.len() {
-        if most < numbers[i] {
+    for &number in numbers {
+        if most < number {
             above += 1;
         }
-        i += 1;
     }
     0 < above
 }
 
 // Whether a count, a length, a mark or a glue is outside its limits.
-fn wrong_sizes(
-    scaffold: &[u8],
-    marks: &[u8],
-    glues: &[u8],
-    dg: &[f64],
-    ds: &[f64],
-    potentials: &[f64],
-) -> bool
-    ensures { result ≡ wrong_sizes scaffold.now marks.now glues.now dg.now ds.now potentials.now }
+#[tactic(auto, unfolding(crate::specs::Checks::wrong_sizes))]
+fn wrong_sizes(design: &Design) -> bool
+    ensures { result ≡ sizes_out design.now }
 {
-    if POSITIONS < scaffold.len() {
-        return true;
-    }
-    if potentials.len() < 1 {
-        return true;
-    }
-    if STRANDS < potentials.len() {
-        return true;
-    }
-    if glues.len() != SIDES * potentials.len() {
-        return true;
-    }
-    if dg.len() != CELLS {
-        return true;
-    }
-    if ds.len() != CELLS {
-        return true;
-    }
-    if marks.len() != scaffold.len() {
-        return true;
-    }
-    if some_above(BLOCKED, marks) {
-        return true;
-    }
-    if some_above(LAST_GLUE, scaffold) {
-        return true;
-    }
-    some_above(LAST_GLUE, glues)
+    POSITIONS < design.scaffold.len()
+        || design.potentials.len() < 1
+        || STRANDS < design.potentials.len()
+        || design.glues.len() != SIDES * design.potentials.len()
+        || design.dg.len() != CELLS
+        || design.ds.len() != CELLS
+        || design.marks.len() != design.scaffold.len()
+        || some_above(BLOCKED, design.marks)
+        || some_above(LAST_GLUE, design.scaffold)
+        || some_above(LAST_GLUE, design.glues)
 }
 
-// Whether a cell of either table is out of its range. All are counted, a cell of each table in a turn.
+// Whether a cell of either table is out of its range. All are counted, a cell of each table in a turn: so the compiler tests the two at once.
 fn cells_out(dg: &[f64], ds: &[f64]) -> bool
     requires { length dg.now ≡ length ds.now }
     ensures { result ≡ cells_out dg.now ds.now }
 {
     let mut dg_out: usize = 0;
     let mut ds_out: usize = 0;
-    let mut i = 0;
-    while i < dg.len() {
-        if !doubles::in_range(-DG, DG, dg[i]) {
+    for (i, &dg_cell) in dg.iter().enumerate() {
+        if !doubles::in_range(-DG, DG, dg_cell) {
             dg_out += 1;
         }
         if !doubles::in_range(-DS, DS, ds[i]) {
             ds_out += 1;
         }
-        i += 1;
     }
-    if 0 < dg_out {
-        return true;
-    }
-    0 < ds_out
+    0 < dg_out || 0 < ds_out
 }
 
-// Where the first number beyond ±most stands; how many there are where none is.
-fn first_beyond(most: f64, numbers: &[f64]) -> usize
-    ensures { result ≡ first_index (outside (neg most) most) numbers.now }
+// Where the first number beyond ±most stands.
+fn first_beyond(most: f64, numbers: &[f64]) -> Option<usize>
+    ensures { result ≡ position (outside (neg most) most) numbers.now }
 {
-    let mut i = 0;
-    while i < numbers.len() {
-        if !doubles::in_range(-most, most, numbers[i]) {
-            return i;
-        }
-        i += 1;
-    }
-    i
+    numbers
+        .iter()
+        .position(|number| !doubles::in_range(-most, most, *number))
 }
 
 // The lowest cell that is out of its range, dS's counted on from dG's.
-fn bad_cell(dg: &[f64], ds: &[f64]) -> usize
+fn bad_cell(dg: &[f64], ds: &[f64]) -> Option<usize>
     requires dg_len { length dg.now ≡ 4096 }
     requires ds_len { length ds.now ≡ 4096 }
-    ensures { result ≡ bad_cell dg.now ds.now }
+    ensures { result ≡ cond (cells_out dg.now ds.now) (Some (bad_cell dg.now ds.now)) None }
 {
-    let place = first_beyond(DG, dg);
-    if place < CELLS {
-        return place;
+    match first_beyond(DG, dg) {
+        Some(place) => Some(place),
+        None => Some(CELLS + first_beyond(DS, ds)?),
     }
-    CELLS + first_beyond(DS, ds)
 }
 
 // Whether a cell is out of its range, and which: it is looked for only where one is.
-fn cells_reply(dg: &[f64], ds: &[f64]) -> Reply
+fn cells_reply(dg: &[f64], ds: &[f64]) -> Result<(), Refused>
     requires dg_len { length dg.now ≡ 4096 }
     requires ds_len { length ds.now ≡ 4096 }
     ensures { result ≡ first_of (OutOfRange if cells_out dg.now ds.now at bad_cell dg.now ds.now ∷ []) }
 {
     if cells_out(dg, ds) {
-        return Reply::Refused(Refusal::OutOfRange, Place::At(bad_cell(dg, ds)));
+        return Err(Refused {
+            refusal: Refusal::OutOfRange,
+            place: bad_cell(dg, ds),
+        });
     }
-    Reply::Admitted
+    Ok(())
 }
 
 // Whether RT or an excess is out of its range, and which.
-fn ambient_reply(ambient: Ambient) -> Reply
+fn ambient_reply(ambient: Ambient) -> Result<(), Refused>
     ensures { result ≡ first_of (AmbientOut if ambient_out ambient at bad_ambient ambient ∷ []) }
 {
-    if !doubles::in_range(LEAST_RT, MOST_RT, ambient.rt.0) {
-        return Reply::Refused(Refusal::AmbientOut, Place::At(0));
-    }
-    if !doubles::in_range(-EXCESS, EXCESS, ambient.strand_excess.0) {
-        return Reply::Refused(Refusal::AmbientOut, Place::At(1));
-    }
+    let rt_in = doubles::in_range(LEAST_RT, MOST_RT, ambient.rt.0);
+    refused_at(Refusal::AmbientOut, !rt_in, 0)?;
+    let strand_in = doubles::in_range(-EXCESS, EXCESS, ambient.strand_excess.0);
+    refused_at(Refusal::AmbientOut, !strand_in, 1)?;
     let scaffold_in = doubles::in_range(-EXCESS, EXCESS, ambient.scaffold_excess.0);
     refused_at(Refusal::AmbientOut, !scaffold_in, 2)
 }
 
-// The first strand that is somewhere a friend and whose potential is out of range; the number of strands where there is none.
-fn first_unfit(
-    scaffold: &[u8],
-    marks: &[u8],
-    glues: &[u8],
-    dg: &[f64],
-    ds: &[f64],
-    potentials: &[f64],
-    strands: u8,
-) -> u8
-    ensures { result ≡ first_index (unfit scaffold.now marks.now glues.now dg.now ds.now potentials.now) (up_to strands) }
+// Whether a strand is somewhere a friend and its potential out of range.
+fn is_unfit(design: &Design, strand: u8) -> bool
+    ensures { result ≡ potential_out design.now strand }
 {
-    let mut strand = 0;
-    while strand < strands {
-        let potential = potential_of(potentials, strand);
-        if !doubles::in_range(-POTENTIAL, POTENTIAL, potential) {
-            if is_friend_somewhere(scaffold, marks, glues, dg, ds, strand) {
-                return strand;
-            }
-        }
-        strand += 1;
-    }
-    strand
+    !doubles::in_range(-POTENTIAL, POTENTIAL, design.potential_of(strand))
+        && design.is_friend_somewhere(strand)
+}
+
+// The first such strand.
+fn first_unfit(design: &Design) -> Option<u8>
+    requires { strands design.now ≤ 64 }
+    ensures { result ≡ find (potential_out design.now) (up_to (strands design.now)) }
+{
+    (0..design.strands() as u8).find(|strand| is_unfit(design, *strand))
 }
 
 // Whether row or column 0 of a glue table has a nonzero cell.
-fn null_cells(dg: &[f64], ds: &[f64]) -> bool
-    ensures { result ≡ any (null_cells dg.now ds.now) (up_to 64) }
+fn null_cells(design: &Design) -> bool
+    ensures { result ≡ any (null_cells design.now.dg design.now.ds) (up_to 64) }
 {
-    let mut glue: u8 = 0;
-    while glue <= LAST_GLUE {
-        if binds(dg, ds, 0, glue) {
-            return true;
-        }
-        if binds(dg, ds, glue, 0) {
-            return true;
-        }
-        glue += 1;
-    }
-    false
+    (0..LAST_GLUE + 1).any(|glue| design.binds(0, glue) || design.binds(glue, 0))
 }
 
 // Whether strand 0 has a glue, or row or column 0 a nonzero cell.
-fn null_binds(glues: &[u8], dg: &[f64], ds: &[f64]) -> bool
-    ensures { result ≡ null_binds glues.now dg.now ds.now }
+#[tactic(auto, unfolding(crate::specs::Checks::null_binds))]
+fn null_binds(design: &Design) -> bool
+    ensures { result ≡ null_binds design.now.glues design.now.dg design.now.ds }
 {
-    if west_glue(glues, 0) != 0 {
-        return true;
-    }
-    if bottom_glue(glues, 0) != 0 {
-        return true;
-    }
-    if east_glue(glues, 0) != 0 {
-        return true;
-    }
-    null_cells(dg, ds)
+    design.west_glue(0) != 0
+        || design.bottom_glue(0) != 0
+        || design.east_glue(0) != 0
+        || null_cells(design)
 }
 
 // The first of the checks of a design's tables that holds: their sizes, with what the call itself finds wrong with one, their cells, what else the
 // call finds out of range, and null.
-pub fn ranged_reply(
-    own_size: bool,
-    own_range: bool,
-    scaffold: &[u8],
-    marks: &[u8],
-    glues: &[u8],
-    dg: &[f64],
-    ds: &[f64],
-    potentials: &[f64],
-) -> Reply
-    ensures { result ≡ first_of (ranged_checks own_size own_range scaffold.now marks.now glues.now dg.now ds.now potentials.now) }
+pub fn ranged_reply(own_size: bool, own_range: bool, design: &Design) -> Result<(), Refused>
+    ensures { result ≡ first_of (ranged_checks own_size own_range design.now.scaffold design.now.marks design.now.glues design.now.dg design.now.ds design.now.potentials) }
 {
-    if own_size {
-        return Reply::Refused(Refusal::WrongSize, Place::Nowhere);
-    }
-    if wrong_sizes(scaffold, marks, glues, dg, ds, potentials) {
-        return Reply::Refused(Refusal::WrongSize, Place::Nowhere);
-    }
-    let range = cells_reply(dg, ds).or(refused_if(Refusal::OutOfRange, own_range));
-    range.or(refused_if(Refusal::NullBinds, null_binds(glues, dg, ds)))
+    refused_if(Refusal::WrongSize, own_size || wrong_sizes(design))?;
+    cells_reply(design.dg, design.ds)?;
+    refused_if(Refusal::OutOfRange, own_range)?;
+    refused_if(Refusal::NullBinds, null_binds(design))?;
+    Ok(())
 }
 
 // The same of a call that finds nothing else out of range.
-pub fn tables_reply(
-    own_size: bool,
-    scaffold: &[u8],
-    marks: &[u8],
-    glues: &[u8],
-    dg: &[f64],
-    ds: &[f64],
-    potentials: &[f64],
-) -> Reply
-    ensures { result ≡ first_of (table_checks own_size scaffold.now marks.now glues.now dg.now ds.now potentials.now) }
+pub fn tables_reply(own_size: bool, design: &Design) -> Result<(), Refused>
+    ensures value { result ≡ first_of (table_checks own_size design.now.scaffold design.now.marks design.now.glues design.now.dg design.now.ds design.now.potentials) }
+    ensures own { OnOk result (own_size ≡ false) }
+    ensures tables { OnOk result (TablesPass design.now) }
+    ensures short { OnOk result (positions design.now ≤ 128) }
+    ensures some { OnOk result (0 < strands design.now) }
+    ensures few { OnOk result (strands design.now ≤ 64) }
 {
-    ranged_reply(own_size, false, scaffold, marks, glues, dg, ds, potentials)
+    ranged_reply(own_size, false, design)
 }
 
 // The first of the checks of a design's numbers that holds: its ambient, and the potentials that are read.
-pub fn numbers_reply(
-    scaffold: &[u8],
-    marks: &[u8],
-    glues: &[u8],
-    dg: &[f64],
-    ds: &[f64],
-    potentials: &[f64],
-    ambient: Ambient,
-) -> Reply
-    requires { length potentials.now ≤ 64 }
-    ensures { result ≡ first_of (number_checks (lent scaffold.entry marks.entry glues.entry dg.entry ds.entry potentials.entry ambient)) }
+pub fn numbers_reply(design: &Design) -> Result<(), Refused>
+    requires { strands design.now ≤ 64 }
+    ensures { result ≡ first_of (number_checks design.now) }
 {
-    let strands = potentials.len() as u8;
-    let strand = first_unfit(scaffold, marks, glues, dg, ds, potentials, strands);
-    ambient_reply(ambient).or(refused_at(Refusal::PotentialOut, strand < strands, strand as usize))
+    ambient_reply(design.ambient)?;
+    match first_unfit(design) {
+        Some(strand) => Err(Refused {
+            refusal: Refusal::PotentialOut,
+            place: Some(usize::from(strand)),
+        }),
+        None => Ok(()),
+    }
 }
 
 // The first check of a design that holds, of a call that has none of its own but of a size.
-pub fn design_reply(
-    own_size: bool,
-    scaffold: &[u8],
-    marks: &[u8],
-    glues: &[u8],
-    dg: &[f64],
-    ds: &[f64],
-    potentials: &[f64],
-    ambient: Ambient,
-) -> Reply
-    ensures { result ≡ first_of (design_checks own_size (lent scaffold.entry marks.entry glues.entry dg.entry ds.entry potentials.entry ambient) [] []) }
+pub fn design_reply(own_size: bool, design: &Design) -> Result<(), Refused>
+    ensures value { result ≡ first_of (design_checks own_size design.now [] []) }
+    ensures own { OnOk result (own_size ≡ false) }
+    ensures design { OnOk result (Admitted design.now) }
+    ensures short { OnOk result (positions design.now ≤ 128) }
+    ensures some { OnOk result (0 < strands design.now) }
+    ensures few { OnOk result (strands design.now ≤ 64) }
 {
-    match tables_reply(own_size, scaffold, marks, glues, dg, ds, potentials) {
-        Reply::Refused(refusal, place) => Reply::Refused(refusal, place),
-        Reply::Admitted => numbers_reply(scaffold, marks, glues, dg, ds, potentials, ambient),
-    }
+    tables_reply(own_size, design)?;
+    numbers_reply(design)
 }

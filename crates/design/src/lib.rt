@@ -1,7 +1,4 @@
 // Designs of a scaffold and strands: their bonds, their friends, and the checks that every call makes of one.
-//
-// What the Rust reads off `self` is lent: the scaffold's glues, a mark for each position, three glues for each strand, the dG and the dS table, a potential for each strand,
-// and the ambient. Each function takes what it reads of these, and has an answer for every content: past the end of a slice it reads 0.
 #![tactic(auto)]
 
 pub mod answers;
@@ -13,3 +10,35 @@ pub mod options;
 pub mod reads;
 pub mod tables;
 pub mod terms;
+
+ghost use Rattle.design.specs.Design.{Design, design};
+ghost use Rattle.design.specs.Laws.{Doubles};
+
+use std::marker::Model;
+use units::Ambient;
+
+// A design as it is lent: what the Rust reads off `self`, and a mark for each position, which the Rust lacks. Its methods have an answer for every
+// content: past the end of a slice they read 0.
+#[derive(Drop)]
+pub struct Design<'a> {
+    // The scaffold's glue at each position.
+    pub scaffold: &'a [u8],
+    // For each position 0 where it is open, 1 where it is blocked.
+    pub marks: &'a [u8],
+    // Three glues for each strand: west, bottom, east.
+    pub glues: &'a [u8],
+    // The dG and the dS table: a row and a column for each glue, row first.
+    pub dg: &'a [f64],
+    pub ds: &'a [f64],
+    // The logarithm of each strand's concentration.
+    pub potentials: &'a [f64],
+    pub ambient: Ambient,
+}
+
+impl<'a> Model for Design<'a> {
+    ghost Value = { Design };
+
+    ghost view = { λ d. design d.scaffold.now d.marks.now d.glues.now d.dg.now d.ds.now d.potentials.now d.ambient };
+
+    ghost invariant = { λ d. Doubles (design d.scaffold.now d.marks.now d.glues.now d.dg.now d.ds.now d.potentials.now d.ambient) };
+}

@@ -6,6 +6,8 @@ ghost use Rattle.std.specs.Float.Ieee as Ieee;
 ghost use Rattle.std.specs.Float.{binary64};
 ghost use Rattle.doubles.specs.Range.{within};
 
+use std::num;
+
 // Whether x is from low to high, both included. A NaN is in no range, and between finite ends no infinity is.
 pub fn in_range(low: f64, high: f64, x: f64) -> bool
     ensures { result ≡ within low high x }
@@ -17,19 +19,12 @@ pub fn in_range(low: f64, high: f64, x: f64) -> bool
 pub fn bits(x: f64) -> u64
     ensures { result ≡ Ieee.to_bits binary64 x }
 {
-    if x == x {
-        f64::to_bits(x)
-    } else {
-        0x7ff8_0000_0000_0000
-    }
+    num::f64_to_bits_with_nan(x)
 }
 
 // The double with these bits. Every pattern of a NaN gives the one NaN.
 pub fn double(bits: u64) -> f64
     ensures { result ≡ Ieee.of_bits binary64 bits }
 {
-    if 0x7ff0_0000_0000_0000 < bits % 0x8000_0000_0000_0000 {
-        return 0.0 / 0.0;
-    }
-    f64::from_bits(bits)
+    num::f64_from_bits_with_nan(bits)
 }

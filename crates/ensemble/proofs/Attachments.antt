@@ -2,9 +2,8 @@
 use mathlib.Core.Path.{◌≡◌, sym, ◌∙◌}
 use mathlib.Core.List.{List}
 use Prim.Native.Nat.{ℕ, ◌+◌, ◌<◌}
-use native.Mathlib.Nat.{not-suc-le-zero}
 use native.Mathlib.Decide.{ℕ_discrete}
-use lib.ListN.{length, get_or, set, length-set}
+use lib.ListN.{length, get_or, set}
 use lib.Seq.{get_or-set_same, get_or-set_other}
 use lib.Ieee.{Float, nan}
 use borrow.Author.Count.{below_more}
@@ -21,9 +20,6 @@ low-set row x v w l h k = go (ℕ_discrete k x)
     go (no e) = rw (get_or-set_other row x k v 0 e) (w k)
 
 module _ (bond : ℕ → ℕ → Float) (left : List ℕ) (energies : List Float) (friends : List ℕ) where
-  pub attach-none : (best : List Float) (choice : List ℕ) → length best ≡ 64 → length choice ≡ 64 → Low choice → Attachments bond left energies friends 0 best choice
-  attach-none best choice e f low = record { wide = e; sized = f; low = low; chosen = λ k h. absurd (not-suc-le-zero h) }
-
   module _ (best : List Float) (choice : List ℕ) (x : ℕ) (r : Attached) (in-best : x < length best) (in-choice : x < length choice)
       (new : (key : ℕ → Float) → Keys bond left energies x key → Chosen key left (last_least key left) r) where
     set_here : AttachedAt bond left energies (set best x r.energy) (set choice x r.strand) x
@@ -39,8 +35,6 @@ module _ (bond : ℕ → ℕ → Float) (left : List ℕ) (energies : List Float
 
     pub attach-more : (k : ℕ) → x ≡ get_or friends k 0 → r.strand < 64 → Attachments bond left energies friends k best choice → Attachments bond left energies friends (k + 1) (set best x r.energy) (set choice x r.strand)
     attach-more k is l w = record {
-      wide = length-set best x r.energy ∙ w.wide;
-      sized = length-set choice x r.strand ∙ w.sized;
       low = low-set choice x r.strand w.low l in-choice;
       chosen = below_more (λ j. AttachedAt bond left energies (set best x r.energy) (set choice x r.strand) (get_or friends j 0)) k
           (λ j l. set_other (get_or friends j 0) (ℕ_discrete (get_or friends j 0) x) (w.chosen j l)) (rw (sym is) set_here);
@@ -58,8 +52,6 @@ module _ (bond : ℕ → ℕ → Float) (left : List ℕ) (energies : List Float
 
     pub attach-choice : (k : ℕ) → x ≡ get_or friends k 0 → v < 64 → Attachments bond left energies friends k best choice → Attachments bond left energies friends (k + 1) best (set choice x v)
     attach-choice k is l w = record {
-      wide = w.wide;
-      sized = length-set choice x v ∙ w.sized;
       low = low-set choice x v w.low l in-choice;
       chosen = below_more (λ j. AttachedAt bond left energies best (set choice x v) (get_or friends j 0)) k
           (λ j l. choice-other (get_or friends j 0) (ℕ_discrete (get_or friends j 0) x) (w.chosen j l)) (rw (sym is) choice-here);

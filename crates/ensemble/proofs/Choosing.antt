@@ -11,7 +11,7 @@ use lib.Seq.{drop-cons}
 use lib.Ieee.{Float, lt}
 use Rattle.lists.specs.Fold.{foldl}
 use Rattle.doubles.specs.Decimal as Decimal
-use Rattle.doubles.specs.Least.{or_later, or_earlier, pick}
+use Rattle.doubles.specs.Least.{or_earlier, pick}
 use Rattle.ensemble.specs.inner.Entries.{key_of, Chosen}
 
 -- of the strands before k, the one kept
@@ -31,13 +31,6 @@ unfolding foldl
 kept_more {better} {key} {row} {k} w h e f = record { picks = w.picks ∙ rw (drop-cons row k 0 h, e, add-one) refl; energy-is = f }
 
 module _ (key : ℕ → Float) {kept x : ℕ} {energy new : Float} (e : energy ≡ key kept) (f : new ≡ key x) where
-  -- among equals the later
-  pub later-stays : lt energy new ≡ true → kept ≡ or_later key kept x
-  later-stays t = let s : lt (key kept) (key x) ≡ true = rw (e, f) at t in rw s
-
-  pub later-moves : lt energy new ≡ false → x ≡ or_later key kept x
-  later-moves t = let s : lt (key kept) (key x) ≡ false = rw (e, f) at t in rw s
-
   -- among equals the earlier
   pub earlier-moves : lt new energy ≡ true → x ≡ or_earlier key kept x
   earlier-moves t = let s : lt (key x) (key kept) ≡ true = rw (e, f) at t in rw s

@@ -81,7 +81,7 @@ module _ (key : ℕ → Float) (row : List ℕ) (k : ℕ) {least sum : Float} (h
   split b t = pick_more (or_later key) row k h l ∙ ap (λ (c : Bool). cond c kept x) t
 
   -- above the least: it is not the one
-  pub later-above : lt least sum ≡ true → last_least key (take (suc k) row) ≡ last_least key (take k row)
+  later-above : lt least sum ≡ true → last_least key (take (suc k) row) ≡ last_least key (take k row)
   later-above t = go (lt (key kept) (key x)) refl
     where
       go : (b : Bool) → lt (key kept) (key x) ≡ b → last_least key (take (suc k) row) ≡ last_least key (take k row)
@@ -89,9 +89,20 @@ module _ (key : ℕ → Float) (row : List ℕ) (k : ℕ) {least sum : Float} (h
       go false u = absurd (clash (lt-itself (key x)) (sym (ap₂ lt (e ∙ ap key (split false u)) f) ∙ t))
 
   -- not above the least: it is the one
-  pub later-least : lt least sum ≡ false → last_least key (take (suc k) row) ≡ get_or row k 0
+  later-least : lt least sum ≡ false → last_least key (take (suc k) row) ≡ get_or row k 0
   later-least t = go (lt (key kept) (key x)) refl
     where
       go : (b : Bool) → lt (key kept) (key x) ≡ b → last_least key (take (suc k) row) ≡ get_or row k 0
       go true u = absurd (clash (sym (ap₂ lt (e ∙ ap key (split true u)) f) ∙ t) u)
       go false u = split false u
+
+-- of the first entry too: it is the least of one, and not above itself
+pub not-above : (key : ℕ → Float) (row : List ℕ) (k : ℕ) {least sum : Float} → k < length row → least ≡ key (last_least key (take (suc k) row)) → sum ≡ key (get_or row k 0) → lt least sum ≡ true
+    → last_least key (take (suc k) row) ≡ last_least key (take k row)
+not-above key row zero l e f t = absurd (clash (lt-itself (key (get_or row 0 0))) (sym (ap₂ lt (e ∙ ap key (pick-one (or_later key) row l)) f) ∙ t))
+not-above key row (suc k) l e f t = later-above key row (suc k) (omega arith) l e f t
+
+pub least-here : (key : ℕ → Float) (row : List ℕ) (k : ℕ) {least sum : Float} → k < length row → least ≡ key (last_least key (take (suc k) row)) → sum ≡ key (get_or row k 0) → lt least sum ≡ false
+    → last_least key (take (suc k) row) ≡ get_or row k 0
+least-here key row zero l e f t = pick-one (or_later key) row l
+least-here key row (suc k) l e f t = later-least key row (suc k) (omega arith) l e f t

@@ -4,9 +4,8 @@ pub mod Choosing
 pub mod Attachments
 pub mod Rest
 pub mod Vector
-pub mod Positions
+pub mod Passing
 pub mod Lent
-pub mod Swept
 pub mod LastLeast
 pub mod Ringed
 pub mod FirstOccupants

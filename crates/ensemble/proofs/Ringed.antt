@@ -1,15 +1,13 @@
 -- The pass with one first occupant, as the loop over the later positions begins and ends. Assumes nothing.
 use mathlib.Core.Path.{◌≡◌, refl, sym, ap, ◌∙◌, subst}
 use mathlib.Core.Logic.{◌⊎◌, inl, inr}
-use mathlib.Core.Bool.{Bool, true, false, cond}
 use mathlib.Core.List.Memᴰ
 use mathlib.Core.List.{List, [], ◌∷◌, Memᴰ}
-use Prim.Native.Nat.{ℕ, zero, suc, ◌+◌, ◌*◌, ◌<◌, ◌≤◌}
-use native.Mathlib.Nat.{not-suc-le-zero, zero-mul, suc-mul, mul-le-mul, zero-add, add-sub_cancel_left}
+use Prim.Native.Nat.{ℕ, zero, suc, ◌+◌, ◌<◌, ◌≤◌}
+use native.Mathlib.Nat.{not-suc-le-zero, zero-mul, zero-add, add-sub_cancel_left}
 use native.Mathlib.Decide.{ℕ_discrete}
 use native.Mathlib.Omega.{arith}
-use lib.Dec.{eqb}
-use lib.ListN.{length, get_or, replicate, length-take, length-drop}
+use lib.ListN.{length, get_or}
 use lib.Seq.{drop-cons}
 use lib.Ieee.{Float, binary64, mul, nan}
 use borrow.Author.Tests.{eq-eqb, ne_eqb}
@@ -25,10 +23,10 @@ use Rattle.ensemble.specs.Layout.{Searchable, OptionRows, BondCells}
 use Rattle.ensemble.specs.Ring.{ClosingCells}
 use Rattle.ensemble.specs.inner.Entries.{Chosen, Known, table_bond, choice_in, traced_back}
 use Rattle.ensemble.specs.inner.Ring.{closed_in, first_entry, FoundFrom}
-use Rattle.ensemble.proofs.Vector.{Left}
+use Rattle.ensemble.specs.inner.Passed.{OptionsOf, Left, Table}
 use Rattle.ensemble.proofs.Lent.{part}
 use Rattle.ensemble.proofs.Options.{count-is, option_is}
-use Rattle.ensemble.proofs.Positions.{Table, OptionsOf, found-over}
+use Rattle.ensemble.proofs.Passing.{found-over}
 
 -- past position 0 the options are the model's
 pub later-options : (m : Model) (f i : ℕ) → 1 ≤ i → with_first m f i ≡ options_at m i
@@ -38,23 +36,6 @@ later-options m f (suc i) h = refl
 -- a part of one entry
 pub part-one : (rows : List ℕ) (k : ℕ) → k < length rows → part rows k (k + 1) ≡ get_or rows k 0 ∷ []
 part-one rows k h = rw (add-sub_cancel_left k 1, drop-cons rows k 0 h) refl
-
--- no left choice was written yet
-no-choice : (n k : ℕ) (x : ℕ) → get_or (get_or (replicate n (replicate {A = ℕ} k 0)) 0 []) x 0 ≡ 0
-no-choice zero k x = refl
-no-choice (suc n) k x = go k x
-  where
-    go : (k x : ℕ) → get_or (replicate {A = ℕ} k 0) x 0 ≡ 0
-    go zero x = refl
-    go (suc k) zero = refl
-    go (suc k) (suc x) = go k x
-
-pub no-choices : (n k e : ℕ) (x : ℕ) → choice_in (replicate n (replicate k 0)) (replicate (suc e) 0) 0 x ≡ 0
-no-choices n k e x = go (eqb x 0)
-  where
-    go : (t : Bool) → cond t 0 (get_or (get_or (replicate n (replicate {A = ℕ} k 0)) 0 []) x 0) ≡ 0
-    go true = refl
-    go false = no-choice n k x
 
 module _ (m : Model) (f : ℕ) (option : Memᴰ f (options_at m 0)) where
   pub ring-options : OptionsOf m (with_first m f)
@@ -130,17 +111,6 @@ module _ (m : Model) (f : ℕ) (option : Memᴰ f (options_at m 0)) where
         }
 
 -- ---- the first occupant in the row of position 0
-
-pub part-some : (rows : List ℕ) (start end : ℕ) → start < end → end ≤ length rows → 0 < length (part rows start end)
-part-some rows start end h l = simp (length-take, length-drop) (omega arith)
-
-pub one-row : (n counts : ℕ) {size : ℕ} → 0 < counts → counts * n ≤ size → n ≤ size
-one-row n zero h l = absurd (not-suc-le-zero h)
-one-row n (suc counts) h l = omega (arith, rw suc-mul at l)
-
--- a row of a table of at most 128 by 64 cells ends within it
-pub row_small : (i strands : ℕ) → i < 128 → strands ≤ 64 → i * strands + strands ≤ 8192
-row_small i strands h few = rw (← suc-mul i strands) (mul-le-mul {n₁ = suc i} {m₁ = strands} {n₂ = 128} {m₂ = 64} h few)
 
 pub first-known : {strands : ℕ} {rows counts : List ℕ} {option : ℕ} → Searchable strands rows counts → 0 < length counts → option < get_or counts 0 0 → get_or rows option 0 < strands
 first-known {option = option} z some h = rw zero-add at (z.known 0 option some h)

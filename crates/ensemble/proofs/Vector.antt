@@ -15,24 +15,8 @@ use Rattle.model.specs.Model.{Model}
 use Rattle.model.specs.Search.{least_left, entry, compared, left_choice}
 use Rattle.ensemble.specs.declared.attach.Attached.{Attached}
 use Rattle.ensemble.specs.inner.Entries.{key_of, Chosen, Keys, Energies}
+use Rattle.ensemble.specs.inner.Passed.{Left}
 use Rattle.ensemble.proofs.Choosing.{some_key}
-
--- ---- the entries to the left of a position; at position 0 there are none
-
--- the options to the left of position i
-abbrev pub left_options : (ℕ → List ℕ) → ℕ → List ℕ
-left_options options zero = []
-left_options options (suc i) = options i
-
--- the energy of an entry to the left of position i
-abbrev pub left_entry : Model → (ℕ → List ℕ) → ℕ → ℕ → Float
-left_entry m options zero x = Decimal.zero
-left_entry m options (suc i) x = entry m options i x
-
--- strands and energies are the entries to the left of position i
-pub record Left (m : Model) (options : ℕ → List ℕ) (i : ℕ) (strands : List ℕ) (energies : List Float) : Type 0 where
-  pub are : strands ≡ left_options options i
-  pub entries : Energies (left_entry m options i) strands (length strands) energies
 
 -- ---- what an entry attaches to
 

@@ -1,10 +1,10 @@
 // The left choice of each entry of a position: the left entry that it attaches to, and the energy that this was compared with.
-ghost use Rattle.std.specs.Prelude.{◌≡◌, ℕ, ◌+◌, ◌*◌, ◌<◌, ◌≤◌, length, get_or, Float};
+ghost use Rattle.std.specs.Prelude.{◌≡◌, ℕ, ◌<◌, ◌≤◌, length, get_or, Float};
 ghost use Rattle.std.specs.Float.{nan};
-ghost use Rattle.doubles.specs.Least.{last_least};
-ghost use Rattle.ensemble.specs.inner.Entries.{Chosen, Known, table_bond, Keys, Attachments, Low};
+ghost use Rattle.doubles.specs.Least.{pick, last_least};
+ghost use Rattle.ensemble.specs.inner.Entries.{Chosen, KeyedBy, DecidedBy, Known, table_bond, Keys, Attachments, Low};
 
-use super::bonds::{strand_bond_at, wide};
+use super::bonds::StrandBonds;
 
 // One of several entries, and the energy that it was compared with.
 #[derive(Clone, Copy)]
@@ -13,98 +13,84 @@ pub(crate) struct Attached {
     pub energy: f64,
 }
 
-// The left entry that a friend attaches to: the least of the left energies plus the strand bond, among equals the later one. To the left of
-// position 0 there is none, and the energy is 0.0.
-fn best_energy_for_strand(
-    left: &[u8],
-    energies: &[f64],
-    strand_bonds: &[f64],
-    strands: usize,
-    right: usize,
-) -> Attached
-    requires known { Known strands left.now }
-    requires left_in_bounds { length left.now ≤ length energies.now }
-    requires right_lt_strands { right < strands }
-    requires strands_bound { strands ≤ 64 }
-    requires strands_in_bounds { strands * strands ≤ length strand_bonds.now }
-    ensures by_index { (key : ℕ → Float) → Keys (table_bond strands strand_bonds.now) left.now energies.now right key → Chosen key left.now (last_least key left.now) result }
-    ensures strand_lt_strands { result.strand < strands }
-{
-    if left.len() == 0 {
-        return Attached {
-            strand: 0,
-            energy: 0.0,
-        };
-    }
-    let mut strand = left[0];
-    let mut energy = energies[0] + strand_bond_at(strand_bonds, strands, strand, right);
-    let mut k = 1;
-    while k < left.len() {
-        let next = left[k];
-        let nenergy = energies[k] + strand_bond_at(strand_bonds, strands, next, right);
-        if energy < nenergy {} else {
-            strand = next;
-            energy = nenergy;
-        }
-        k += 1;
-    }
-    Attached { strand, energy }
+// The entries of a position: an option each, with its energy; and the bonds by which strands to their right attach to them.
+#[derive(Clone, Copy)]
+pub(crate) struct Entries<'a> {
+    pub options: &'a [u8],
+    pub energies: &'a [f64],
+    pub bonds: StrandBonds<'a>,
+    ghost known: { Known bonds.strands options.now },
+    ghost an_energy_each: { length options.now ≤ length energies.now },
 }
 
-// The left entry before an empty place: the least of the left energies alone, among equals the later one.
-pub(crate) fn best_energy_for_empty(left: &[u8], energies: &[f64]) -> Attached
-    requires known { Known 64 left.now }
-    requires left_in_bounds { length left.now ≤ length energies.now }
-    ensures by_index { (key : ℕ → Float) → ((k : ℕ) → k < length left.now → get_or energies.now k nan ≡ key (get_or left.now k 0)) → Chosen key left.now (last_least key left.now) result }
-    ensures strand_bound { result.strand < 64 }
-{
-    if left.len() == 0 {
-        return Attached {
-            strand: 0,
-            energy: 0.0,
-        };
-    }
-    let mut strand = left[0];
-    let mut energy = energies[0];
-    let mut k = 1;
-    while k < left.len() {
-        let next = left[k];
-        let lenergy = energies[k];
-        if energy < lenergy {} else {
-            strand = next;
-            energy = lenergy;
+impl Entries<'_> {
+    // The entry with the least key. `stays` says whether the one kept so far stays before the next, and so which of equals is taken. To the left of
+    // position 0 there is no entry, and the energy is 0.0.
+    pub(crate) fn least<K: Fn(u8, f64) -> f64, S: Fn(f64, f64) -> bool>(
+        &self,
+        key: K,
+        stays: S,
+    ) -> Attached
+        requires keyed { (k : ℕ) → k < length self.now.options.now → K.pre key (get_or self.now.options.now k 0) (get_or self.now.energies.now k nan) }
+        requires compared { (kept next : Float) → S.pre stays kept next }
+        ensures chosen { (value : ℕ → Float) (better : ℕ → ℕ → ℕ) → KeyedBy (K.post key) self.now.options.now self.now.energies.now value → DecidedBy (S.post stays) value better → Chosen value self.now.options.now (pick better self.now.options.now) result }
+        ensures known { result.strand < 64 }
+    {
+        if self.options.is_empty() {
+            return Attached {
+                strand: 0,
+                energy: 0.0,
+            };
         }
-        k += 1;
+        let mut strand = self.options[0];
+        let mut energy = key(strand, self.energies[0]);
+        for k in 1..self.options.len() {
+            let next = self.options[k];
+            let next_energy = key(next, self.energies[k]);
+            if !stays(energy, next_energy) {
+                strand = next;
+                energy = next_energy;
+            }
+        }
+        Attached { strand, energy }
     }
-    Attached { strand, energy }
+
+    // The entry that a friend attaches to: the least of the energies plus the strand bond, among equals the later one.
+    fn least_for_friend(&self, right: usize) -> Attached
+        requires { right < self.now.bonds.strands }
+        ensures chosen { (key : ℕ → Float) → Keys (table_bond self.now.bonds.strands self.now.bonds.cells.now) self.now.options.now self.now.energies.now right key → Chosen key self.now.options.now (last_least key self.now.options.now) result }
+        ensures known { result.strand < 64 }
+    {
+        self.least(
+            |strand, energy| energy + self.bonds.between(strand, right),
+            |kept, next| kept < next,
+        )
+    }
+
+    // The entry before an empty place: the least of the energies alone, among equals the later one.
+    pub(crate) fn least_for_empty(&self) -> Attached
+        ensures chosen { (key : ℕ → Float) → ((k : ℕ) → k < length self.now.options.now → get_or self.now.energies.now k nan ≡ key (get_or self.now.options.now k 0)) → Chosen key self.now.options.now (last_least key self.now.options.now) result }
+        ensures known { result.strand < 64 }
+    {
+        self.least(|_, energy| energy, |kept, next| kept < next)
+    }
 }
 
 // The left choice of each friend, and the energy that it was compared with, by its strand: each friend on its own.
 pub(crate) fn attach_each(
-    left: &[u8],
-    energies: &[f64],
-    strand_bonds: &[f64],
-    strands: usize,
+    left: &Entries,
     friends: &[u8],
-    best: &mut [f64],
-    choice: &mut [u8],
+    best: &mut [f64; 64],
+    choice: &mut [u8; 64],
 )
-    requires known { Known strands left.now }
-    requires left_in_bounds { length left.now ≤ length energies.now }
-    requires known_2 { Known strands friends.now }
-    requires strands_bound { strands ≤ 64 }
-    requires strands_in_bounds { strands * strands ≤ length strand_bonds.now }
-    requires best_len { length best.old ≡ 64 }
-    requires choice_len { length choice.old ≡ 64 }
+    requires known { Known left.now.bonds.strands friends.now }
     requires low { Low choice.old }
-    ensures { Attachments (table_bond strands strand_bonds.now) left.now energies.now friends.now (length friends.now) best.new choice.new }
+    ensures { Attachments (table_bond left.now.bonds.strands left.now.bonds.cells.now) left.now.options.now left.now.energies.now friends.now (length friends.now) best.new choice.new }
 {
-    let mut k = 0;
-    while k < friends.len() {
-        let tile = wide(friends[k]);
-        let attached = best_energy_for_strand(left, energies, strand_bonds, strands, tile);
+    for friend in friends {
+        let tile = usize::from(*friend);
+        let attached = left.least_for_friend(tile);
         best[tile] = attached.energy;
         choice[tile] = attached.strand;
-        k += 1;
     }
 }

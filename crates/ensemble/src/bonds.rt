@@ -1,21 +1,34 @@
-// Reading a table of strand bonds, row first.
-ghost use Rattle.std.specs.Prelude.{◌≡◌, ◌*◌, ◌<◌, ◌≤◌, length};
+// A table of strand bonds, row first.
+ghost use Rattle.std.specs.Prelude.{◌≡◌, ℕ, ◌*◌, ◌<◌, ◌≤◌, length, get_or};
+ghost use Rattle.std.specs.Float.{nan};
 ghost use Rattle.ensemble.specs.inner.Entries.{table_bond};
 
-// A strand's number as an index. As a function of its own it asks the proofs for no bound on the byte.
-pub(crate) fn wide(number: u8) -> usize
-    ensures { result ≡ number }
-{
-    number as usize
+#[derive(Clone, Copy)]
+pub(crate) struct StrandBonds<'a> {
+    pub cells: &'a [f64],
+    pub strands: usize,
+    ghost few: { strands ≤ 64 },
+    ghost square: { strands * strands ≤ length cells.now },
 }
 
-// The bond of a left and a right strand.
-pub(crate) fn strand_bond_at(strand_bonds: &[f64], strands: usize, left: u8, right: usize) -> f64
-    requires left_lt_strands { left < strands }
-    requires right_lt_strands { right < strands }
-    requires strands_bound { strands ≤ 64 }
-    requires strands_in_bounds { strands * strands ≤ length strand_bonds.now }
-    ensures { result ≡ table_bond strands strand_bonds.now left right }
-{
-    strand_bonds[wide(left) * strands + right]
+impl<'a> StrandBonds<'a> {
+    // The bond of a left and a right strand.
+    pub(crate) fn between(&self, left: u8, right: usize) -> f64
+        requires left_known { left < self.now.strands }
+        requires right_known { right < self.now.strands }
+        ensures { result ≡ table_bond self.now.strands self.now.cells.now left right }
+    {
+        self.cells[usize::from(left) * self.strands + right]
+    }
+
+    // The bonds of a left strand with each right one.
+    pub(crate) fn row(&self, left: u8) -> &'a [f64]
+        requires { left < self.now.strands }
+        ensures sized { length result.now ≡ self.now.strands }
+        ensures bonds { (right : ℕ) → right < self.now.strands → get_or result.now right nan ≡ table_bond self.now.strands self.now.cells.now left right }
+    {
+        let start = usize::from(left) * self.strands;
+        let end = start + self.strands;
+        &self.cells[start..end]
+    }
 }

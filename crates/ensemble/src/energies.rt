@@ -8,32 +8,54 @@ ghost use Rattle.model.specs.Ring.{closed};
 ghost use Rattle.ensemble.specs.Layout.{PlaceTerms};
 ghost use Rattle.ensemble.specs.Ring.{ClosingTerm};
 
-// The state sum after one more place.
-fn add_place(
-    configuration: &[u8],
-    sites: &[f64],
-    pairs: &[f64],
-    logs: &[f64],
-    id: usize,
-    sumg: f64,
-) -> f64
-    requires id_in_bounds { id < length configuration.now }
-    requires configuration_in_bounds { length configuration.now ≤ length sites.now }
-    requires configuration_in_bounds_2 { length configuration.now ≤ length pairs.now }
-    requires configuration_in_bounds_3 { length configuration.now ≤ length logs.now }
-    ensures { (m : Model) → PlaceTerms m configuration.now sites.now pairs.now logs.now → result ≡ sum_from sumg (state_place m id (get_or configuration.now id 0) (drop (id + 1) configuration.now)) }
-{
-    if configuration[id] == 0 {
-        return sumg;
+// The places of a configuration: the occupant of each, the bond and the potential of that, and the bond of each place with its right neighbour.
+#[derive(Clone, Copy)]
+struct Places<'a> {
+    configuration: &'a [u8],
+    sites: &'a [f64],
+    pairs: &'a [f64],
+    logs: &'a [f64],
+    ghost a_site_each: { length configuration.now ≤ length sites.now },
+    ghost a_pair_each: { length configuration.now ≤ length pairs.now },
+    ghost a_log_each: { length configuration.now ≤ length logs.now },
+}
+
+impl Places<'_> {
+    // The state sum after one more place.
+    fn add_state_place(&self, sum: f64, id: usize) -> f64
+        requires { id < length self.now.configuration.now }
+        ensures { (m : Model) → PlaceTerms m self.now.configuration.now self.now.sites.now self.now.pairs.now self.now.logs.now → result ≡ sum_from sum (state_place m id (get_or self.now.configuration.now id 0) (drop (id + 1) self.now.configuration.now)) }
+    {
+        if self.configuration[id] == 0 {
+            return sum;
+        }
+        let site = self.sites[id];
+        let potential = self.logs[id];
+        let right = id + 1;
+        if right < self.configuration.len() {
+            let pair = self.pairs[id];
+            return sum + site + pair - potential;
+        }
+        sum + site - potential
     }
-    let site = sites[id];
-    let potential = logs[id];
-    let right = id + 1;
-    if right < configuration.len() {
-        let pair = pairs[id];
-        return sumg + site + pair - potential;
+
+    // The chain sum after one more place.
+    fn add_chain_place(&self, sum: f64, position: usize) -> f64
+        requires { position < length self.now.configuration.now }
+        ensures { (m : Model) → PlaceTerms m self.now.configuration.now self.now.sites.now self.now.pairs.now self.now.logs.now → result ≡ sum_from sum (chain_place m position (left_of self.now.configuration.now position) (get_or self.now.configuration.now position 0)) }
+    {
+        if self.configuration[position] == 0 {
+            return sum;
+        }
+        let site = self.sites[position];
+        let potential = self.logs[position];
+        if position == 0 {
+            return sum + site - potential;
+        }
+        let left = position - 1;
+        let pair = self.pairs[left];
+        sum + pair + site - potential
     }
-    sumg + site - potential
 }
 
 // The sum of `g_system` over all places, before the product with RT.
@@ -43,41 +65,17 @@ pub fn state_sum(configuration: &[u8], sites: &[f64], pairs: &[f64], logs: &[f64
     requires configuration_in_bounds_3 { length configuration.now ≤ length logs.now }
     ensures { (m : Model) → PlaceTerms m configuration.now sites.now pairs.now logs.now → result ≡ sum_from zero (state_terms m 0 configuration.now) }
 {
-    let mut sumg = 0.0;
-    let mut id = 0;
-    while id < configuration.len() {
-        sumg = add_place(configuration, sites, pairs, logs, id, sumg);
-        id += 1;
+    let places = Places {
+        configuration,
+        sites,
+        pairs,
+        logs,
+    };
+    let mut sum = 0.0;
+    for id in 0..configuration.len() {
+        sum = places.add_state_place(sum, id);
     }
-    sumg
-}
-
-// The chain sum after one more place.
-fn chain_place(
-    configuration: &[u8],
-    sites: &[f64],
-    pairs: &[f64],
-    logs: &[f64],
-    position: usize,
-    sum: f64,
-) -> f64
-    requires position_in_bounds { position < length configuration.now }
-    requires configuration_in_bounds { length configuration.now ≤ length sites.now }
-    requires configuration_in_bounds_2 { length configuration.now ≤ length pairs.now }
-    requires configuration_in_bounds_3 { length configuration.now ≤ length logs.now }
-    ensures { (m : Model) → PlaceTerms m configuration.now sites.now pairs.now logs.now → result ≡ sum_from sum (chain_place m position (left_of configuration.now position) (get_or configuration.now position 0)) }
-{
-    if configuration[position] == 0 {
-        return sum;
-    }
-    let site = sites[position];
-    let potential = logs[position];
-    if position == 0 {
-        return sum + site - potential;
-    }
-    let left = position - 1;
-    let pair = pairs[left];
-    sum + pair + site - potential
+    sum
 }
 
 // The chain sum over all places, before the product with RT.
@@ -87,11 +85,15 @@ pub fn chain_sum(configuration: &[u8], sites: &[f64], pairs: &[f64], logs: &[f64
     requires configuration_in_bounds_3 { length configuration.now ≤ length logs.now }
     ensures { (m : Model) → PlaceTerms m configuration.now sites.now pairs.now logs.now → result ≡ chain_energy m configuration.now }
 {
+    let places = Places {
+        configuration,
+        sites,
+        pairs,
+        logs,
+    };
     let mut sum = 0.0;
-    let mut position = 0;
-    while position < configuration.len() {
-        sum = chain_place(configuration, sites, pairs, logs, position, sum);
-        position += 1;
+    for position in 0..configuration.len() {
+        sum = places.add_chain_place(sum, position);
     }
     sum
 }
@@ -111,11 +113,8 @@ pub fn ring_sum(
     ensures { (m : Model) → PlaceTerms m configuration.now sites.now pairs.now logs.now → ClosingTerm m configuration.now closing → result ≡ closed m (get_or configuration.now 0 0) (get_or configuration.now (length configuration.now - 1) 0) (chain_energy m configuration.now) }
 {
     let sum = chain_sum(configuration, sites, pairs, logs);
-    if configuration[0] == 0 {
-        return sum;
-    }
     let last = configuration.len() - 1;
-    if configuration[last] == 0 {
+    if configuration[0] == 0 || configuration[last] == 0 {
         return sum;
     }
     sum + closing

@@ -4,8 +4,10 @@
 
 mod attach;
 mod bonds;
+mod choices;
 pub mod energies;
 pub mod lowest;
+mod positions;
 pub mod rings;
 pub mod states;
 mod sums;

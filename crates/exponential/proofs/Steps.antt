@@ -51,7 +51,7 @@ sum-under-alg n m W w T q x h g = omega (arith, mul-le-mul_left (n * m) h)
 sum-over-alg : (n m W w T q x : ℕ) → T * 2 ^ 54 ≤ (w + 10 * n) * W → x * 2 ^ 54 ≤ (q + 10) * (n * m * W) → (n * m * T + x) * 2 ^ 54 ≤ (w + q + 10 * (n + 1)) * (n * m * W)
 sum-over-alg n m W w T q x h g = omega (arith, mul-le-mul_left (n * m) h)
 
-pub powered-more : (s j t w p : ℕ) → s < 48775896626291 → j < 15 → p * 2 ^ 54 ≤ t * (s * 256) → t * (s * 256) ≤ (p + 3) * 2 ^ 54 → Powered s j t w → Powered s (j + 1) (p / (j + 1)) (w + p / (j + 1))
+powered-more : (s j t w p : ℕ) → s < 48775896626291 → j < 15 → p * 2 ^ 54 ≤ t * (s * 256) → t * (s * 256) ≤ (p + 3) * 2 ^ 54 → Powered s j t w → Powered s (j + 1) (p / (j + 1)) (w + p / (j + 1))
 unfolding taylor whole
 powered-more s j t w p S l h g r =
     let m = 2 ^ 46 in
@@ -82,6 +82,15 @@ powered-more s j t w p S l h g r =
         let a : p ≡ 0 = omega (arith, rw z at h) in
         let b : p / suc j ≤ p = div-le_self p (suc j) in
         omega (arith, r.exact z)
+
+-- the j-th term
+pub powered-next : (s j t w p : ℕ) → s < 48775896626291 → 1 ≤ j → j ≤ 15 → p * 2 ^ 54 ≤ t * (s * 256) → t * (s * 256) ≤ (p + 3) * 2 ^ 54
+    → Powered s (j - 1) t w → Powered s (j + 1 - 1) (p / j) (w + p / j)
+powered-next s j t w p S h k g e r =
+    let i = j - 1 in
+    let same : i + 1 ≡ j = omega arith in
+    let next : j + 1 - 1 ≡ i + 1 = omega arith in
+    rw next (subst (λ (m : ℕ). Powered s (i + 1) (p / m) (w + p / m)) same (powered-more s i t w p S (omega arith) g e r))
 
 -- ---- the sum against the exponential
 last-alg : (e M : ℕ) → e * 4 ^ 16 ≤ 3 ^ 16 * M → 2 * e * 2 ^ 54 ≤ 20 * (20922789888000 * M)

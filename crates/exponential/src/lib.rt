@@ -10,7 +10,7 @@ ghost use Rattle.exponential.specs.Parts.{Weighed, Cut};
 
 use fractions::Weight;
 use logarithm::mul_units;
-use reply::{Place, Refusal};
+use reply::Refusal;
 
 // The largest argument, of either sign.
 const MOST: f64 = 80000.0;
@@ -18,14 +18,16 @@ const MOST: f64 = 80000.0;
 // ln 2, in units of 2^-46.
 const LN2: u64 = 48775896626291;
 
-// A weight, or why there is none.
-#[derive(Clone, Copy)]
-pub enum WeightAnswer {
-    Given(Weight),
-    Refused(Refusal, Place),
-}
+// 1, in units of 2^-54.
+const ONE: u64 = 1 << 54;
 
-// digits × 2^power / 2^30
+// The bit of a double's sign.
+const SIGN: u64 = 1 << 63;
+
+// The digit that a double's bits leave out.
+const HIDDEN: u64 = 1 << 52;
+
+// digits × 2^power / 2^30. No Weight, whose power is signed: the inverse is taken of whole numbers first, and proved over them.
 #[derive(Clone, Copy)]
 struct Raised {
     digits: u64,
@@ -41,11 +43,9 @@ fn exp_rest(s: u64) -> u64
     ensures value { s ≡ 0 → result ≡ 2 ^ 54 }
 {
     let u = s * 256;
-    let mut term: u64 = 18014398509481984;
-    let mut sum: u64 = 18014398509481984;
-    let mut j: u64 = 0;
-    while j < 15 {
-        j += 1;
+    let mut term = ONE;
+    let mut sum = ONE;
+    for j in 1..=15 {
         term = mul_units(term, u) / j;
         sum += term;
     }
@@ -59,7 +59,7 @@ fn exp_up(y: u64) -> Raised
 {
     let rest = exp_rest(y % LN2);
     Raised {
-        digits: rest / 16777216,
+        digits: rest / (1 << 24),
         power: y / LN2,
     }
 }
@@ -69,9 +69,9 @@ fn size_units(x: f64) -> u64
     requires { has_exponential x ≡ true }
     ensures { Cut x result }
 {
-    let a = f64::to_bits(x) % 9223372036854775808;
-    let exponent = a / 4503599627370496;
-    let digits = a % 4503599627370496 + 4503599627370496;
+    let a = f64::to_bits(x) % SIGN;
+    let exponent = a / HIDDEN;
+    let digits = a % HIDDEN + HIDDEN;
     if exponent < 977 {
         return 0;
     }
@@ -89,10 +89,10 @@ pub fn exp_weight(x: f64) -> Weight
     let raised = exp_up(size_units(x));
     let power = raised.power as i32;
     if x < 0.0 {
-        let digits = 2305843009213693952 / raised.digits;
-        if digits == 2147483648 {
+        let digits = (1 << 61) / raised.digits;
+        if digits == 1 << 31 {
             return Weight {
-                digits: 1073741824,
+                digits: 1 << 30,
                 power: -30 - power,
             };
         }
@@ -108,11 +108,11 @@ pub fn exp_weight(x: f64) -> Weight
 }
 
 // The exponential of a double up to 80,000 in size.
-pub fn exp(x: f64) -> WeightAnswer
+pub fn exp(x: f64) -> Result<Weight, Refusal>
     ensures { ExpAnswered x result }
 {
-    if doubles::in_range(-MOST, MOST, x) {
-        return WeightAnswer::Given(exp_weight(x));
+    if !doubles::in_range(-MOST, MOST, x) {
+        return Err(Refusal::OutOfRange);
     }
-    WeightAnswer::Refused(Refusal::OutOfRange, Place::Nowhere)
+    Ok(exp_weight(x))
 }

@@ -1,3 +1,1 @@
-pub mod Answered
-pub mod Tabled
-pub mod Summed
+mod Tabled

@@ -4,7 +4,8 @@ ghost use Rattle.design.specs.Answers.{strand_bond_answer, scaffold_bond_answer,
 ghost use Rattle.exports.specs.Lent.{ambient_of, lent_at};
 ghost use Rattle.exports.specs.Told.{Told, chain_of};
 
-use super::answers;
+use super::answers::{tell, tell_chain, tell_energy};
+use design::Design;
 use units::{Ambient, KcalPerMol, Kelvin};
 
 // The ambient out of its three doubles.
@@ -36,21 +37,16 @@ pub fn mj_strand_bond(
 ) -> u32
     ensures { Told (strand_bond_answer (lent_at scaffold.entry marks.entry glues.entry dg.entry ds.entry potentials.entry rt strand_excess scaffold_excess) x y) result place.new bond.new }
 {
-    answers::tell_bond(
-        sdc1d::bond_between_strands(
-            scaffold,
-            marks,
-            glues,
-            dg,
-            ds,
-            potentials,
-            ambient(rt, strand_excess, scaffold_excess),
-            x,
-            y,
-        ),
-        place,
-        bond,
-    )
+    let design = Design {
+        scaffold,
+        marks,
+        glues,
+        dg,
+        ds,
+        potentials,
+        ambient: ambient(rt, strand_excess, scaffold_excess),
+    };
+    tell(sdc1d::bond_between_strands(&design, x, y), 0.0, place, bond)
 }
 
 // The bond between the scaffold at a position and a strand.
@@ -71,18 +67,18 @@ pub fn mj_scaffold_bond(
 ) -> u32
     ensures { Told (scaffold_bond_answer (lent_at scaffold.entry marks.entry glues.entry dg.entry ds.entry potentials.entry rt strand_excess scaffold_excess) position strand) result place.new bond.new }
 {
-    answers::tell_bond(
-        sdc1d::bond_with_scaffold(
-            scaffold,
-            marks,
-            glues,
-            dg,
-            ds,
-            potentials,
-            ambient(rt, strand_excess, scaffold_excess),
-            position,
-            strand,
-        ),
+    let design = Design {
+        scaffold,
+        marks,
+        glues,
+        dg,
+        ds,
+        potentials,
+        ambient: ambient(rt, strand_excess, scaffold_excess),
+    };
+    tell(
+        sdc1d::bond_with_scaffold(&design, position, strand),
+        0.0,
         place,
         bond,
     )
@@ -107,18 +103,18 @@ pub fn mj_friends(
     ensures told { Told (friends_answer (lent_at scaffold.entry marks.entry glues.entry dg.entry ds.entry potentials.entry rt strand_excess scaffold_excess) position entries.old) result place.new count.new }
     ensures entries_after { entries.new ≡ friends_entries (lent_at scaffold.entry marks.entry glues.entry dg.entry ds.entry potentials.entry rt strand_excess scaffold_excess) position entries.old }
 {
-    answers::tell_count(
-        sdc1d::friends_btm(
-            scaffold,
-            marks,
-            glues,
-            dg,
-            ds,
-            potentials,
-            ambient(rt, strand_excess, scaffold_excess),
-            position,
-            entries,
-        ),
+    let design = Design {
+        scaffold,
+        marks,
+        glues,
+        dg,
+        ds,
+        potentials,
+        ambient: ambient(rt, strand_excess, scaffold_excess),
+    };
+    tell(
+        sdc1d::friends_btm(&design, position, entries),
+        0,
         place,
         count,
     )
@@ -140,19 +136,16 @@ pub fn mj_states(
 ) -> u32
     ensures { Told (count_answer (lent_at scaffold.entry marks.entry glues.entry dg.entry ds.entry potentials.entry rt strand_excess scaffold_excess)) result place.new count.new }
 {
-    answers::tell_count(
-        sdc1d::number_of_states(
-            scaffold,
-            marks,
-            glues,
-            dg,
-            ds,
-            potentials,
-            ambient(rt, strand_excess, scaffold_excess),
-        ),
-        place,
-        count,
-    )
+    let design = Design {
+        scaffold,
+        marks,
+        glues,
+        dg,
+        ds,
+        potentials,
+        ambient: ambient(rt, strand_excess, scaffold_excess),
+    };
+    tell(sdc1d::number_of_states(&design), 0, place, count)
 }
 
 // The state at a rank, into one lent entry for each position.
@@ -173,19 +166,20 @@ pub fn mj_state(
     ensures told { Told (rank_answer (lent_at scaffold.entry marks.entry glues.entry dg.entry ds.entry potentials.entry rt strand_excess scaffold_excess) rank entries.old) result place.new tt }
     ensures entries_after { entries.new ≡ rank_entries (lent_at scaffold.entry marks.entry glues.entry dg.entry ds.entry potentials.entry rt strand_excess scaffold_excess) rank entries.old }
 {
-    answers::tell_state(
-        sdc1d::state_at_rank(
-            scaffold,
-            marks,
-            glues,
-            dg,
-            ds,
-            potentials,
-            ambient(rt, strand_excess, scaffold_excess),
-            rank,
-            entries,
-        ),
+    let design = Design {
+        scaffold,
+        marks,
+        glues,
+        dg,
+        ds,
+        potentials,
+        ambient: ambient(rt, strand_excess, scaffold_excess),
+    };
+    tell(
+        sdc1d::state_at_rank(&design, rank, entries),
+        (),
         place,
+        &mut (),
     )
 }
 
@@ -206,20 +200,16 @@ pub fn mj_state_energy(
 ) -> u32
     ensures { Told (state_energy_answer (lent_at scaffold.entry marks.entry glues.entry dg.entry ds.entry potentials.entry rt strand_excess scaffold_excess) configuration.now) result place.new energy.new }
 {
-    answers::tell_energy(
-        sdc1d::g_system(
-            scaffold,
-            marks,
-            glues,
-            dg,
-            ds,
-            potentials,
-            ambient(rt, strand_excess, scaffold_excess),
-            configuration,
-        ),
-        place,
-        energy,
-    )
+    let design = Design {
+        scaffold,
+        marks,
+        glues,
+        dg,
+        ds,
+        potentials,
+        ambient: ambient(rt, strand_excess, scaffold_excess),
+    };
+    tell_energy(sdc1d::g_system(&design, configuration), place, energy)
 }
 
 // The chain energy of a configuration, as it is and times RT.
@@ -240,17 +230,17 @@ pub fn mj_chain_energy(
 ) -> u32
     ensures { Told (chain_energy_answer (lent_at scaffold.entry marks.entry glues.entry dg.entry ds.entry potentials.entry rt strand_excess scaffold_excess) configuration.now) result place.new (chain_of sum.new energy.new) }
 {
-    answers::tell_chain(
-        sdc1d::chain_energy(
-            scaffold,
-            marks,
-            glues,
-            dg,
-            ds,
-            potentials,
-            ambient(rt, strand_excess, scaffold_excess),
-            configuration,
-        ),
+    let design = Design {
+        scaffold,
+        marks,
+        glues,
+        dg,
+        ds,
+        potentials,
+        ambient: ambient(rt, strand_excess, scaffold_excess),
+    };
+    tell_chain(
+        sdc1d::chain_energy(&design, configuration),
         place,
         sum,
         energy,

@@ -4,12 +4,12 @@ ghost use Rattle.sdc_common.specs.Lent.{names_of};
 ghost use Rattle.sdc_common.specs.Calls.{name_figures, self_and_inverse, strand_glues, glues_after};
 ghost use Rattle.exports.specs.Flag.{flag};
 
-use reply::Reply;
-use sdc_common::NameAnswer;
+use reply::{ANSWERED, Refusal};
+use sdc_common::NameBase;
 
 // The reply number of a name, where its base starts, how long that is, and 1 where the name stands for it, 0 where it stands for base*.
 fn tell_name(
-    answer: NameAnswer,
+    answer: Result<NameBase, Refusal>,
     base_start: &mut u64,
     base_length: &mut u64,
     is_base: &mut u64,
@@ -20,13 +20,13 @@ fn tell_name(
     ensures is_base_after { is_base.new ≡ flag (name_figures answer).from }
 {
     match answer {
-        NameAnswer::Given(start, length, from) => {
-            *base_start = start as u64;
-            *base_length = length as u64;
-            *is_base = from as u64;
-            Reply::Admitted.number()
+        Ok(base) => {
+            *base_start = base.start as u64;
+            *base_length = base.size as u64;
+            *is_base = base.is_base as u64;
+            ANSWERED
         }
-        NameAnswer::Refused(refusal) => {
+        Err(refusal) => {
             *base_start = 0;
             *base_length = 0;
             *is_base = 0;
@@ -62,5 +62,8 @@ pub fn mj_strand_glues(text: &[u8], users: usize, strands: &[usize], glues: &mut
     ensures value { result ≡ strand_glues users text.now (names_of strands.now) (length glues.old) }
     ensures glues_after { glues.new ≡ glues_after users text.now (names_of strands.now) glues.old }
 {
-    sdc_common::strand_glues(text, users, strands, glues).number()
+    match sdc_common::strand_glues(text, users, strands, glues) {
+        Ok(()) => ANSWERED,
+        Err(refusal) => refusal.number(),
+    }
 }

@@ -4,27 +4,18 @@ ghost use Rattle.sdc1d_params.specs.Params.{outcome_of, params_of, lent_of};
 ghost use Rattle.exports.specs.Builds.{build_numbered, built_in};
 ghost use Rattle.exports.specs.Copied.{copied_of, copies_of, penalty_of};
 
-use reply::Refusal;
+use reply::{ANSWERED, Refusal};
 use sdc1d_params::{Build, Copied, Copies, Penalty};
 use units::{KcalPerMol, KcalPerMolKelvin};
 
-// The build that a number names.
-#[derive(Clone, Copy)]
-pub enum NamedBuild {
-    Known(Build),
-    Unknown,
-}
-
-impl NamedBuild {
-    // 0 and 1 name a build each.
-    fn of(number: u32) -> Self
-        ensures { result ≡ build_numbered number }
-    {
-        match number {
-            0 => NamedBuild::Known(Build::Ordinary),
-            1 => NamedBuild::Known(Build::Archive),
-            _ => NamedBuild::Unknown,
-        }
+// The build that a number names: 0 and 1 name one each.
+fn build_of(number: u32) -> Option<Build>
+    ensures { result ≡ build_numbered number }
+{
+    match number {
+        0 => Some(Build::Ordinary),
+        1 => Some(Build::Archive),
+        _ => None,
     }
 }
 
@@ -70,26 +61,29 @@ pub fn mj_params(
 ) -> u32
     ensures { outcome_of result strand_glues.new scaffold_glues.new dg.new ds.new ≡ built_in (build_numbered build) (params_of text.now users strands.now scaffold.now entries.now energies.now (penalty_of penalty_dg penalty_ds) (copies_of quencher reporter)) (lent_of strand_glues.old scaffold_glues.old dg.old ds.old) }
 {
-    match NamedBuild::of(build) {
-        NamedBuild::Known(known) => sdc1d_params::from_params(
-            known,
-            text,
-            users,
-            strands,
-            scaffold,
-            entries,
-            energies,
-            Penalty {
-                dg: KcalPerMol(penalty_dg),
-                ds: KcalPerMolKelvin(penalty_ds),
-            },
-            copies(quencher, reporter),
-            strand_glues,
-            scaffold_glues,
-            dg,
-            ds,
-        )
-        .number(),
-        NamedBuild::Unknown => Refusal::WrongSize.number(),
+    let Some(known) = build_of(build) else {
+        return Refusal::WrongSize.number();
+    };
+    let answer = sdc1d_params::from_params(
+        known,
+        text,
+        users,
+        strands,
+        scaffold,
+        entries,
+        energies,
+        Penalty {
+            dg: KcalPerMol(penalty_dg),
+            ds: KcalPerMolKelvin(penalty_ds),
+        },
+        copies(quencher, reporter),
+        strand_glues,
+        scaffold_glues,
+        dg,
+        ds,
+    );
+    match answer {
+        Ok(()) => ANSWERED,
+        Err(refusal) => refusal.number(),
     }
 }

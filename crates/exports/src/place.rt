@@ -2,17 +2,15 @@
 ghost use Rattle.std.specs.Prelude.{◌≡◌};
 ghost use Rattle.exports.specs.Place.{place_number};
 
-use reply::Place;
-
 // All ones: there is no place.
 pub(crate) const NOWHERE: u64 = 0xffff_ffff_ffff_ffff;
 
 // The index of a place, and all ones where there is none.
-pub(crate) fn number(place: Place) -> u64
+pub(crate) fn number(place: Option<usize>) -> u64
     ensures { result ≡ place_number place }
 {
     match place {
-        Place::Nowhere => NOWHERE,
-        Place::At(at) => at as u64,
+        None => NOWHERE,
+        Some(at) => at as u64,
     }
 }

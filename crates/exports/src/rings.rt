@@ -5,8 +5,9 @@ ghost use Rattle.exports.specs.Lent.{lent_at};
 ghost use Rattle.exports.specs.Lowest.{LowestRingTold};
 ghost use Rattle.exports.specs.Told.{Told};
 
-use super::answers;
+use super::answers::tell_energy;
 use super::designs::ambient;
+use design::Design;
 
 // The ring energy of a configuration.
 pub fn mj_ring_energy(
@@ -25,20 +26,16 @@ pub fn mj_ring_energy(
 ) -> u32
     ensures { Told (ring_energy_answer (lent_at scaffold.entry marks.entry glues.entry dg.entry ds.entry potentials.entry rt strand_excess scaffold_excess) configuration.now) result place.new energy.new }
 {
-    answers::tell_energy(
-        ring::ring_energy(
-            scaffold,
-            marks,
-            glues,
-            dg,
-            ds,
-            potentials,
-            ambient(rt, strand_excess, scaffold_excess),
-            configuration,
-        ),
-        place,
-        energy,
-    )
+    let design = Design {
+        scaffold,
+        marks,
+        glues,
+        dg,
+        ds,
+        potentials,
+        ambient: ambient(rt, strand_excess, scaffold_excess),
+    };
+    tell_energy(ring::ring_energy(&design, configuration), place, energy)
 }
 
 // The lowest ring, into one lent entry for each position, and its energy.
@@ -60,17 +57,17 @@ pub fn mj_ring_search(
     ensures configuration_after { configuration.new ≡ ring_search_entries (lent_at scaffold.entry marks.entry glues.entry dg.entry ds.entry potentials.entry rt strand_excess scaffold_excess) configuration.old }
     ensures lowest_ring_told { LowestRingTold (lent_at scaffold.entry marks.entry glues.entry dg.entry ds.entry potentials.entry rt strand_excess scaffold_excess) result configuration.new energy.new }
 {
-    answers::tell_energy(
-        ring::ring_configuration(
-            scaffold,
-            marks,
-            glues,
-            dg,
-            ds,
-            potentials,
-            ambient(rt, strand_excess, scaffold_excess),
-            configuration,
-        ),
+    let design = Design {
+        scaffold,
+        marks,
+        glues,
+        dg,
+        ds,
+        potentials,
+        ambient: ambient(rt, strand_excess, scaffold_excess),
+    };
+    tell_energy(
+        ring::ring_configuration(&design, configuration),
         place,
         energy,
     )

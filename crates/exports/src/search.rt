@@ -5,8 +5,9 @@ ghost use Rattle.exports.specs.Lent.{lent_at};
 ghost use Rattle.exports.specs.Lowest.{LowestTold};
 ghost use Rattle.exports.specs.Told.{Told};
 
-use super::answers;
+use super::answers::tell_energy;
 use super::designs::ambient;
+use design::Design;
 
 // The lowest configuration, into one lent entry for each position, and its energy.
 pub fn mj_search(
@@ -27,17 +28,17 @@ pub fn mj_search(
     ensures configuration_after { configuration.new ≡ search_entries (lent_at scaffold.entry marks.entry glues.entry dg.entry ds.entry potentials.entry rt strand_excess scaffold_excess) configuration.old }
     ensures lowest_told { LowestTold (lent_at scaffold.entry marks.entry glues.entry dg.entry ds.entry potentials.entry rt strand_excess scaffold_excess) result configuration.new energy.new }
 {
-    answers::tell_energy(
-        mfe::mfe_configuration(
-            scaffold,
-            marks,
-            glues,
-            dg,
-            ds,
-            potentials,
-            ambient(rt, strand_excess, scaffold_excess),
-            configuration,
-        ),
+    let design = Design {
+        scaffold,
+        marks,
+        glues,
+        dg,
+        ds,
+        potentials,
+        ambient: ambient(rt, strand_excess, scaffold_excess),
+    };
+    tell_energy(
+        mfe::mfe_configuration(&design, configuration),
         place,
         energy,
     )

@@ -2,20 +2,20 @@
 ghost use Rattle.std.specs.Prelude.{◌≡◌};
 ghost use Rattle.short_sequences.specs.Answers.{sequence_figures, sequence_answer, sequence_bytes};
 
-use reply::Reply;
-use short_sequences::{SequenceAnswer, short_sequence};
+use reply::{ANSWERED, Refusal};
+use short_sequences::short_sequence;
 
 // The reply number, and the number of bases.
-fn tell_sequence(answer: SequenceAnswer, bases: &mut u64) -> u32
+fn tell_sequence(answer: Result<usize, Refusal>, bases: &mut u64) -> u32
     ensures value { result ≡ (sequence_figures answer).number }
     ensures bases_after { bases.new ≡ (sequence_figures answer).figure }
 {
     match answer {
-        SequenceAnswer::Bases(given) => {
+        Ok(given) => {
             *bases = given as u64;
-            Reply::Admitted.number()
+            ANSWERED
         }
-        SequenceAnswer::Refused(refusal) => {
+        Err(refusal) => {
             *bases = 0;
             refusal.number()
         }

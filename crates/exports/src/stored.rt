@@ -8,60 +8,51 @@ ghost use Rattle.exports.specs.Place.{place_number};
 ghost use Rattle.exports.specs.Stored.{form_numbered, read_in, entries_in, write_in, words_in, move_from, moved_from, MovesFrom};
 
 use super::place;
-use deck::{DeckForm, DeckMoved, DeckRead, DeckWritten};
-use reply::{Place, Refusal, Reply};
+use deck::DeckForm;
+use reply::{ANSWERED, Refusal, Refused};
 
-// The form that a number names.
-#[derive(Clone, Copy)]
-pub enum NamedForm {
-    Known(DeckForm),
-    Unknown,
-}
-
-impl NamedForm {
-    // 0 and 1 name a form each.
-    fn of(number: u32) -> Self
-        ensures { result ≡ form_numbered number }
-    {
-        match number {
-            0 => NamedForm::Known(DeckForm::Singles),
-            1 => NamedForm::Known(DeckForm::Runs),
-            _ => NamedForm::Unknown,
-        }
+// The form that a number names: 0 and 1 name one each.
+fn form_of(number: u32) -> Option<DeckForm>
+    ensures { result ≡ form_numbered number }
+{
+    match number {
+        0 => Some(DeckForm::Singles),
+        1 => Some(DeckForm::Runs),
+        _ => None,
     }
 }
 
 // The reply number of reading, the place of a fault, and the number of positions.
-fn tell_read(answer: DeckRead, place: &mut u64, count: &mut u64) -> u32
+fn tell_read(answer: Result<usize, Refused>, place: &mut u64, count: &mut u64) -> u32
     ensures value { result ≡ (read_figures_of answer).number }
     ensures place_after { place.new ≡ place_number (read_figures_of answer).place }
     ensures count_after { count.new ≡ (read_figures_of answer).count }
 {
     match answer {
-        DeckRead::Positions(given) => {
+        Ok(given) => {
             *place = place::NOWHERE;
             *count = given as u64;
-            Reply::Admitted.number()
+            ANSWERED
         }
-        DeckRead::Refused(refusal, at) => {
-            *place = place::number(at);
+        Err(refused) => {
+            *place = place::number(refused.place);
             *count = 0;
-            refusal.number()
+            refused.refusal.number()
         }
     }
 }
 
 // The reply number of writing, and the number of words.
-fn tell_written(answer: DeckWritten, count: &mut u64) -> u32
+fn tell_written(answer: Result<usize, Refusal>, count: &mut u64) -> u32
     ensures value { result ≡ (write_figures_of answer).number }
     ensures count_after { count.new ≡ (write_figures_of answer).count }
 {
     match answer {
-        DeckWritten::Words(given) => {
+        Ok(given) => {
             *count = given as u64;
-            Reply::Admitted.number()
+            ANSWERED
         }
-        DeckWritten::Refused(refusal) => {
+        Err(refusal) => {
             *count = 0;
             refusal.number()
         }
@@ -69,21 +60,21 @@ fn tell_written(answer: DeckWritten, count: &mut u64) -> u32
 }
 
 // The reply number of moving, the place of a fault, and the number of words.
-fn tell_moved(answer: DeckMoved, place: &mut u64, count: &mut u64) -> u32
+fn tell_moved(answer: Result<usize, Refused>, place: &mut u64, count: &mut u64) -> u32
     ensures value { result ≡ (move_figures_of answer).number }
     ensures place_after { place.new ≡ place_number (move_figures_of answer).place }
     ensures count_after { count.new ≡ (move_figures_of answer).count }
 {
     match answer {
-        DeckMoved::Words(given) => {
+        Ok(given) => {
             *place = place::NOWHERE;
             *count = given as u64;
-            Reply::Admitted.number()
+            ANSWERED
         }
-        DeckMoved::Refused(refusal, at) => {
-            *place = place::number(at);
+        Err(refused) => {
+            *place = place::number(refused.place);
             *count = 0;
-            refusal.number()
+            refused.refusal.number()
         }
     }
 }
@@ -101,14 +92,11 @@ pub fn mj_deck_read(
     ensures count_after { count.new ≡ (read_in (form_numbered form) words.now entries.old).count }
     ensures entries_after { entries.new ≡ entries_in (form_numbered form) words.now entries.old }
 {
-    match NamedForm::of(form) {
-        NamedForm::Known(known) => tell_read(deck::read(known, words, entries), place, count),
-        NamedForm::Unknown => tell_read(
-            DeckRead::Refused(Refusal::WrongSize, Place::Nowhere),
-            place,
-            count,
-        ),
-    }
+    let answer = match form_of(form) {
+        Some(known) => deck::read(known, words, entries),
+        None => Err(Refusal::WrongSize.into()),
+    };
+    tell_read(answer, place, count)
 }
 
 // Writes the deck of a configuration into 129 lent words, and tells how many it has. Replies 1, 9.
@@ -117,10 +105,11 @@ pub fn mj_deck_write(form: u32, configuration: &[u8], words: &mut [u32], count: 
     ensures count_after { count.new ≡ (write_in (form_numbered form) configuration.now words.old).count }
     ensures words_after { words.new ≡ words_in (form_numbered form) configuration.now words.old }
 {
-    match NamedForm::of(form) {
-        NamedForm::Known(known) => tell_written(deck::write(known, configuration, words), count),
-        NamedForm::Unknown => tell_written(DeckWritten::Refused(Refusal::WrongSize), count),
-    }
+    let answer = match form_of(form) {
+        Some(known) => deck::write(known, configuration, words),
+        None => Err(Refusal::WrongSize),
+    };
+    tell_written(answer, count)
 }
 
 // Moves a deck of a form into the other form, in 129 lent words, and tells how many it has. Replies 1, 14.
@@ -137,12 +126,9 @@ pub fn mj_deck_move(
     ensures moved_after { moved.new ≡ moved_from (form_numbered form) words.now moved.old }
     ensures moves_from { result ≡ answered → MovesFrom (form_numbered form) words.now (take count.new moved.new) }
 {
-    match NamedForm::of(form) {
-        NamedForm::Known(known) => tell_moved(deck::move_deck(known, words, moved), place, count),
-        NamedForm::Unknown => tell_moved(
-            DeckMoved::Refused(Refusal::WrongSize, Place::Nowhere),
-            place,
-            count,
-        ),
-    }
+    let answer = match form_of(form) {
+        Some(known) => deck::move_deck(known, words, moved),
+        None => Err(Refusal::WrongSize.into()),
+    };
+    tell_moved(answer, place, count)
 }

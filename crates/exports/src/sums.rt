@@ -11,26 +11,32 @@ ghost use Rattle.exports.specs.Told.{Told};
 
 use super::designs::ambient;
 use super::place;
-use reply::Reply;
-use state_sums::SumAnswer;
+use design::Design;
+use fractions::Weight;
+use reply::{ANSWERED, Refused};
 
 // A sum: its digits and its exponent, both 0 for zero.
-fn tell_sum(answer: SumAnswer, place: &mut u64, digits: &mut u32, power: &mut i32) -> u32
+fn tell_sum(
+    answer: Result<Weight, Refused>,
+    place: &mut u64,
+    digits: &mut u32,
+    power: &mut i32,
+) -> u32
     ensures { Told (sum_figures answer) result place.new (weight digits.new power.new) }
 {
     match answer {
-        SumAnswer::Sum(sum) => {
+        Ok(sum) => {
             let exponent = sum.power;
             *place = place::NOWHERE;
             *digits = sum.digits;
             *power = exponent;
-            Reply::Admitted.number()
+            ANSWERED
         }
-        SumAnswer::Refused(refusal, at) => {
-            *place = place::number(at);
+        Err(refused) => {
+            *place = place::number(refused.place);
             *digits = 0;
             *power = 0;
-            refusal.number()
+            refused.refusal.number()
         }
     }
 }
@@ -57,15 +63,18 @@ pub fn mj_free_sum(
     ensures told { Told (free_answer (lent_at scaffold.entry marks.entry glues.entry dg.entry ds.entry potentials.entry rt strand_excess scaffold_excess) (lent_weights (length potentials.now) place_digits.entry place_powers.entry pair_digits.entry pair_powers.entry)) result place.new (weight digits.new power.new) }
     ensures free_told { FreeTold (lent_at scaffold.entry marks.entry glues.entry dg.entry ds.entry potentials.entry rt strand_excess scaffold_excess) (lent_weights (length potentials.now) place_digits.entry place_powers.entry pair_digits.entry pair_powers.entry) result (weight digits.new power.new) }
 {
+    let design = Design {
+        scaffold,
+        marks,
+        glues,
+        dg,
+        ds,
+        potentials,
+        ambient: ambient(rt, strand_excess, scaffold_excess),
+    };
     tell_sum(
         state_sums::free_sum(
-            scaffold,
-            marks,
-            glues,
-            dg,
-            ds,
-            potentials,
-            ambient(rt, strand_excess, scaffold_excess),
+            &design,
             place_digits,
             place_powers,
             pair_digits,
@@ -102,15 +111,18 @@ pub fn mj_constrained_sum(
     ensures told { Told (constrained_answer (lent_at scaffold.entry marks.entry glues.entry dg.entry ds.entry potentials.entry rt strand_excess scaffold_excess) (lent_weights (length potentials.now) place_digits.entry place_powers.entry pair_digits.entry pair_powers.entry) (lent_lists numbers.entry starts.entry lengths.entry)) result place.new (weight digits.new power.new) }
     ensures constrained_told { ConstrainedTold (lent_at scaffold.entry marks.entry glues.entry dg.entry ds.entry potentials.entry rt strand_excess scaffold_excess) (lent_weights (length potentials.now) place_digits.entry place_powers.entry pair_digits.entry pair_powers.entry) (lent_lists numbers.entry starts.entry lengths.entry) result (weight digits.new power.new) }
 {
+    let design = Design {
+        scaffold,
+        marks,
+        glues,
+        dg,
+        ds,
+        potentials,
+        ambient: ambient(rt, strand_excess, scaffold_excess),
+    };
     tell_sum(
         state_sums::constrained_sum(
-            scaffold,
-            marks,
-            glues,
-            dg,
-            ds,
-            potentials,
-            ambient(rt, strand_excess, scaffold_excess),
+            &design,
             place_digits,
             place_powers,
             pair_digits,

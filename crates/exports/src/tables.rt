@@ -5,8 +5,10 @@ ghost use Rattle.exports.specs.Lent.{lent_at};
 ghost use Rattle.exports.specs.Tables.{LowestToldOver};
 ghost use Rattle.exports.specs.Told.{Told};
 
-use super::answers;
+use super::answers::{tell, tell_energy};
 use super::designs::ambient;
+use bond_tables::BondTables;
+use design::Design;
 
 // Fills both tables with the bonds of a design.
 pub fn mj_bond_tables(
@@ -27,19 +29,20 @@ pub fn mj_bond_tables(
     ensures strand_bonds_after { strand_bonds.new ≡ filled_strands (lent_at scaffold.entry marks.entry glues.entry dg.entry ds.entry potentials.entry rt strand_excess scaffold_excess) strand_bonds.old scaffold_bonds.old }
     ensures scaffold_bonds_after { scaffold_bonds.new ≡ filled_scaffold (lent_at scaffold.entry marks.entry glues.entry dg.entry ds.entry potentials.entry rt strand_excess scaffold_excess) strand_bonds.old scaffold_bonds.old }
 {
-    answers::tell_state(
-        bond_tables::fill_bond_tables(
-            scaffold,
-            marks,
-            glues,
-            dg,
-            ds,
-            potentials,
-            ambient(rt, strand_excess, scaffold_excess),
-            strand_bonds,
-            scaffold_bonds,
-        ),
+    let design = Design {
+        scaffold,
+        marks,
+        glues,
+        dg,
+        ds,
+        potentials,
+        ambient: ambient(rt, strand_excess, scaffold_excess),
+    };
+    tell(
+        bond_tables::fill_bond_tables(&design, strand_bonds, scaffold_bonds),
+        (),
         place,
+        &mut (),
     )
 }
 
@@ -62,19 +65,21 @@ pub fn mj_state_energy_over(
 ) -> u32
     ensures { Told (energy_over_answer (lent_at scaffold.entry marks.entry glues.entry dg.entry ds.entry potentials.entry rt strand_excess scaffold_excess) strand_bonds.now scaffold_bonds.now configuration.now) result place.new energy.new }
 {
-    answers::tell_energy(
-        bond_tables::state_energy_over(
-            scaffold,
-            marks,
-            glues,
-            dg,
-            ds,
-            potentials,
-            ambient(rt, strand_excess, scaffold_excess),
-            strand_bonds,
-            scaffold_bonds,
-            configuration,
-        ),
+    let design = Design {
+        scaffold,
+        marks,
+        glues,
+        dg,
+        ds,
+        potentials,
+        ambient: ambient(rt, strand_excess, scaffold_excess),
+    };
+    let tables = BondTables {
+        strand_bonds,
+        scaffold_bonds,
+    };
+    tell_energy(
+        bond_tables::state_energy_over(&design, &tables, configuration),
         place,
         energy,
     )
@@ -98,21 +103,20 @@ pub fn mj_states_over(
 ) -> u32
     ensures { Told (count_over_answer (lent_at scaffold.entry marks.entry glues.entry dg.entry ds.entry potentials.entry rt strand_excess scaffold_excess) strand_bonds.now scaffold_bonds.now) result place.new count.new }
 {
-    answers::tell_count(
-        bond_tables::count_over(
-            scaffold,
-            marks,
-            glues,
-            dg,
-            ds,
-            potentials,
-            ambient(rt, strand_excess, scaffold_excess),
-            strand_bonds,
-            scaffold_bonds,
-        ),
-        place,
-        count,
-    )
+    let design = Design {
+        scaffold,
+        marks,
+        glues,
+        dg,
+        ds,
+        potentials,
+        ambient: ambient(rt, strand_excess, scaffold_excess),
+    };
+    let tables = BondTables {
+        strand_bonds,
+        scaffold_bonds,
+    };
+    tell(bond_tables::count_over(&design, &tables), 0, place, count)
 }
 
 // The state at a rank, into one lent entry for each position.
@@ -135,21 +139,24 @@ pub fn mj_state_over(
     ensures told { Told (rank_over_answer (lent_at scaffold.entry marks.entry glues.entry dg.entry ds.entry potentials.entry rt strand_excess scaffold_excess) strand_bonds.now scaffold_bonds.now rank entries.old) result place.new tt }
     ensures entries_after { entries.new ≡ rank_over_entries (lent_at scaffold.entry marks.entry glues.entry dg.entry ds.entry potentials.entry rt strand_excess scaffold_excess) strand_bonds.now scaffold_bonds.now rank entries.old }
 {
-    answers::tell_state(
-        bond_tables::state_over(
-            scaffold,
-            marks,
-            glues,
-            dg,
-            ds,
-            potentials,
-            ambient(rt, strand_excess, scaffold_excess),
-            strand_bonds,
-            scaffold_bonds,
-            rank,
-            entries,
-        ),
+    let design = Design {
+        scaffold,
+        marks,
+        glues,
+        dg,
+        ds,
+        potentials,
+        ambient: ambient(rt, strand_excess, scaffold_excess),
+    };
+    let tables = BondTables {
+        strand_bonds,
+        scaffold_bonds,
+    };
+    tell(
+        bond_tables::state_over(&design, &tables, rank, entries),
+        (),
         place,
+        &mut (),
     )
 }
 
@@ -174,19 +181,21 @@ pub fn mj_search_over(
     ensures configuration_after { configuration.new ≡ search_over_entries (lent_at scaffold.entry marks.entry glues.entry dg.entry ds.entry potentials.entry rt strand_excess scaffold_excess) strand_bonds.now scaffold_bonds.now configuration.old }
     ensures lowest_told_over { LowestToldOver (lent_at scaffold.entry marks.entry glues.entry dg.entry ds.entry potentials.entry rt strand_excess scaffold_excess) strand_bonds.now scaffold_bonds.now result configuration.new energy.new }
 {
-    answers::tell_energy(
-        bond_tables::search_over(
-            scaffold,
-            marks,
-            glues,
-            dg,
-            ds,
-            potentials,
-            ambient(rt, strand_excess, scaffold_excess),
-            strand_bonds,
-            scaffold_bonds,
-            configuration,
-        ),
+    let design = Design {
+        scaffold,
+        marks,
+        glues,
+        dg,
+        ds,
+        potentials,
+        ambient: ambient(rt, strand_excess, scaffold_excess),
+    };
+    let tables = BondTables {
+        strand_bonds,
+        scaffold_bonds,
+    };
+    tell_energy(
+        bond_tables::search_over(&design, &tables, configuration),
         place,
         energy,
     )

@@ -4,8 +4,9 @@ ghost use Rattle.ceiling.specs.Answers.{ceiling_answer, ceiling_entries};
 ghost use Rattle.exports.specs.Lent.{lent_at};
 ghost use Rattle.exports.specs.Told.{Told};
 
-use super::answers;
+use super::answers::tell_energy;
 use super::designs::ambient;
+use design::Design;
 use units::KcalPerMol;
 
 // The first state in listing order whose state energy is at most the ceiling, into one lent entry for each position, and its energy.
@@ -27,18 +28,17 @@ pub fn mj_first_state_under(
     ensures told { Told (ceiling_answer (lent_at scaffold.entry marks.entry glues.entry dg.entry ds.entry potentials.entry rt strand_excess scaffold_excess) ceiling entries.old) result place.new energy.new }
     ensures entries_after { entries.new ≡ ceiling_entries (lent_at scaffold.entry marks.entry glues.entry dg.entry ds.entry potentials.entry rt strand_excess scaffold_excess) ceiling entries.old }
 {
-    answers::tell_energy(
-        ceiling::first_state_under(
-            scaffold,
-            marks,
-            glues,
-            dg,
-            ds,
-            potentials,
-            ambient(rt, strand_excess, scaffold_excess),
-            KcalPerMol(ceiling),
-            entries,
-        ),
+    let design = Design {
+        scaffold,
+        marks,
+        glues,
+        dg,
+        ds,
+        potentials,
+        ambient: ambient(rt, strand_excess, scaffold_excess),
+    };
+    tell_energy(
+        ceiling::first_state_under(&design, KcalPerMol(ceiling), entries),
         place,
         energy,
     )

@@ -9,14 +9,11 @@ use lib.ListN.{length, replicate}
 use lib.Ieee.{Float}
 use borrow.Author.Tests.{eq-eqb, ltb-false}
 use Rattle.doubles.specs.Decimal.{zero}
-use Rattle.reply.specs.Number.{reply_number}
-use Rattle.reply.specs.First.{Check, first_of, refused_if, ◌or_else◌}
+use Rattle.reply.specs.Number.{Reply}
+use Rattle.reply.specs.First.{Check, first_of, refused_if, ◌or_else◌, refuses}
 use Rattle.reply.specs.Figures.{figures_of, entries_of}
 use Rattle.reply.specs.declared.Refusal.{Refusal}
 use Rattle.reply.specs.declared.Refusal.TheVariants.{TooManyStates, RankTooHigh}
-use Rattle.reply.specs.declared.Place.{Place}
-use Rattle.reply.specs.declared.Place.TheVariants.{Nowhere}
-use Rattle.reply.specs.declared.Reply.{Reply}
 use Rattle.model.specs.States.{count, state_at}
 use Rattle.model.specs.Energy.{state_energy}
 use Rattle.model.specs.Search as Search
@@ -29,16 +26,17 @@ use Rattle.jobs.specs.Job.{places, energy_for, count_for, stretch_for, job_energ
 use Rattle.jobs.specs.inner.Settled.{energy_in, energy_of_word, count_held, count_of_word, stretch_in}
 use Rattle.jobs.specs.declared.job.Job.{Job}
 use Rattle.jobs.specs.declared.job.Job.TheVariants.{EnergyAt, Search, Count, Malformed}
+use Rattle.std.specs.Prelude.{Option, None, Ok, Err}
 use Rattle.jobs.proofs.Numbers.{own-size}
 
 -- ---- an admitted design
 
 module _ (d : Design) (a : Admitted d) where
   -- its tables and its numbers pass, so that a call's own checks decide
-  own_alone : (own : Bool) (between : List Check) → own ≡ false → first_of (design_checks own d between []) ≡ first_of between or_else Reply.Admitted
+  own_alone : (own : Bool) (between : List Check) → own ≡ false → first_of (design_checks own d between []) ≡ first_of between or_else (Ok tt)
   own_alone own between e =
-      let tables : first_of (table_checks own d.scaffold d.marks d.glues d.dg d.ds d.potentials) ≡ Reply.Admitted = simp (e, a.sizes, a.cells, a.null) in
-      let numbers : first_of (number_checks d) ≡ Reply.Admitted = simp (a.ambient, a.potentials) in
+      let tables : first_of (table_checks own d.scaffold d.marks d.glues d.dg d.ds d.potentials) ≡ Ok tt = simp (e, a.sizes, a.cells, a.null) in
+      let numbers : first_of (number_checks d) ≡ Ok tt = simp (a.ambient, a.potentials) in
       after-tables own d between tables ∙ ap (λ (r : Reply). first_of between or_else r) numbers
 
   pub energy-admitted : (job : Job) → energy_in (model_of d) (Search.search (model_of d)).energy job ≡ energy_for d job
@@ -47,7 +45,7 @@ module _ (d : Design) (a : Admitted d) where
       go (ltb 1048576 (count (model_of d))) (leb (count (model_of d)) rank) energy
       ∙ sym (ap (λ (r : Reply). (figures_of r zero energy).figure) (own_alone (not (eqb (length (places d)) (positions d))) (own_rank_checks d rank) (own-size d)))
     where
-      go : (many high : Bool) (energy : Float) → cond many zero (cond high zero energy) ≡ (figures_of (refused_if many TooManyStates Nowhere (refused_if high RankTooHigh Nowhere Reply.Admitted) or_else Reply.Admitted) zero energy).figure
+      go : (many high : Bool) (energy : Float) → cond many zero (cond high zero energy) ≡ (figures_of (refused_if many TooManyStates None (refused_if high RankTooHigh None (Ok tt)) or_else (Ok tt)) zero energy).figure
       go true high energy = refl
       go false true energy = refl
       go false false energy = refl
@@ -64,7 +62,7 @@ module _ (d : Design) (a : Admitted d) where
       ∙ go (ltb 1048576 (count (model_of d))) refl
       ∙ sym (ap (λ (r : Reply). (figures_of r 0 (count (model_of d))).figure) (own_alone false (own_count_checks d) refl))
     where
-      go : (many : Bool) → ltb 1048576 (count (model_of d)) ≡ many → cond many 0 states ≡ (figures_of (refused_if many TooManyStates Nowhere Reply.Admitted or_else Reply.Admitted) 0 (count (model_of d))).figure
+      go : (many : Bool) → ltb 1048576 (count (model_of d)) ≡ many → cond many 0 states ≡ (figures_of (refused_if many TooManyStates None (Ok tt) or_else (Ok tt)) 0 (count (model_of d))).figure
       go true e = refl
       go false e = counted (count (model_of d)) held (ltb-false _ _ e)
   count-admitted held Malformed = refl
@@ -81,28 +79,28 @@ module _ (d : Design) (a : Admitted d) where
 -- its tables refuse it, or its numbers do
 abbrev pub Unfit : Design → Type 0
 Unfit d =
-    (why : Refusal) × (place : Place)
-    × ((first_of (table_checks false d.scaffold d.marks d.glues d.dg d.ds d.potentials) ≡ Reply.Refused why place)
-    ⊎ ((first_of (table_checks false d.scaffold d.marks d.glues d.dg d.ds d.potentials) ≡ Reply.Admitted) × (first_of (number_checks d) ≡ Reply.Refused why place)))
+    (why : Refusal) × (place : Option ℕ)
+    × ((first_of (table_checks false d.scaffold d.marks d.glues d.dg d.ds d.potentials) ≡ refuses why place)
+    ⊎ ((first_of (table_checks false d.scaffold d.marks d.glues d.dg d.ds d.potentials) ≡ Ok tt) × (first_of (number_checks d) ≡ refuses why place)))
 
 module _ {A : Type 0} where
-  blank-figure : (r : Reply) (why : Refusal) (place : Place) (blank figure : A) → (figures_of (r or_else Reply.Refused why place) blank figure).figure ≡ blank
-  blank-figure Reply.Admitted why place blank figure = refl
-  blank-figure (Reply.Refused w p) why place blank figure = refl
+  blank-figure : (r : Reply) (why : Refusal) (place : Option ℕ) (blank figure : A) → (figures_of (r or_else refuses why place) blank figure).figure ≡ blank
+  blank-figure (Ok u) why place blank figure = refl
+  blank-figure (Err refused) why place blank figure = refl
 
-  kept-entries : (r : Reply) (why : Refusal) (place : Place) (before written : A) → entries_of (r or_else Reply.Refused why place) before written ≡ before
-  kept-entries Reply.Admitted why place before written = refl
-  kept-entries (Reply.Refused w p) why place before written = refl
+  kept-entries : (r : Reply) (why : Refusal) (place : Option ℕ) (before written : A) → entries_of (r or_else refuses why place) before written ≡ before
+  kept-entries (Ok u) why place before written = refl
+  kept-entries (Err refused) why place before written = refl
 
 module _ (d : Design) (u : Unfit d) (own : Bool) (e : own ≡ false) (between : List Check) where
   -- a call on it is refused
-  refused-reply : (r : Reply) × (first_of (design_checks own d between []) ≡ r or_else Reply.Refused u.0 u.1)
+  refused-reply : (r : Reply) × (first_of (design_checks own d between []) ≡ r or_else refuses u.0 u.1)
   refused-reply = rw e (go u.2)
     where
-      go : (first_of (table_checks false d.scaffold d.marks d.glues d.dg d.ds d.potentials) ≡ Reply.Refused u.0 u.1)
-          ⊎ ((first_of (table_checks false d.scaffold d.marks d.glues d.dg d.ds d.potentials) ≡ Reply.Admitted) × (first_of (number_checks d) ≡ Reply.Refused u.0 u.1))
-          → (r : Reply) × (first_of (design_checks false d between []) ≡ r or_else Reply.Refused u.0 u.1)
-      go (inl t) = (Reply.Admitted, tables-refuse false d between [] t)
+      go : (first_of (table_checks false d.scaffold d.marks d.glues d.dg d.ds d.potentials) ≡ refuses u.0 u.1)
+          ⊎ ((first_of (table_checks false d.scaffold d.marks d.glues d.dg d.ds d.potentials) ≡ Ok tt) × (first_of (number_checks d) ≡ refuses u.0 u.1))
+          → (r : Reply) × (first_of (design_checks false d between []) ≡ r or_else refuses u.0 u.1)
+      go (inl t) = (Ok tt, tables-refuse false d between [] t)
       go (inr t) = (first_of between, after-tables false d between t.0 ∙ ap (λ (r : Reply). first_of between or_else r) t.1)
 
   unfit-figure : {A : Type 0} (blank figure : A) → (figures_of (first_of (design_checks own d between [])) blank figure).figure ≡ blank
@@ -157,8 +155,3 @@ module _ (d : Design) (u : Unfit d) (jobs : List ℕ) where
   pub counts-unfit : replicate (length jobs) 0 ≡ map (job_count d) jobs
   unfolding job_count
   counts-unfit = each-one (job_count d) 0 (λ word. count-unfit d u (job_of word)) jobs
-
--- a number that is not 0 is that of a refusal
-pub refusal-of : (r : Reply) → (reply_number r ≡ 0 → ⊥) → (why : Refusal) × (place : Place) × (r ≡ Reply.Refused why place)
-refusal-of Reply.Admitted n = absurd (n refl)
-refusal-of (Reply.Refused why place) n = (why, place, refl)

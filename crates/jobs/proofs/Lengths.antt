@@ -1,15 +1,12 @@
 -- What the code's tests of lengths tell, and lists of one element. Assumes nothing.
-use mathlib.Core.Path.{◌≡◌, refl, sym, ap, ◌∙◌}
+use mathlib.Core.Path.{◌≡◌, sym, ap, ◌∙◌}
 use mathlib.Core.Bool.{false}
-use mathlib.Core.List.{◌∷◌}
-use Prim.Native.Nat.{ℕ, zero, suc, ◌+◌, ◌*◌, ◌/◌, ◌%◌, ◌<◌}
+use Prim.Native.Nat.{ℕ, ◌+◌, ◌*◌, ◌/◌, ◌%◌, ◌<◌}
 use native.Mathlib.Nat.{mul_comm, mul-div_cancel, div-add-mod'}
 use native.Mathlib.Decide.{ℕ_discrete}
 use native.Mathlib.Omega.{arith}
 use lib.Dec.{eqb}
-use lib.ListN.{replicate}
 use borrow.Author.Tests.{eq-eqb, ne_eqb}
-use Rattle.lists.specs.Build.{tabulate}
 
 -- so many for each of some is no other number
 pub not-so-many : (jobs positions entries : ℕ) → (jobs ≡ 0 → ⊥) → (entries / jobs ≡ positions → ⊥) → eqb entries (jobs * positions) ≡ false
@@ -25,9 +22,3 @@ remainder-tells jobs positions entries quotient = go (ℕ_discrete (entries % jo
     go : Dec (entries % jobs ≡ 0) → eqb (entries % jobs) 0 ≡ eqb entries (jobs * positions)
     go (yes e) = eq-eqb _ _ e ∙ sym (eq-eqb entries (jobs * positions) (omega (arith, parts, e)))
     go (no n) = ne_eqb _ _ n ∙ sym (ne_eqb entries (jobs * positions) (λ e. n (omega (arith, parts, e))))
-
--- the same number at each place
-pub tabulate-one : {A : Type 0} (n : ℕ) (x : A) → tabulate n (λ _. x) ≡ replicate n x
-unfolding tabulate
-tabulate-one zero x = refl
-tabulate-one (suc n) x = ap (x ∷◌) (tabulate-one n x)

@@ -1,5 +1,5 @@
 -- The number of a job by what its design was judged for once. Assumes nothing.
-use mathlib.Core.Path.{◌≡◌, refl, sym, ap, ◌∙◌}
+use mathlib.Core.Path.{◌≡◌, refl, sym, ap, ap₂, ◌∙◌}
 use mathlib.Core.Bool.{Bool, false, not}
 use mathlib.Core.List.{List, [], ◌∷◌, ◌++◌}
 use Prim.Native.Nat.{ℕ, ◌<◌, min}
@@ -8,36 +8,56 @@ use native.Mathlib.Omega.{arith}
 use lib.Dec.{leb, ltb, eqb}
 use lib.ListN.{length, length-replicate}
 use borrow.Author.Tests.{lt-ltb, eq-eqb, ne_eqb}
-use Rattle.reply.specs.Number.{number_of, reply_number}
-use Rattle.reply.specs.First.{Check, first_of, ◌if◌, ◌or_else◌}
+use Rattle.reply.specs.Number.{number_of, reply_number, Reply}
+use Rattle.reply.specs.First.{Check, bare, first_of, ◌if◌, ◌or_else◌}
 use Rattle.reply.specs.Figures.{figures_of}
+use Rattle.reply.specs.declared.Refusal.{Refusal}
 use Rattle.reply.specs.declared.Refusal.TheVariants.{TooManyStates, RankTooHigh}
-use Rattle.reply.specs.declared.Reply.{Reply}
-use Rattle.reply.specs.declared.Reply.TheVariants.{Admitted, Refused}
 use Rattle.reply.proofs.First.{joined}
 use Rattle.reply.proofs.Answer.{number-positive}
 use Rattle.model.specs.States.{count}
 use Rattle.design.specs.Design.{Design, positions, model_of}
 use Rattle.design.specs.Checks.{table_checks, number_checks, design_checks, own_rank_checks, own_count_checks}
 use Rattle.jobs.specs.Job.{places, number_for}
-use Rattle.jobs.specs.inner.Judged.{first_number, JudgedRight}
-use Rattle.jobs.specs.declared.job.Job.TheVariants.{EnergyAt, Search, Count}
+use Rattle.jobs.specs.inner.Judged.{first_number, ◌or_next◌, judged_reply, JudgedRight}
+use Rattle.jobs.specs.declared.job.Job.TheVariants.{EnergyAt, Search, Count, Malformed}
+use Rattle.jobs.specs.declared.job.Job.{Job}
+use Rattle.std.specs.Prelude.{Result, Ok, Err}
 use Rattle.jobs.specs.declared.judge.Judged.{Judged}
 
 -- ---- numbers of replies
 
 pub number-or : (r s : Reply) → reply_number (r or_else s) ≡ first_number (reply_number r) (reply_number s)
-number-or Admitted s = refl
-number-or (Refused why place) s =
-    let not-zero : number_of why ≡ 0 → ⊥ = λ e. omega (arith, number-positive why) in
-    rw (ne_eqb (number_of why) 0 not-zero) refl
+number-or (Ok u) s = refl
+number-or (Err refused) s =
+    let not-zero : number_of refused.refusal ≡ 0 → ⊥ = λ e. omega (arith, number-positive refused.refusal) in
+    rw (ne_eqb (number_of refused.refusal) 0 not-zero) refl
 
 number-joined : (xs ys : List Check) → reply_number (first_of (xs ++ ys)) ≡ first_number (reply_number (first_of xs)) (reply_number (first_of ys))
 number-joined xs ys = ap reply_number (sym (joined xs ys)) ∙ number-or (first_of xs) (first_of ys)
 
 figures-number : {A : Type 0} (r : Reply) (blank figure : A) → (figures_of r blank figure).number ≡ reply_number r
-figures-number Admitted blank figure = refl
-figures-number (Refused why place) blank figure = refl
+figures-number (Ok u) blank figure = refl
+figures-number (Err refused) blank figure = refl
+
+-- the number of a reply without its place
+abbrev pub bare_number : Result Unit Refusal → ℕ
+bare_number (Ok u) = 0
+bare_number (Err refusal) = number_of refusal
+
+bare-number : (r : Reply) → bare_number (bare r) ≡ reply_number r
+bare-number (Ok u) = refl
+bare-number (Err refused) = refl
+
+bare-or : (r s : Result Unit Refusal) → bare_number (r or_next s) ≡ first_number (bare_number r) (bare_number s)
+bare-or (Ok u) s = refl
+bare-or (Err refusal) s =
+    let not-zero : number_of refusal ≡ 0 → ⊥ = λ e. omega (arith, number-positive refusal) in
+    rw (ne_eqb (number_of refusal) 0 not-zero) refl
+
+passed : (r : Result Unit Refusal) → bare_number r ≡ 0 → r ≡ Ok tt
+passed (Ok u) e = refl
+passed (Err refusal) e = absurd (omega (arith, number-positive refusal))
 
 -- an entry is lent for each position
 pub own-size : (d : Design) → not (eqb (length (places d)) (positions d)) ≡ false
@@ -77,33 +97,59 @@ module _ (d : Design) {j : Judged} (w : JudgedRight d j) where
   abbrev numbers : ℕ
   numbers = reply_number (first_of (number_checks d))
 
+  -- the judged replies as numbers
+  abbrev told : ℕ
+  told = bare_number j.tables
+
+  told-is : told ≡ reply_number (first_of tables)
+  told-is = ap bare_number w.tables ∙ bare-number (first_of tables)
+
+  numbers-are : told ≡ 0 → bare_number j.numbers ≡ numbers
+  numbers-are z = ap bare_number (w.numbers (passed j.tables z)) ∙ bare-number (first_of (number_checks d))
+
   -- where the tables refuse, what comes after is not looked at
-  after : (x y : ℕ) → (j.tables ≡ 0 → x ≡ y) → first_number j.tables x ≡ first_number (reply_number (first_of tables)) y
-  after x y h = go (ℕ_discrete j.tables 0)
+  after : (x y : ℕ) → (told ≡ 0 → x ≡ y) → first_number told x ≡ first_number (reply_number (first_of tables)) y
+  after x y h = go (ℕ_discrete told 0)
     where
-      go : Dec (j.tables ≡ 0) → first_number j.tables x ≡ first_number (reply_number (first_of tables)) y
-      go (yes e) = rw (← w.tables, eq-eqb j.tables 0 e) (h e)
-      go (no n) = rw (← w.tables, ne_eqb j.tables 0 n) refl
+      go : Dec (told ≡ 0) → first_number told x ≡ first_number (reply_number (first_of tables)) y
+      go (yes e) = rw (← told-is, eq-eqb told 0 e) (h e)
+      go (no n) = rw (← told-is, ne_eqb told 0 n) refl
 
   -- the number of a direct call, its own checks between the tables and the numbers
-  whole : {A : Type 0} (own : Bool) (between : List Check) (blank figure : A) → own ≡ false → (x : ℕ) → (j.tables ≡ 0 → x ≡ reply_number (first_of (between ++ number_checks d)))
-      → first_number j.tables x ≡ (figures_of (first_of (design_checks own d between [])) blank figure).number
+  whole : {A : Type 0} (own : Bool) (between : List Check) (blank figure : A) → own ≡ false → (x : ℕ) → (told ≡ 0 → x ≡ reply_number (first_of (between ++ number_checks d)))
+      → first_number told x ≡ (figures_of (first_of (design_checks own d between [])) blank figure).number
   whole own between blank figure e x h =
       after x _ h
       ∙ sym (number-joined tables (between ++ number_checks d))
       ∙ sym (ap (λ (b : Bool). reply_number (first_of (design_checks b d between []))) e)
       ∙ sym (figures-number (first_of (design_checks own d between [])) blank figure)
 
-  pub search-told : first_number j.tables j.numbers ≡ number_for d Search
-  search-told = whole _ [] _ _ (own-size d) j.numbers w.numbers
+  search-told : first_number told (bare_number j.numbers) ≡ number_for d Search
+  search-told = whole _ [] _ _ (own-size d) (bare_number j.numbers) numbers-are
 
-  pub count-told : first_number j.tables (first_number (many_of j.states) j.numbers) ≡ number_for d Count
-  count-told = whole false (own_count_checks d) _ _ refl _ (λ z. rw (w.numbers z) (many-number (count (model_of d)) (w.states z) numbers ∙ sym (number-joined (own_count_checks d) (number_checks d))))
+  count-told : first_number told (first_number (many_of j.states) (bare_number j.numbers)) ≡ number_for d Count
+  count-told = whole false (own_count_checks d) _ _ refl _ (λ z. rw (numbers-are z) (many-number (count (model_of d)) (w.states (passed j.tables z)) numbers ∙ sym (number-joined (own_count_checks d) (number_checks d))))
 
-  pub rank-told : (rank : ℕ) → first_number j.tables (first_number (many_of j.states) (first_number (high_of j.states rank) j.numbers)) ≡ number_for d (EnergyAt rank)
-  rank-told rank = whole _ (own_rank_checks d rank) _ _ (own-size d) _ (λ z. rw (w.numbers z) (rank-number (count (model_of d)) (w.states z) rank numbers ∙ sym listed))
+  rank-told : (rank : ℕ) → first_number told (first_number (many_of j.states) (first_number (high_of j.states rank) (bare_number j.numbers))) ≡ number_for d (EnergyAt rank)
+  rank-told rank = whole _ (own_rank_checks d rank) _ _ (own-size d) _ (λ z. rw (numbers-are z) (rank-number (count (model_of d)) (w.states (passed j.tables z)) rank numbers ∙ sym listed))
     where
       listed : reply_number (first_of (own_rank_checks d rank ++ number_checks d)) ≡ first_number (many_of (count (model_of d))) (first_number (high_of (count (model_of d)) rank) numbers)
       listed =
           number-joined (TooManyStates if ltb 1048576 (count (model_of d)) ∷ []) (RankTooHigh if leb (count (model_of d)) rank ∷ number_checks d)
           ∙ ap (first_number (many_of (count (model_of d)))) (number-joined (RankTooHigh if leb (count (model_of d)) rank ∷ []) (number_checks d))
+
+  -- the number of what a job replies
+  pub job-told : (job : Job) → bare_number (judged_reply j job) ≡ number_for d job
+  job-told (EnergyAt rank) =
+      let many = first_of (TooManyStates if ltb 1048576 j.states ∷ []) in
+      let high = first_of (RankTooHigh if leb j.states rank ∷ []) in
+      bare-or j.tables (bare many or_next (bare high or_next j.numbers))
+      ∙ ap (first_number told) (bare-or (bare many) (bare high or_next j.numbers) ∙ ap₂ first_number (bare-number many) (bare-or (bare high) j.numbers ∙ ap (λ (n : ℕ). first_number n (bare_number j.numbers)) (bare-number high)))
+      ∙ rank-told rank
+  job-told Search = bare-or j.tables j.numbers ∙ search-told
+  job-told Count =
+      let many = first_of (TooManyStates if ltb 1048576 j.states ∷ []) in
+      bare-or j.tables (bare many or_next j.numbers)
+      ∙ ap (first_number told) (bare-or (bare many) j.numbers ∙ ap (λ (n : ℕ). first_number n (bare_number j.numbers)) (bare-number many))
+      ∙ count-told
+  job-told Malformed = refl

@@ -1,6 +1,6 @@
 -- What a sheet's own test tells, and what its judgement of the design does. Assumes nothing.
-use mathlib.Core.Path.{◌≡◌, refl, sym, ◌∙◌}
-use mathlib.Core.Bool.{true, false, not, ◌||◌}
+use mathlib.Core.Path.{◌≡◌, refl, sym, ap, ◌∙◌}
+use mathlib.Core.Bool.{true, false, not, ◌||◌, false≢true, true≢false}
 use mathlib.Core.Logic.{inl, inr}
 use mathlib.Core.List.{List, map}
 use Prim.Native.Nat.{ℕ, ◌*◌, ◌≤◌}
@@ -10,14 +10,11 @@ use lib.ListN.{length}
 use lib.Ieee.{Float}
 use borrow.Author.Tests.{ltb-false, eqb-true, not-false}
 use Rattle.lists.proofs.Tests.{neither}
-use Rattle.reply.specs.Number.{reply_number}
-use Rattle.reply.specs.First.{first_of}
+use Rattle.reply.specs.Number.{Reply}
+use Rattle.reply.specs.First.{bare, first_of, refuses}
+use Rattle.reply.specs.declared.Refusal.{Refusal}
 use Rattle.reply.specs.declared.Refusal.TheVariants.{WrongSize}
-use Rattle.reply.specs.declared.Place.TheVariants.{Nowhere}
-use Rattle.reply.specs.declared.Reply.{Reply}
-use Rattle.reply.specs.declared.Reply.TheVariants.{Admitted, Refused}
 use Rattle.reply.proofs.First.{none-holds}
-use Rattle.reply.proofs.Answer.{number-positive}
 use Rattle.design.specs.Design.{Design, positions}
 use Rattle.design.specs.Checks as Checks
 use Rattle.design.specs.Checks.{table_checks, number_checks}
@@ -26,7 +23,9 @@ use Rattle.jobs.specs.Job.{job_number, job_energy, job_count}
 use Rattle.jobs.specs.Sheet.{Sheet, wrong_sheet, stretches_of, sheet_reply, sheet_numbers, sheet_energies, sheet_counts, sheet_stretches}
 use Rattle.jobs.specs.inner.Judged.{JudgedRight}
 use Rattle.jobs.specs.declared.judge.Judged.{Judged}
-use Rattle.jobs.proofs.Figures.{Unfit, refusal-of}
+use Rattle.std.specs.Prelude.{Option, Result, Ok, Err}
+use Rattle.std.specs.Result.{is_err}
+use Rattle.jobs.proofs.Figures.{Unfit}
 
 -- a sheet that is not refused
 pub record Right (d : Design) (s : Sheet) : Type 0 where
@@ -53,30 +52,42 @@ module _ (d : Design) (s : Sheet) where
       }
 
   -- a refused sheet writes nothing
-  pub sheet-refused : wrong_sheet d s ≡ true → (Refused WrongSize Nowhere ≡ sheet_reply d s) × ((s.numbers ≡ sheet_numbers d s) × ((s.energies ≡ sheet_energies d s) × ((s.counts ≡ sheet_counts d s) × (s.stretches ≡ sheet_stretches d s))))
+  pub sheet-refused : wrong_sheet d s ≡ true → (◌≡◌ {A = Result Unit Refusal} (Err WrongSize) (bare (sheet_reply d s))) × ((s.numbers ≡ sheet_numbers d s) × ((s.energies ≡ sheet_energies d s) × ((s.counts ≡ sheet_counts d s) × (s.stretches ≡ sheet_stretches d s))))
   sheet-refused e = rw e (refl, (refl, (refl, (refl, refl))))
 
   pub sheet-answered : wrong_sheet d s ≡ false → {numbers : List ℕ} {energies : List Float} {counts stretches : List ℕ} → numbers ≡ map (job_number d) s.jobs → energies ≡ map (job_energy d) s.jobs → counts ≡ map (job_count d) s.jobs → stretches ≡ stretches_of d s.jobs s.stretches
-      → (Admitted ≡ sheet_reply d s) × ((numbers ≡ sheet_numbers d s) × ((energies ≡ sheet_energies d s) × ((counts ≡ sheet_counts d s) × (stretches ≡ sheet_stretches d s))))
+      → (Ok tt ≡ bare (sheet_reply d s)) × ((numbers ≡ sheet_numbers d s) × ((energies ≡ sheet_energies d s) × ((counts ≡ sheet_counts d s) × (stretches ≡ sheet_stretches d s))))
   sheet-answered e n x c t = rw e (refl, (n, (x, (c, t))))
 
 -- ---- the design, by its judgement
 
-admitted_of : (r : Reply) → reply_number r ≡ 0 → r ≡ Admitted
-admitted_of Admitted e = refl
-admitted_of (Refused why place) e = absurd (omega (arith, number-positive why))
+admitted_of : (r : Reply) → bare r ≡ Ok tt → r ≡ Ok tt
+admitted_of (Ok u) e = refl
+admitted_of (Err refused) e = absurd (let z : ◌≡◌ {A = ℕ} 0 1 = cc in omega arith)
+
+-- a reply that refuses without its place has one
+refusal-of : (r : Reply) {t : Result Unit Refusal} → t ≡ bare r → is_err t ≡ true → (why : Refusal) × (place : Option ℕ) × (r ≡ refuses why place)
+refusal-of (Ok u) e f = absurd (false≢true (sym (ap is_err e) ∙ f))
+refusal-of (Err refused) e f = (refused.refusal, refused.place, refl)
+
+-- and one that does not is admitted
+pub passed : (t : Result Unit Refusal) → is_err t ≡ false → t ≡ Ok tt
+passed (Ok u) f = refl
+passed (Err refusal) f = absurd (true≢false f)
 
 module _ (d : Design) {j : Judged} (w : JudgedRight d j) where
-  pub unfit-tables : (j.tables ≡ 0 → ⊥) → Unfit d
-  unfit-tables n = let r = refusal-of (first_of (table_checks false d.scaffold d.marks d.glues d.dg d.ds d.potentials)) (λ z. n (w.tables ∙ z)) in (r.0, r.1, inl r.2)
+  pub unfit-tables : is_err j.tables ≡ true → Unfit d
+  unfit-tables n = let r = refusal-of (first_of (table_checks false d.scaffold d.marks d.glues d.dg d.ds d.potentials)) w.tables n in (r.0, r.1, inl r.2)
 
-  pub unfit-numbers : j.tables ≡ 0 → (j.numbers ≡ 0 → ⊥) → Unfit d
+  pub unfit-numbers : is_err j.tables ≡ false → is_err j.numbers ≡ true → Unfit d
   unfit-numbers z n =
-      let r = refusal-of (first_of (number_checks d)) (λ y. n (w.numbers z ∙ y)) in
-      (r.0, r.1, inr (admitted_of (first_of (table_checks false d.scaffold d.marks d.glues d.dg d.ds d.potentials)) (sym w.tables ∙ z), r.2))
+      let pass = passed j.tables z in
+      let r = refusal-of (first_of (number_checks d)) (w.numbers pass) n in
+      (r.0, r.1, inr (admitted_of (first_of (table_checks false d.scaffold d.marks d.glues d.dg d.ds d.potentials)) (sym w.tables ∙ pass), r.2))
 
-  pub judged-fit : j.tables ≡ 0 → j.numbers ≡ 0 → Checks.Admitted d
+  pub judged-fit : is_err j.tables ≡ false → is_err j.numbers ≡ false → Checks.Admitted d
   judged-fit z y =
-      let t = (tabled false d (admitted_of (first_of (table_checks false d.scaffold d.marks d.glues d.dg d.ds d.potentials)) (sym w.tables ∙ z))).tables in
-      let numbers = none-holds (number_checks d) (admitted_of (first_of (number_checks d)) (sym (w.numbers z) ∙ y)) in
+      let pass = passed j.tables z in
+      let t = (tabled false d (admitted_of (first_of (table_checks false d.scaffold d.marks d.glues d.dg d.ds d.potentials)) (sym w.tables ∙ pass))).tables in
+      let numbers = none-holds (number_checks d) (admitted_of (first_of (number_checks d)) (sym (w.numbers pass) ∙ passed j.numbers y)) in
       record { sizes = t.sizes; cells = t.cells; ambient = numbers.0; potentials = numbers.1.0; null = t.null }

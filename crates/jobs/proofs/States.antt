@@ -2,11 +2,10 @@
 use mathlib.Core.Path.{◌≡◌, sym, ◌∙◌}
 use mathlib.Core.Logic.{◌⊎◌, inl, inr}
 use mathlib.Core.List.Memᴰ
-use mathlib.Core.List.{List, [], ◌∷◌, ◌++◌, Memᴰ}
+use mathlib.Core.List.{List, [], ◌∷◌, Memᴰ}
 use Prim.Native.Nat.{ℕ, suc, ◌<◌}
 use native.Mathlib.Omega.{arith}
-use lib.ListN.{length, get_or, take}
-use lib.Seq.{take_at}
+use lib.ListN.{length, get_or}
 use Rattle.lists.proofs.Places.{mem-get_or}
 use Rattle.model.specs.Model as Model
 use Rattle.model.specs.Model.{Model, State, Friend, friends_at}
@@ -42,10 +41,3 @@ module _ {m : Model} {strands : ℕ} {rows counts : List ℕ} (o : OptionRows m 
           let k : p.0 < get_or counts i 0 = rw (count-is o i inside) p.1 in
           let low : option_in rows i p.0 < strands = w.known i p.0 (rw o.positions inside) k in
           rw (option_is o i p.0 inside k ∙ p.2) at low
-
--- the front of what is lent is what a part was left with
-pub front-options : {m : Model} {rows : List ℕ} (last rest : List ℕ) (n : ℕ) → length last ≡ n → OptionRows m rows last → OptionRows m rows (take n (last ++ rest))
-front-options last rest n e o = rw (take_at last rest n e) o
-
-pub front-searchable : {strands : ℕ} {rows : List ℕ} (last rest : List ℕ) (n : ℕ) → length last ≡ n → Searchable strands rows last → Searchable strands rows (take n (last ++ rest))
-front-searchable last rest n e w = rw (take_at last rest n e) w

@@ -3,9 +3,9 @@ use Rattle.std.specs.Prelude.{Bool, not, ◌||◌, List, [], ◌∷◌, ◌++◌
 use Rattle.reply.specs.First.{Check, first_of, ◌if◌}
 use Rattle.reply.specs.Figures.{entries_of}
 use Rattle.reply.specs.declared.Refusal.TheVariants.{WrongSize}
-use Rattle.reply.specs.declared.Reply.{Reply}
 use Rattle.design.specs.Design.{Design, positions}
 use Rattle.jobs.specs.Word.{job_of}
+use Rattle.reply.specs.Number.{Reply}
 use Rattle.jobs.specs.Job.{stretch_for, job_number, job_energy, job_count}
 
 -- the job words, and what is lent for the replies and the stretches

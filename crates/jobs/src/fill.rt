@@ -1,7 +1,6 @@
 // The replies of all jobs, into lent slices, one for each job, and the stretches.
-ghost use Rattle.std.specs.Prelude.{◌≡◌, map, ℕ, ◌*◌, ◌<◌, ◌≤◌, min, length, replicate};
+ghost use Rattle.std.specs.Prelude.{◌≡◌, map, ℕ, ◌*◌, ◌<◌, ◌≤◌, min, length};
 ghost use Rattle.lists.specs.Build.{product};
-ghost use Rattle.doubles.specs.Decimal.{zero};
 ghost use Rattle.model.specs.Model.{Model};
 ghost use Rattle.ensemble.specs.Layout.{Searchable, OptionRows};
 ghost use Rattle.design.specs.Design.{Design};
@@ -20,10 +19,8 @@ pub(crate) fn fill_numbers(jobs: &[u32], judged: Judged, numbers: &mut [u32])
     requires { length numbers.old ≡ length jobs.now }
     ensures { (d : Design) → JudgedRight d judged → numbers.new ≡ map (job_number d) jobs.now }
 {
-    let mut k = 0;
-    while k < jobs.len() {
-        numbers[k] = job_number(read(jobs[k]), judged);
-        k += 1;
+    for (k, word) in jobs.iter().enumerate() {
+        numbers[k] = job_number(read(*word), judged);
     }
 }
 
@@ -47,10 +44,9 @@ pub(crate) fn fill_energies(
     requires energies_len { length energies.old ≡ length jobs.now }
     ensures { (m : Model) → OptionRows m rows.now options.now → StateCells m (length potentials.now) strand_bonds.now scaffold_bonds.now potentials.now → settled.rt.0 ≡ m.rt → energies.new ≡ map (energy_of_word m settled.least.0) jobs.now }
 {
-    let mut k = 0;
-    while k < jobs.len() {
+    for (k, word) in jobs.iter().enumerate() {
         energies[k] = job_energy(
-            read(jobs[k]),
+            read(*word),
             rows,
             options,
             strand_bonds,
@@ -58,7 +54,6 @@ pub(crate) fn fill_energies(
             potentials,
             settled,
         );
-        k += 1;
     }
 }
 
@@ -67,15 +62,8 @@ fn job_count(job: Job, states: u64) -> u64
     ensures { result ≡ count_held states job }
 {
     match job {
-        Job::EnergyAt(_) => 0,
-        Job::Search => 0,
-        Job::Count => {
-            if MOST_STATES < states {
-                return 0;
-            }
-            states
-        }
-        Job::Malformed => 0,
+        Job::Count if states <= MOST_STATES => states,
+        _ => 0,
     }
 }
 
@@ -84,44 +72,8 @@ pub(crate) fn fill_counts(jobs: &[u32], states: u64, counts: &mut [u64])
     requires { length counts.old ≡ length jobs.now }
     ensures { counts.new ≡ map (count_of_word states) jobs.now }
 {
-    let mut k = 0;
-    while k < jobs.len() {
-        counts[k] = job_count(read(jobs[k]), states);
-        k += 1;
-    }
-}
-
-// No energy for any job.
-pub(crate) fn zero_energies(energies: &mut [f64])
-    ensures { energies.new ≡ replicate (length energies.old) zero }
-{
-    let mut k = 0;
-    while k < energies.len() {
-        energies[k] = 0.0;
-        k += 1;
-    }
-}
-
-// No count for any job.
-pub(crate) fn zero_counts(counts: &mut [u64])
-    ensures { counts.new ≡ replicate (length counts.old) 0 }
-{
-    let mut k = 0;
-    while k < counts.len() {
-        counts[k] = 0;
-        k += 1;
-    }
-}
-
-// A configuration into a stretch.
-fn copy(configuration: &[u8], stretch: &mut [u8])
-    requires { length stretch.old ≡ length configuration.now }
-    ensures { stretch.new ≡ configuration.now }
-{
-    let mut i = 0;
-    while i < configuration.len() {
-        stretch[i] = configuration[i];
-        i += 1;
+    for (k, word) in jobs.iter().enumerate() {
+        counts[k] = job_count(read(*word), states);
     }
 }
 
@@ -130,11 +82,8 @@ fn fill_stretch(asked: Job, configuration: &[u8], stretch: &mut [u8])
     requires { length stretch.old ≡ length configuration.now }
     ensures { stretch.new ≡ stretch_in configuration.now asked stretch.old }
 {
-    match asked {
-        Job::EnergyAt(_) => {}
-        Job::Search => copy(configuration, stretch),
-        Job::Count => {}
-        Job::Malformed => {}
+    if asked == Job::Search {
+        stretch.copy_from_slice(configuration);
     }
 }
 
@@ -146,11 +95,9 @@ pub(crate) fn fill_stretches(jobs: &[u32], configuration: &[u8], stretches: &mut
     ensures { stretches.new ≡ stretches_in configuration.now jobs.now stretches.old }
 {
     let positions = configuration.len();
-    let mut k = 0;
-    while k < jobs.len() {
+    for (k, word) in jobs.iter().enumerate() {
         let start = k * positions;
         let end = start + positions;
-        fill_stretch(read(jobs[k]), configuration, &mut stretches[start..end]);
-        k += 1;
+        fill_stretch(read(*word), configuration, &mut stretches[start..end]);
     }
 }

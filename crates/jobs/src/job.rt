@@ -2,8 +2,7 @@
 ghost use Rattle.std.specs.Prelude.{◌≡◌};
 ghost use Rattle.jobs.specs.Word.{job_of};
 
-// How many payloads there are: the low 28 bits.
-const PAYLOADS: u32 = 0x1000_0000;
+use deck::word::Word;
 
 // The kind of a state energy at a rank.
 const ENERGY_AT: u32 = 8;
@@ -15,7 +14,7 @@ const SEARCH: u32 = 9;
 const COUNT: u32 = 10;
 
 // A job.
-#[derive(Clone, Copy)]
+#[derive(Clone, Copy, PartialEq, Eq, Debug)]
 pub enum Job {
     // the state energy of the state at a rank
     EnergyAt(u64),
@@ -28,22 +27,15 @@ pub enum Job {
 }
 
 // The job of a word. A rank may be any payload; the other kinds have payload 0.
+#[tactic(auto, unfolding(crate::specs::Word::job_of))]
 pub(crate) fn read(word: u32) -> Job
     ensures { result ≡ job_of word }
 {
-    let kind = word / PAYLOADS;
-    let payload = word % PAYLOADS;
-    if kind == ENERGY_AT {
-        return Job::EnergyAt(payload as u64);
+    let Word { kind, payload } = Word::of(word);
+    match (kind, payload) {
+        (ENERGY_AT, rank) => Job::EnergyAt(u64::from(rank)),
+        (SEARCH, 0) => Job::Search,
+        (COUNT, 0) => Job::Count,
+        _ => Job::Malformed,
     }
-    if payload != 0 {
-        return Job::Malformed;
-    }
-    if kind == SEARCH {
-        return Job::Search;
-    }
-    if kind == COUNT {
-        return Job::Count;
-    }
-    Job::Malformed
 }

@@ -7,22 +7,22 @@ pub mod job;
 mod judge;
 mod settle;
 
-ghost use Rattle.std.specs.Prelude.{◌≡◌, ◌||◌, not, List, map, ℕ, ◌*◌, ◌<◌, ◌≤◌, min, ltb, eqb, length};
+ghost use Rattle.std.specs.Prelude.{◌≡◌, ◌||◌, not, map, ℕ, ◌*◌, ◌<◌, ◌≤◌, min, ltb, eqb, length};
 ghost use Rattle.lists.specs.Build.{product};
+ghost use Rattle.reply.specs.First.{bare};
 ghost use Rattle.model.specs.Model.{Model};
 ghost use Rattle.ensemble.specs.Layout.{Searchable, OptionRows};
-ghost use Rattle.design.specs.Design.{design, lent, model_of};
+ghost use Rattle.design.specs.Design.{positions, strands, model_of};
 ghost use Rattle.design.specs.Checks.{Admitted};
 ghost use Rattle.jobs.specs.Job.{job_energy, job_count};
 ghost use Rattle.jobs.specs.Sheet.{sheet, stretches_of, sheet_reply, sheet_numbers, sheet_energies, sheet_counts, sheet_stretches};
 
-use design::checks::tables_reply;
-use fill::{fill_counts, fill_energies, fill_numbers, fill_stretches, zero_counts, zero_energies};
-use judge::{Judged, judge};
+use design::Design;
+use fill::{fill_counts, fill_energies, fill_numbers, fill_stretches};
+use judge::judge;
 use reply::limits::POSITIONS;
-use reply::{Place, Refusal, Reply};
+use reply::{Refusal, refused_if};
 use settle::{Settled, settle};
-use units::Ambient;
 
 // The most jobs of a sheet.
 const JOBS: usize = 64;
@@ -60,153 +60,106 @@ fn wrong_sheet(
 ) -> bool
     ensures { result ≡ (ltb 64 jobs || (not (eqb numbers jobs) || (not (eqb energies jobs) || (not (eqb counts jobs) || not (eqb stretches (jobs * positions)))))) }
 {
-    if JOBS < jobs {
-        return true;
-    }
-    if numbers != jobs {
-        return true;
-    }
-    if energies != jobs {
-        return true;
-    }
-    if counts != jobs {
-        return true;
-    }
-    wrong_stretches(jobs, positions, stretches)
+    JOBS < jobs
+        || numbers != jobs
+        || energies != jobs
+        || counts != jobs
+        || wrong_stretches(jobs, positions, stretches)
 }
 
 // The figures of all jobs on an admitted design, and the stretches of its searches.
 fn answer_jobs(
+    design: &Design,
     rows: &[u8],
     options: &[u8],
-    scaffold: &[u8],
-    glues: &[u8],
-    dg: &[f64],
-    ds: &[f64],
-    potentials: &[f64],
-    ambient: Ambient,
     states: u64,
     jobs: &[u32],
     energies: &mut [f64],
     counts: &mut [u64],
     stretches: &mut [u8],
 )
-    requires searchable { Searchable (length potentials.now) rows.now options.now }
-    requires potentials_nonzero { 0 < length potentials.now }
+    requires searchable { Searchable (strands design.now) rows.now options.now }
+    requires strands_nonzero { 0 < strands design.now }
     requires option_rows { (m : Model) × OptionRows m rows.now options.now }
-    requires options_len { length options.now ≡ length scaffold.now }
+    requires options_len { length options.now ≡ positions design.now }
     requires states_value { states ≡ min (product options.now) 1048577 }
     requires jobs_len_bound { length jobs.now ≤ 64 }
     requires energies_len { length energies.old ≡ length jobs.now }
     requires counts_len { length counts.old ≡ length jobs.now }
-    requires stretches_len { length stretches.old ≡ length jobs.now * length scaffold.now }
-    ensures { (marks : List ℕ) → Admitted (design scaffold.now marks glues.now dg.now ds.now potentials.now ambient) → OptionRows (model_of (design scaffold.now marks glues.now dg.now ds.now potentials.now ambient)) rows.now options.now → (energies.new ≡ map (job_energy (design scaffold.now marks glues.now dg.now ds.now potentials.now ambient)) jobs.now) × (counts.new ≡ map (job_count (design scaffold.now marks glues.now dg.now ds.now potentials.now ambient)) jobs.now) × (stretches.new ≡ stretches_of (design scaffold.now marks glues.now dg.now ds.now potentials.now ambient) jobs.now stretches.old) }
+    requires stretches_len { length stretches.old ≡ length jobs.now * positions design.now }
+    ensures { Admitted design.now → OptionRows (model_of design.now) rows.now options.now → (energies.new ≡ map (job_energy design.now) jobs.now) × (counts.new ≡ map (job_count design.now) jobs.now) × (stretches.new ≡ stretches_of design.now jobs.now stretches.old) }
 {
-    let positions = scaffold.len();
+    let positions = options.len();
     let mut strand_bonds = [0.0; STRAND_BONDS];
     let mut scaffold_bonds = [0.0; SCAFFOLD_BONDS];
-    let mut configuration = [0u8; POSITIONS];
+    let mut configuration = [0; POSITIONS];
     let least = settle(
+        design,
         rows,
         options,
-        scaffold,
-        glues,
-        dg,
-        ds,
-        potentials,
-        ambient,
         &mut strand_bonds,
         &mut scaffold_bonds,
-        &mut configuration[0..positions],
+        &mut configuration[..positions],
     );
-    let rt = ambient.rt;
-    let settled = Settled { states, rt, least };
+    let rt = design.ambient.rt;
     fill_energies(
         jobs,
         rows,
         options,
         &strand_bonds,
         &scaffold_bonds,
-        potentials,
-        settled,
+        design.potentials,
+        Settled { states, rt, least },
         energies,
     );
     fill_counts(jobs, states, counts);
-    fill_stretches(jobs, &configuration[0..positions], stretches);
+    fill_stretches(jobs, &configuration[..positions], stretches);
 }
 
 // The jobs of a sheet, each answered as its direct call answers it: a number, an energy and a count for each, and the configuration of each search in
 // its stretch, one entry for each position. A refused job does not stop the sheet.
 pub fn job_sheet(
-    scaffold: &[u8],
-    marks: &[u8],
-    glues: &[u8],
-    dg: &[f64],
-    ds: &[f64],
-    potentials: &[f64],
-    ambient: Ambient,
+    design: &Design,
     jobs: &[u32],
     numbers: &mut [u32],
     energies: &mut [f64],
     counts: &mut [u64],
     stretches: &mut [u8],
-) -> Reply
-    ensures value { result ≡ sheet_reply (lent scaffold.entry marks.entry glues.entry dg.entry ds.entry potentials.entry ambient) (sheet jobs.now numbers.old energies.old counts.old stretches.old) }
-    ensures numbers_after { numbers.new ≡ sheet_numbers (lent scaffold.entry marks.entry glues.entry dg.entry ds.entry potentials.entry ambient) (sheet jobs.now numbers.old energies.old counts.old stretches.old) }
-    ensures energies_after { energies.new ≡ sheet_energies (lent scaffold.entry marks.entry glues.entry dg.entry ds.entry potentials.entry ambient) (sheet jobs.now numbers.old energies.old counts.old stretches.old) }
-    ensures counts_after { counts.new ≡ sheet_counts (lent scaffold.entry marks.entry glues.entry dg.entry ds.entry potentials.entry ambient) (sheet jobs.now numbers.old energies.old counts.old stretches.old) }
-    ensures stretches_after { stretches.new ≡ sheet_stretches (lent scaffold.entry marks.entry glues.entry dg.entry ds.entry potentials.entry ambient) (sheet jobs.now numbers.old energies.old counts.old stretches.old) }
+) -> Result<(), Refusal>
+    ensures value { result ≡ bare (sheet_reply design.now (sheet jobs.now numbers.old energies.old counts.old stretches.old)) }
+    ensures numbers_after { numbers.new ≡ sheet_numbers design.now (sheet jobs.now numbers.old energies.old counts.old stretches.old) }
+    ensures energies_after { energies.new ≡ sheet_energies design.now (sheet jobs.now numbers.old energies.old counts.old stretches.old) }
+    ensures counts_after { counts.new ≡ sheet_counts design.now (sheet jobs.now numbers.old energies.old counts.old stretches.old) }
+    ensures stretches_after { stretches.new ≡ sheet_stretches design.now (sheet jobs.now numbers.old energies.old counts.old stretches.old) }
 {
-    if wrong_sheet(
+    let positions = design.positions();
+    let wrong = wrong_sheet(
         jobs.len(),
         numbers.len(),
         energies.len(),
         counts.len(),
-        scaffold.len(),
+        positions,
         stretches.len(),
-    ) {
-        return Reply::Refused(Refusal::WrongSize, Place::Nowhere);
-    }
-    let mut rows = [0u8; OPTIONS];
-    let mut options = [0u8; POSITIONS];
-    let judged = judge(
-        tables_reply(false, scaffold, marks, glues, dg, ds, potentials),
-        scaffold,
-        marks,
-        glues,
-        dg,
-        ds,
-        potentials,
-        ambient,
-        &mut rows,
-        &mut options,
     );
+    refused_if(Refusal::WrongSize, wrong)?;
+    let mut rows = [0; OPTIONS];
+    let mut options = [0; POSITIONS];
+    let judged = judge(design, &mut rows, &mut options);
     fill_numbers(jobs, judged, numbers);
-    if judged.tables != 0 {
-        zero_energies(energies);
-        zero_counts(counts);
-        return Reply::Admitted;
+    if judged.tables.is_err() || judged.numbers.is_err() {
+        energies.fill(0.0);
+        counts.fill(0);
+        return Ok(());
     }
-    if judged.numbers != 0 {
-        zero_energies(energies);
-        zero_counts(counts);
-        return Reply::Admitted;
-    }
-    let positions = scaffold.len();
     answer_jobs(
+        design,
         &rows,
-        &options[0..positions],
-        scaffold,
-        glues,
-        dg,
-        ds,
-        potentials,
-        ambient,
+        &options[..positions],
         judged.states,
         jobs,
         energies,
         counts,
         stretches,
     );
-    Reply::Admitted
+    Ok(())
 }

@@ -1,22 +1,23 @@
 // The bonds and the lowest configuration of a design, worked out once, and the energy of each job over these.
-ghost use Rattle.std.specs.Prelude.{◌≡◌, List, ℕ, ◌*◌, ◌<◌, ◌≤◌, min, length};
+ghost use Rattle.std.specs.Prelude.{◌≡◌, ℕ, ◌*◌, ◌<◌, ◌≤◌, min, length};
 ghost use Rattle.lists.specs.Build.{product};
 ghost use Rattle.model.specs.Model.{Model};
 ghost use Rattle.model.specs.States.{state_at};
 ghost use Rattle.model.specs.Energy.{state_energy};
 ghost use Rattle.ensemble.specs.Layout.{Searchable, OptionRows, Found};
-ghost use Rattle.design.specs.Design.{design, model_of};
+ghost use Rattle.design.specs.Design.{strands, model_of};
 ghost use Rattle.design.specs.Checks.{Admitted};
 ghost use Rattle.prepared.specs.Layout.{StateCells};
 ghost use Rattle.jobs.specs.inner.Settled.{energy_in};
 
 use super::job::Job;
+use design::Design;
 use ensemble::lowest::lowest;
 use ensemble::states::{MOST_STATES, write_state};
 use prepared::bonds::fill_bonds;
 use prepared::sums::state_energy;
 use reply::limits::POSITIONS;
-use units::{Ambient, KcalPerMol};
+use units::KcalPerMol;
 
 // How many states there are, one past the limit where these are more; RT; and the energy of the lowest configuration.
 #[derive(Clone, Copy)]
@@ -28,44 +29,28 @@ pub(crate) struct Settled {
 
 // Fills the bonds of an admitted design and writes its lowest configuration, and gives the energy of that.
 pub(crate) fn settle(
+    design: &Design,
     rows: &[u8],
     options: &[u8],
-    scaffold: &[u8],
-    glues: &[u8],
-    dg: &[f64],
-    ds: &[f64],
-    potentials: &[f64],
-    ambient: Ambient,
     strand_bonds: &mut [f64],
     scaffold_bonds: &mut [f64],
     configuration: &mut [u8],
 ) -> KcalPerMol
-    requires searchable { Searchable (length potentials.now) rows.now options.now }
-    requires potentials_nonzero { 0 < length potentials.now }
-    requires potentials_in_bounds { length potentials.now * length potentials.now ≤ length strand_bonds.old }
-    requires potentials_in_bounds_2 { length options.now * length potentials.now ≤ length scaffold_bonds.old }
+    requires searchable { Searchable (strands design.now) rows.now options.now }
+    requires strands_nonzero { 0 < strands design.now }
+    requires strands_in_bounds { strands design.now * strands design.now ≤ length strand_bonds.old }
+    requires options_in_bounds { length options.now * strands design.now ≤ length scaffold_bonds.old }
     requires configuration_len { length configuration.old ≡ length options.now }
-    ensures { (marks : List ℕ) → Admitted (design scaffold.now marks glues.now dg.now ds.now potentials.now ambient) → OptionRows (model_of (design scaffold.now marks glues.now dg.now ds.now potentials.now ambient)) rows.now options.now → StateCells (model_of (design scaffold.now marks glues.now dg.now ds.now potentials.now ambient)) (length potentials.now) strand_bonds.new scaffold_bonds.new potentials.now × Found (model_of (design scaffold.now marks glues.now dg.now ds.now potentials.now ambient)) configuration.new result.0 }
+    ensures { Admitted design.now → OptionRows (model_of design.now) rows.now options.now → StateCells (model_of design.now) (strands design.now) strand_bonds.new scaffold_bonds.new design.now.potentials × Found (model_of design.now) configuration.new result.0 }
 {
-    fill_bonds(
-        rows,
-        options,
-        scaffold,
-        glues,
-        dg,
-        ds,
-        potentials,
-        ambient,
-        strand_bonds,
-        scaffold_bonds,
-    );
+    fill_bonds(design, rows, options, strand_bonds, scaffold_bonds);
     lowest(
         rows,
         options,
         strand_bonds,
         scaffold_bonds,
-        potentials,
-        ambient.rt,
+        design.potentials,
+        design.ambient.rt,
         configuration,
     )
 }
@@ -90,16 +75,10 @@ fn energy_at(
     ensures { (m : Model) → OptionRows m rows.now options.now → StateCells m (length potentials.now) strand_bonds.now scaffold_bonds.now potentials.now → settled.rt.0 ≡ m.rt → result ≡ state_energy m (state_at m rank) }
 {
     let positions = options.len();
-    let mut state = [0u8; POSITIONS];
-    write_state(
-        rows,
-        options,
-        settled.states,
-        rank,
-        &mut state[0..positions],
-    );
+    let mut state = [0; POSITIONS];
+    write_state(rows, options, settled.states, rank, &mut state[..positions]);
     let energy = state_energy(
-        &state[0..positions],
+        &state[..positions],
         strand_bonds,
         scaffold_bonds,
         potentials,
@@ -128,10 +107,7 @@ pub(crate) fn job_energy(
 {
     match job {
         Job::EnergyAt(rank) => {
-            if MOST_STATES < settled.states {
-                return 0.0;
-            }
-            if settled.states <= rank {
+            if MOST_STATES < settled.states || settled.states <= rank {
                 return 0.0;
             }
             energy_at(
@@ -145,7 +121,6 @@ pub(crate) fn job_energy(
             )
         }
         Job::Search => settled.least.0,
-        Job::Count => 0.0,
-        Job::Malformed => 0.0,
+        Job::Count | Job::Malformed => 0.0,
     }
 }

@@ -1,7 +1,7 @@
 -- A quotient by digits of nine bits. Assumes nothing.
 use mathlib.Core.Path.{◌≡◌}
-use Prim.Native.Nat.{ℕ, ◌+◌, ◌*◌, ◌/◌, ◌%◌, ◌^◌, ◌≤◌, ◌<◌, zero-le}
-use native.Mathlib.Nat.{mod-lt, mul-lt-mul_of_pos_right, lt_of_lt_of_le, pow-suc, pow-le-pow_right, div-add-mod', div-lt_iff_lt-mul, div-eq_of_lt-le}
+use Prim.Native.Nat.{ℕ, ◌+◌, ◌*◌, ◌/◌, ◌%◌, ◌^◌, ◌≤◌, ◌<◌}
+use native.Mathlib.Nat.{mod-lt, mul-lt-mul_of_pos_right, lt_of_lt_of_le, pow-suc, pow-le-pow_right, div-add-mod', div-lt_iff_lt-mul}
 use native.Mathlib.Numerals.{add-one}
 use native.Mathlib.Omega.{arith}
 use lib.Dec.{lit<}
@@ -12,9 +12,6 @@ pub record Digits (d a q r i : ℕ) : Type 0 where
   pub rest : r < a
   pub value : q * a + r ≡ d * 512 ^ i
   pub digits : q < 512 ^ i
-
-pub digits-none : (d a : ℕ) → d < a → Digits d a 0 d 0
-digits-none d a h = record { places = zero-le; rest = h; value = omega arith; digits = lit< tt }
 
 digits-alg : (d a q r p x y : ℕ) → q * a + r ≡ d * p → x * a + y ≡ r * 512 → (q * 512 + x) * a + y ≡ d * (p * 512)
 digits-alg d a q r p x y e f = omega arith
@@ -34,9 +31,3 @@ digits_more d a q r i h g =
 
 pub digits-small : (d a q r i : ℕ) → i < 6 → Digits d a q r i → q < 2 ^ 45
 digits-small d a q r i h g = lt_of_lt_of_le g.digits (pow-le-pow_right {n = 512} (lit< tt) {j = 5} (omega arith))
-
-pub digits-all : (d a q r i : ℕ) → 6 ≤ i → Digits d a q r i → d * 2 ^ 54 / a ≡ q
-digits-all d a q r i h g =
-    let e : i ≡ 6 = omega (arith, g.places) in
-    let v : q * a + r ≡ d * 2 ^ 54 = rw e at g.value in
-    div-eq_of_lt-le a (omega arith) (omega (arith, g.rest))

@@ -1,8 +1,8 @@
 -- The logarithm of a ratio of whole numbers, by doublings of the smaller. Assumes nothing.
-use mathlib.Core.Path.{◌≡◌, refl, ap, ◌∙◌}
+use mathlib.Core.Path.{◌≡◌, refl, sym, ap, ◌∙◌}
 use mathlib.Core.Bool.{Bool, true, false, not}
-use Prim.Native.Nat.{ℕ, zero, suc, ◌+◌, ◌-◌, ◌*◌, ◌^◌, ◌≤◌, ◌<◌}
-use native.Mathlib.Nat.{le_trans, le_of_suc-le-suc, lt_of_not-le, not-le_of_lt, mul-le-mul, mul-le-mul_right, mul_right_comm, one-mul, pow-suc}
+use Prim.Native.Nat.{ℕ, zero, suc, ◌+◌, ◌-◌, ◌*◌, ◌/◌, ◌%◌, ◌^◌, ◌≤◌, ◌<◌}
+use native.Mathlib.Nat.{le_trans, le_of_suc-le-suc, lt_of_not-le, not-le_of_lt, mul-le-mul, mul-le-mul_right, mul_right_comm, one-mul, pow-suc, le-div_iff_mul-le, div-lt_iff_lt-mul, mod-eq_of_lt, mul_comm}
 use native.Mathlib.Numerals.{add-one}
 use native.Mathlib.Omega.{arith}
 use borrow.Author.Tests.{le-leb, lt-leb}
@@ -72,3 +72,36 @@ from_end a c k l = go (48 - k)
     go : (left : ℕ) → ln_from left a c k ≡ ln_ratio a c k
     go zero = unfold ln_from in refl
     go (suc left) = chosen left a c k false (lt-leb (c * 2) a l)
+
+-- and so many at once
+pub from-doubled : (a b k : ℕ) → k ≤ 48 → 2 ^ k * b ≤ a → ln_from 48 a b 0 ≡ ln_from (48 - k) a (2 ^ k * b) k
+from-doubled a b zero h l = rw one-mul refl
+from-doubled a b (suc k) h l =
+    let twice : 2 ^ suc k * b ≡ 2 ^ k * b * 2 = rw (pow-suc 2 k) (omega arith) in
+    let next = from_step a (2 ^ k * b) k (omega arith) (omega arith) in
+    from-doubled a b k (omega arith) (omega arith) ∙ rw (twice, ← add-one k) next
+
+-- b shifted up as far as it fits, by the logarithm of the quotient in base 2
+pub record Shifted (a b c k : ℕ) : Type 0 where
+  pub positive : 0 < c
+  pub fits : c ≤ a
+  pub above : a ≤ 2 * c
+  pub few : k ≤ 48
+  pub same : ln_ratio a c k ≡ ln_whole a b
+
+pub shifted : (a b k : ℕ) → 0 < b → a ≤ 2 ^ 48 → 2 ^ k ≤ a / b → a / b < 2 * 2 ^ k → Shifted a b (b * 2 ^ k % 2 ^ 64) k
+unfolding ln_whole
+shifted a b k B A h g =
+    let c = 2 ^ k * b in
+    let fits : c ≤ a = (le-div_iff_mul-le B).0 h in
+    let above : a < 2 * 2 ^ k * b = (div-lt_iff_lt-mul B).0 g in
+    let d : Doubled a b c k = record { value = refl; fits = fits } in
+    let few = doubled-few a b B A c k d in
+    let is : b * 2 ^ k % 2 ^ 64 ≡ c = mod-eq_of_lt (omega arith) ∙ mul_comm b (2 ^ k) in
+    rw is record {
+      positive = doubled-positive a b B A c k d;
+      fits = fits;
+      above = omega arith;
+      few = few;
+      same = sym (from-doubled a b k few fits ∙ from_end a c k (omega arith));
+    }

@@ -1,5 +1,5 @@
 -- The arithmetic of the figure, over whole numbers: products, the series, the table of steps, doublings. Assumes nothing.
-use mathlib.Core.Path.{◌≡◌, refl, ap, subst}
+use mathlib.Core.Path.{◌≡◌, refl, sym, ap, subst, ◌∙◌}
 use mathlib.Core.Bool.{Bool, true, false, ◌&&◌}
 use mathlib.Core.List.{List, [], ◌∷◌}
 use Prim.Native.Nat.{ℕ, zero, suc, ◌+◌, ◌-◌, ◌*◌, ◌/◌, ◌%◌, ◌^◌, ◌≤◌, ◌<◌, zero-le}
@@ -16,15 +16,6 @@ use Rattle.logarithm.proofs.Bounds.{at-least-le, at-most-le, at-least-series, at
 
 -- ---- a product by halves of 27 digits
 module _ (a b : ℕ) (p : a ≤ 2 ^ 54) (q : b ≤ 2 ^ 54) where
-  pub high-high : a / 2 ^ 27 * (b / 2 ^ 27) ≤ 2 ^ 54
-  high-high = mul-le-mul {n₂ = 2 ^ 27} {m₂ = 2 ^ 27} (omega arith) (omega arith)
-
-  pub high-low : a / 2 ^ 27 * (b % 2 ^ 27) ≤ 2 ^ 54
-  high-low = mul-le-mul {n₂ = 2 ^ 27} {m₂ = 2 ^ 27} (omega arith) (omega arith)
-
-  pub low-high : a % 2 ^ 27 * (b / 2 ^ 27) ≤ 2 ^ 54
-  low-high = mul-le-mul {n₂ = 2 ^ 27} {m₂ = 2 ^ 27} (omega arith) (omega arith)
-
   low-low : a % 2 ^ 27 * (b % 2 ^ 27) ≤ 134217727 * 134217727
   low-low = mul-le-mul {n₂ = 134217727} {m₂ = 134217727} (omega arith) (omega arith)
 
@@ -212,10 +203,21 @@ pub power-falls : (t u : ℕ) → t ≤ 2 ^ 54 → u ≤ 2 ^ 53 → mul_units t 
 power-falls t u h k =
     le_of_mul-le-mul_right {k = 2 ^ 54} (omega (arith, (mul_right t u h (omega arith)).0, mul-le-mul {n₂ = 2 ^ 54} {m₂ = 2 ^ 53} h k)) (lit< tt)
 
-pub terms-step : (u j t w : ℕ) → j < 8 → terms_from (8 - j) u j t w ≡ terms_from (8 - (j + 1)) u (j + 1) (mul_units t u) (w + mul_units t u / (j + 1))
+next : (u i t w : ℕ) → i < 8 → terms_from (8 - i) u i t w ≡ terms_from (8 - (i + 1)) u (i + 1) (mul_units t u) (w + mul_units t u / (i + 1))
 unfolding terms_from
-terms-step u j t w h = let e : 8 - j ≡ suc (8 - (j + 1)) = omega arith in rw e refl
+next u i t w h = let e : 8 - i ≡ suc (8 - (i + 1)) = omega arith in rw e refl
 
-pub terms-end : (u j t w : ℕ) → 8 ≤ j → terms_from (8 - j) u j t w ≡ w
+-- the j-th term
+pub terms-step : (u j t w : ℕ) → 1 ≤ j → j ≤ 8
+    → terms_from (9 - j) u (j - 1) t w ≡ terms_from (9 - (j + 1)) u (j + 1 - 1) (mul_units t u) (w + mul_units t u / j)
+terms-step u j t w h k =
+    let i = j - 1 in
+    let a : 9 - j ≡ 8 - i = omega arith in
+    let b : j ≡ i + 1 = omega arith in
+    let c : 9 - (j + 1) ≡ 8 - (i + 1) = omega arith in
+    let d : j + 1 - 1 ≡ i + 1 = omega arith in
+    rw (a, c, d) (next u i t w (omega arith) ∙ ap (λ (m : ℕ). terms_from (8 - (i + 1)) u (i + 1) (mul_units t u) (w + mul_units t u / m)) (sym b))
+
+pub terms-end : (u j i t w : ℕ) → 9 ≤ j → terms_from (9 - j) u i t w ≡ w
 unfolding terms_from
-terms-end u j t w h = let e : 8 - j ≡ 0 = omega arith in rw e refl
+terms-end u j i t w h = let e : 9 - j ≡ 0 = omega arith in rw e refl

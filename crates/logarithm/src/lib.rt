@@ -44,16 +44,21 @@ const STEPS: [u64; 33] = [
 // ln 2, in units of 2^-54.
 const LN2: u64 = 12486629536330718;
 
+// 1, in units of 2^-54.
+const ONE: u64 = 1 << 54;
+
+// A half of the 54 digits.
+const HALF: u64 = 1 << 27;
+
 // a × b / 2^54, by halves of 27 digits: at most three units below it.
+#[tactic(auto, unfolding(crate::specs::Figure::mul_units))]
 pub fn mul_units(a: u64, b: u64) -> u64
     requires { (a ≤ 2 ^ 54) × (b ≤ 2 ^ 54) }
     ensures { result ≡ mul_units a b }
 {
-    let ah = a / 134217728;
-    let al = a % 134217728;
-    let bh = b / 134217728;
-    let bl = b % 134217728;
-    ah * bh + ah * bl / 134217728 + al * bh / 134217728
+    let (a_high, a_low) = (a / HALF, a % HALF);
+    let (b_high, b_low) = (b / HALF, b % HALF);
+    a_high * b_high + a_high * b_low / HALF + a_low * b_high / HALF
 }
 
 // d / a in units of 2^-54, by six digits of nine bits.
@@ -61,14 +66,12 @@ fn quotient(d: u64, a: u64) -> u64
     requires { (d < a) × (a ≤ 2 ^ 53) }
     ensures { result ≡ d * 2 ^ 54 / a }
 {
-    let mut q: u64 = 0;
-    let mut rest: u64 = d;
-    let mut i: u64 = 0;
-    while i < 6 {
+    let mut q = 0;
+    let mut rest = d;
+    for _ in 0..6u32 {
         let s = rest * 512;
         q = q * 512 + s / a;
         rest = s % a;
-        i += 1;
     }
     q
 }
@@ -78,11 +81,9 @@ fn ln_series(u: u64) -> u64
     requires { u ≤ 2 ^ 53 }
     ensures { result ≡ ln_series u }
 {
-    let mut power: u64 = 18014398509481984;
-    let mut sum: u64 = 0;
-    let mut j: u64 = 0;
-    while j < 8 {
-        j += 1;
+    let mut power = ONE;
+    let mut sum = 0;
+    for j in 1..=8 {
         power = mul_units(power, u);
         sum += power / j;
     }
@@ -112,11 +113,6 @@ pub fn ln_whole(a: u64, b: u64) -> u64
     requires { (0 < b) × (b ≤ a) × (a ≤ 2 ^ 48) }
     ensures { result ≡ ln_whole a b }
 {
-    let mut doubled = b;
-    let mut k: u64 = 0;
-    while doubled * 2 <= a {
-        doubled *= 2;
-        k += 1;
-    }
-    ln_ratio(a, doubled, k)
+    let k = (a / b).ilog2();
+    ln_ratio(a, b << k, u64::from(k))
 }

@@ -9,9 +9,8 @@ use lib.Ieee.{binary64}
 use borrow.Author.Tests.{eq-eqb, eqb-true, not-false}
 use Rattle.doubles.specs.Decimal.{zero}
 use Rattle.doubles.specs.Size.{Within}
-use Rattle.reply.specs.First.{Check, first_of}
+use Rattle.reply.specs.First.{Check, first_of, refuses}
 use Rattle.reply.specs.Figures.{figures_of, entries_of}
-use Rattle.reply.specs.declared.Reply.TheVariants as Reply
 use Rattle.reply.proofs.Figures.{by-reply, number-admitted}
 use Rattle.model.specs.Search as Search
 use Rattle.model.specs.LowestConfiguration.{LowestConfiguration}
@@ -26,6 +25,7 @@ use Rattle.design.proofs.BoundLaws.{bounds-right}
 use Rattle.design.proofs.Finite.{zero_in}
 use Rattle.design.proofs.Unread.{same-design-reply, same-models}
 use Rattle.mfe.specs.Answers.{search_checks, search_answer, search_entries}
+use Rattle.std.specs.Prelude.{Ok}
 use Rattle.mfe.specs.Answered.{SearchAnswers, UnreadBySearch}
 
 module _ (d : Design) (entries : List ℕ) where
@@ -41,7 +41,7 @@ module _ (d : Design) (entries : List ℕ) where
   lent-right p = eqb-true _ _ (not-false _ p.size)
 
   module _ (a : Admitted d) (l : length entries ≡ positions d) where
-    pub reply : first_of (search_checks d entries) ≡ Reply.Admitted
+    pub reply : first_of (search_checks d entries) ≡ Ok tt
     reply = own-decide own_size d [] [] (ap not (eq-eqb _ _ l)) a refl
 
     number : (search_answer d entries).number ≡ 0

@@ -1,5 +1,5 @@
 -- What the search answers of a design and of the lent entries: document 01's number and figure, and what stands in the entries afterwards.
-use Rattle.std.specs.Prelude.{◌≡◌, not, List, [], ℕ, eqb, length, Float}
+use Rattle.std.specs.Prelude.{◌≡◌, not, List, [], ℕ, eqb, length, Float, Result}
 use Rattle.doubles.specs.Decimal.{zero}
 use Rattle.reply.specs.First.{Check, first_of}
 use Rattle.reply.specs.Figures.{Figures, figures_of, entries_of}
@@ -8,7 +8,8 @@ use Rattle.model.specs.LowestConfiguration.{LowestConfiguration}
 use Rattle.design.specs.Design.{Design, positions, model_of}
 use Rattle.design.specs.Checks.{Admitted, design_checks}
 use Rattle.design.specs.Answers.{energy_figures}
-use Rattle.design.specs.declared.answers.EnergyAnswer.{EnergyAnswer}
+use Rattle.reply.specs.declared.Refused.{Refused}
+use Rattle.units.specs.declared.KcalPerMol.{KcalPerMol}
 
 -- the configuration is written into one lent entry for each position; the search has no other check of its own
 abbrev pub search_checks : Design → List ℕ → List Check
@@ -23,5 +24,5 @@ abbrev pub search_entries : Design → List ℕ → List ℕ
 search_entries d entries = entries_of (first_of (search_checks d entries)) entries (search (model_of d)).configuration
 
 -- Demand 3: of every admitted design, with an entry lent for each position, the lowest configuration is written and its energy answered.
-abbrev pub LowestShown : Design → List ℕ → List ℕ → EnergyAnswer → Type 0
+abbrev pub LowestShown : Design → List ℕ → List ℕ → Result KcalPerMol Refused → Type 0
 LowestShown d entries written r = Admitted d → length entries ≡ positions d → LowestConfiguration (model_of d) written (energy_figures r).figure

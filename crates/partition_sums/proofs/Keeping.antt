@@ -2,8 +2,8 @@
 use mathlib.Core.Path.{◌≡◌, refl, sym, ap, ◌∙◌}
 use mathlib.Core.Bool.{Bool, true, false, ◌||◌}
 use mathlib.Core.List.{List, [], ◌∷◌, ◌++◌, map}
-use Prim.Native.Nat.{ℕ, zero, suc, ◌+◌, ◌*◌, ◌-◌, ◌≤◌, ◌<◌}
-use native.Mathlib.Nat.{ne_of_lt, suc-ne-zero, add-sub_cancel_left}
+use Prim.Native.Nat.{ℕ, zero, suc, ◌+◌, ◌*◌, ◌≤◌, ◌<◌}
+use native.Mathlib.Nat.{ne_of_lt, suc-ne-zero}
 use native.Mathlib.Numerals.{add-one}
 use native.Mathlib.Omega.{arith}
 use borrow.Author.Count.{below_more}
@@ -19,10 +19,10 @@ use Rattle.lists.proofs.Keep.{of-keep}
 use Rattle.lists.proofs.Places.{tabulate-get_or, mem-get_or}
 use Rattle.ensemble.specs.Layout.{Readable, Searchable, option_in}
 use Rattle.fractions.specs.declared.Weight.{Weight}
-use Rattle.partition.specs.Constraint.{allows, list_at, lists_of}
+use Rattle.partition.specs.Constraint.{allows}
 use Rattle.partition.specs.Pass.{allowed, none_left}
 use Rattle.partition.specs.Sum.{zero_weight}
-use Rattle.partition.specs.Summed.{passed_sum, summed}
+use Rattle.partition.specs.Summed.{summed}
 use Rattle.partition_sums.specs.Layout.{options_at, options_in}
 use Rattle.partition_sums.specs.inner.Kept.{Kept, KeptRows}
 use Rattle.partition_sums.proofs.Positions.{known_of}
@@ -30,18 +30,6 @@ use Rattle.partition_sums.proofs.Positions.{known_of}
 -- ---- a list and an occupant, and the options kept, from place k on
 
 module _ {A : Type 0} (p : A → Bool) (xs : List A) (k : ℕ) where
-  pub any_here : (d : A) → k < length xs → p (get_or xs k d) ≡ true → any p (drop k xs) ≡ true
-  unfolding any
-  any_here d h e = rw (drop-cons xs k d) (simp e)
-
-  pub any-later : (d : A) → k < length xs → p (get_or xs k d) ≡ false → any p (drop k xs) ≡ any p (drop (k + 1) xs)
-  unfolding any
-  any-later d h e = rw (add-one, drop-cons xs k d) (simp e)
-
-  pub any-past : length xs ≤ k → any p (drop k xs) ≡ false
-  unfolding any
-  any-past h = rw (drop_of_length-le xs h)
-
   pub keep-here : (d : A) → k < length xs → p (get_or xs k d) ≡ true → keep p (drop k xs) ≡ get_or xs k d ∷ keep p (drop (k + 1) xs)
   unfolding keep
   keep-here d h e = rw (add-one, drop-cons xs k d) (simp e)
@@ -53,17 +41,6 @@ module _ {A : Type 0} (p : A → Bool) (xs : List A) (k : ℕ) where
   pub keep-past : length xs ≤ k → keep p (drop k xs) ≡ []
   unfolding keep
   keep-past h = rw (drop_of_length-le xs h)
-
--- a list that is not empty allows what stands in it
-pub allows-any : (list : List ℕ) (x : ℕ) → (length list ≡ 0 → ⊥) → allows list x ≡ any (eqb x) list
-unfolding allows
-allows-any [] x h = absurd (h refl)
-allows-any (y ∷ ys) x h = refl
-
-pub allows-all : (list : List ℕ) (x : ℕ) → length list ≡ 0 → true ≡ allows list x
-unfolding allows
-allows-all [] x h = refl
-allows-all (y ∷ ys) x h = absurd (let g : suc (length ys) ≡ 0 = h in let z : 0 < suc (length ys) = omega arith in omega arith)
 
 -- ---- rows through parts that are lent
 
@@ -111,11 +88,6 @@ options-few {rows} {counts} r i h =
     let n : length (options_at rows counts i) ≡ get_or counts i 0 = length-take-le (get_or counts i 0) (drop (64 * i) rows) (rw (length-drop (64 * i) rows) (omega arith)) in
     omega arith
 
--- a list, lent as a part
-pub list-part : (numbers starts lengths : List ℕ) (i : ℕ) → take (get_or starts i 0 + get_or lengths i 0 - get_or starts i 0) (drop (get_or starts i 0) numbers) ≡ list_at numbers starts lengths i
-unfolding list_at
-list-part numbers starts lengths i = rw (add-sub_cancel_left (get_or starts i 0) (get_or lengths i 0)) refl
-
 -- ---- all rows
 
 allowed-tabulate : (n : ℕ) (f g : ℕ → List ℕ) → allowed (tabulate n f) (tabulate n g) ≡ tabulate n (λ i. keep (allows (f i)) (g i))
@@ -130,17 +102,18 @@ none-left-any ([] ∷ options) = refl
 none-left-any ((x ∷ here) ∷ options) =
     none-left-any options ∙ sym (ap (λ (b : Bool). b || any (eqb 0) (map length options)) (ne_eqb 0 (suc (length here)) (λ e. suc-ne-zero (length here) (sym e))))
 
-module _ {rows counts numbers starts lengths kept_rows kept_counts : List ℕ} (w : KeptRows rows counts numbers starts lengths kept_rows kept_counts) where
-  kept-is : (i : ℕ) → i < length counts → options_at kept_rows kept_counts i ≡ keep (allows (list_at numbers starts lengths i)) (options_at rows counts i)
+module _ {rows counts : List ℕ} {lists : List (List ℕ)} {kept_rows kept_counts : List ℕ} (w : KeptRows rows counts lists kept_rows kept_counts) where
+  kept-is : (i : ℕ) → i < length counts → options_at kept_rows kept_counts i ≡ keep (allows (get_or lists i [])) (options_at rows counts i)
   kept-is i h = sym (take-take (get_or kept_counts i 0) 64 (drop (64 * i) kept_rows) (w.kept i h).few) ∙ (w.kept i h).holds
 
   -- the options kept are those that the constraint allows
-  pub kept-options : length starts ≡ length counts → options_in kept_rows kept_counts ≡ allowed (lists_of numbers starts lengths) (options_in rows counts)
-  unfolding options_in lists_of
+  pub kept-options : length lists ≡ length counts → options_in kept_rows kept_counts ≡ allowed lists (options_in rows counts)
+  unfolding options_in
   kept-options e =
       ap (λ (n : ℕ). tabulate n (options_at kept_rows kept_counts)) w.positions
-      ∙ tabulate-same (length counts) (options_at kept_rows kept_counts) (λ i. keep (allows (list_at numbers starts lengths i)) (options_at rows counts i)) kept-is
-      ∙ sym (ap (λ (n : ℕ). allowed (tabulate n (list_at numbers starts lengths)) (tabulate (length counts) (options_at rows counts))) e ∙ allowed-tabulate (length counts) (list_at numbers starts lengths) (options_at rows counts))
+      ∙ tabulate-same (length counts) (options_at kept_rows kept_counts) (λ i. keep (allows (get_or lists i [])) (options_at rows counts i)) kept-is
+      ∙ sym (ap (λ (all : List (List ℕ)). allowed all (tabulate (length counts) (options_at rows counts))) (sym (tabulate-get_or [] (length counts) lists e))
+      ∙ allowed-tabulate (length counts) (λ i. get_or lists i []) (options_at rows counts))
 
   -- none is left where a count is 0
   pub none-left-is : none_left (options_in kept_rows kept_counts) ≡ any (eqb 0) kept_counts
@@ -161,10 +134,10 @@ module _ {rows counts numbers starts lengths kept_rows kept_counts : List ℕ} (
     known = λ i k h l.
         let g : i < length counts = rw (← w.positions) h in
         let sized = (w.kept i g).number in
-        let inside : k < length (keep (allows (list_at numbers starts lengths i)) (options_at rows counts i)) = omega arith in
-        let at : option_in kept_rows i k ≡ get_or (keep (allows (list_at numbers starts lengths i)) (options_at rows counts i)) k 0 =
+        let inside : k < length (keep (allows (get_or lists i [])) (options_at rows counts i)) = omega arith in
+        let at : option_in kept_rows i k ≡ get_or (keep (allows (get_or lists i [])) (options_at rows counts i)) k 0 =
         sym (get_or-take (get_or kept_counts i 0) (drop (64 * i) kept_rows) k 0 l ∙ get_or-drop (64 * i) kept_rows k 0) ∙ ap (λ (xs : List ℕ). get_or xs k 0) (kept-is i g) in
-        rw at (known_of s i _ g (of-keep (allows (list_at numbers starts lengths i)) (mem-get_or 0 (keep (allows (list_at numbers starts lengths i)) (options_at rows counts i)) k inside)).1);
+        rw at (known_of s i _ g (of-keep (allows (get_or lists i [])) (mem-get_or 0 (keep (allows (get_or lists i [])) (options_at rows counts i)) k inside)).1);
   }
     where
       positive : (n : ℕ) → (0 ≡ n → ⊥) → 0 < n
@@ -176,7 +149,3 @@ module _ {rows counts numbers starts lengths kept_rows kept_counts : List ℕ} (
 pub zero-sum : (bias : ℕ) (place pair : ℕ → ℕ → Weight) (options : List (List ℕ)) → none_left options ≡ true → zero_weight ≡ summed bias place pair options
 unfolding summed
 zero-sum bias place pair options e = rw e refl
-
-pub some-sum : (bias : ℕ) (place pair : ℕ → ℕ → Weight) (options : List (List ℕ)) → none_left options ≡ false → passed_sum bias place pair options ≡ summed bias place pair options
-unfolding summed
-some-sum bias place pair options e = rw e refl

@@ -1,6 +1,4 @@
-pub mod Signed
-pub mod Formed
-pub mod Factored
+pub mod Constraints
 pub mod Rowed
 pub mod Positions
 pub mod Keeping

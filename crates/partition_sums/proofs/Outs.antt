@@ -3,32 +3,45 @@ use mathlib.Core.Path.{◌≡◌, refl, sym, ap, ap₂, ◌∙◌}
 use mathlib.Core.Bool.{Bool, true, false, ◌||◌}
 use mathlib.Core.List.{List, [], ◌∷◌}
 use Prim.Native.Nat.{ℕ, zero, suc, ◌+◌, ◌*◌, ◌-◌, ◌≤◌, ◌<◌}
-use native.Mathlib.Nat.{lt_of_not-le, not-suc-le-zero}
+use native.Mathlib.Nat.{lt_of_not-le, not-suc-le-zero, add-zero}
 use native.Mathlib.Decide.{dec_le}
 use native.Mathlib.Omega.{arith}
-use lib.IntN.{ℤ, pos}
-use lib.ListN.{length, get_or, take, drop, length-drop}
+use lib.ListN.{length, get_or, drop, length-drop}
 use lib.Seq.{get_or-take, get_or-drop, length-take-le}
+use Rattle.std.proofs.lemmas.List.{get_or_read}
+use Rattle.std.specs.List.{list_any, range_with_len}
 use Rattle.lists.specs.Build.{up_to, tabulate}
 use Rattle.lists.specs.Find.{any}
-use Rattle.lists.proofs.Build.{length-tabulate, get_or-tabulate, any-later, any-past}
+use Rattle.lists.proofs.Build.{length-tabulate, get_or-tabulate, drop-tabulate, any-later, any-past}
 use Rattle.ensemble.specs.Layout.{Searchable}
-use Rattle.fractions.specs.Weight.{weight}
-use Rattle.partition.specs.Weights.{Weights, signed, unformed, place_out, pair_out, pairs_out, places_out_at, pairs_out_at, weights_out}
+use Rattle.partition.specs.Weights.{Weights, place_out, pairs_out, places_out_at, pairs_out_at, weights_out}
 use Rattle.partition_sums.specs.Layout.{friends_at, friends_in}
-use Rattle.partition_sums.specs.inner.Rows.{row_of}
-use Rattle.partition_sums.specs.inner.Kept.{Below, out_in, pairs_out_in}
-use Rattle.partition_sums.proofs.Rowed.{row-cell}
 
--- a test that gives the same of each element
-any_same : (p q : ℕ → Bool) (xs : List ℕ) → ((k : ℕ) → k < length xs → p (get_or xs k 0) ≡ q (get_or xs k 0)) → any p xs ≡ any q xs
+-- the library's `any` is the same
+pub list-any : {A : Type 0} (p : A → Bool) (xs : List A) → list_any p xs ≡ any p xs
 unfolding any
-any_same p q [] h = refl
-any_same p q (x ∷ xs) h = ap₂ ◌||◌ (h 0 (omega arith)) (any_same p q xs (λ k l. h (suc k) (omega arith)))
+list-any p [] = refl
+list-any p (x ∷ xs) = ap (λ (b : Bool). p x || b) (list-any p xs)
 
--- a row of weights has the table's
-row_out : (digits : List ℕ) (powers : List ℤ) (columns row strand : ℕ) → strand < columns → out_in (row_of columns row digits) (row_of columns row powers) strand ≡ out_in digits powers (row * columns + strand)
-row_out digits powers columns row strand h = ap unformed (ap₂ (λ (d : ℕ) (p : ℤ). weight d (signed p)) (row-cell 0 columns row strand digits h) (row-cell (pos 0) columns row strand powers h))
+any-here-or : (p : ℕ → Bool) (n a : ℕ) → a < n → any p (drop a (up_to n)) ≡ (p a || any p (drop (a + 1) (up_to n)))
+unfolding any
+any-here-or p n a h = rw (drop-tabulate n (λ k. k) a h) refl
+
+-- over numbers from a on, where none of those after them passes
+pub any-range : (p : ℕ → Bool) (n m a : ℕ) → a + m ≤ n → any p (drop (a + m) (up_to n)) ≡ false → list_any p (range_with_len a m) ≡ any p (drop a (up_to n))
+any-range p n zero a h e = sym (rw (add-zero a) at e)
+any-range p n (suc m) a h e =
+    let here : a < n = omega arith in
+    let on : a + suc m ≡ a + 1 + m = omega arith in
+    ap (λ (b : Bool). p a || b) (any-range p n m (a + 1) (omega arith) (rw on at e)) ∙ sym (any-here-or p n a here)
+
+-- a test of the number before
+pub range-before : (q : ℕ → Bool) (m a : ℕ) → list_any (λ k. q (k - 1)) (range_with_len (a + 1) m) ≡ list_any q (range_with_len a m)
+range-before q zero a = refl
+range-before q (suc m) a = ap₂ (λ (k : ℕ) (b : Bool). q k || b) (before a) (range-before q m (a + 1))
+  where
+    before : (a : ℕ) → a + 1 - 1 ≡ a
+    before a = omega arith
 
 get_or-past : (n : ℕ) (f : ℕ → List ℕ) (i : ℕ) → n ≤ i → get_or (tabulate n f) i [] ≡ []
 unfolding tabulate
@@ -45,14 +58,7 @@ module _ (w : Weights) (rows counts : List ℕ) (s : Searchable w.strands rows c
   unfolding friends_in
   friends-past i h = get_or-past (length counts) (friends_at rows counts) i h
 
-  -- the friends of a position, lent as a part
-  pub friends-part : (i end : ℕ) → end ≡ 64 * i + get_or counts i 0 - 1 → i < length counts → take (end - 64 * i) (drop (64 * i) rows) ≡ friends_at rows counts i
-  friends-part i end e h =
-      let some = s.some i h in
-      let n : end - 64 * i ≡ get_or counts i 0 - 1 = omega arith in
-      rw n refl
-
-  pub friends-below : (i : ℕ) → i < length counts → Below w.strands (friends_at rows counts i)
+  pub friends-below : (i : ℕ) → i < length counts → (k : ℕ) → k < length (friends_at rows counts i) → get_or (friends_at rows counts i) k 0 < w.strands
   friends-below i h k l =
       let few = s.readable.few i h in
       let sized = s.readable.sized in
@@ -60,20 +66,16 @@ module _ (w : Weights) (rows counts : List ℕ) (s : Searchable w.strands rows c
       let k' : k < get_or counts i 0 - 1 = omega arith in
       rw (get_or-take (get_or counts i 0 - 1) (drop (64 * i) rows) k 0 k', get_or-drop (64 * i) rows k 0) (s.known i k h (omega arith))
 
-  -- what a position's row of places says
-  pub places-at : (i : ℕ) → i < length counts → any (out_in (row_of w.strands i w.place_digits) (row_of w.strands i w.place_powers)) (friends_at rows counts i) ≡ places_out_at (friends_in rows counts) w i
-  places-at i h =
-      any_same (out_in (row_of w.strands i w.place_digits) (row_of w.strands i w.place_powers)) (place_out w i) (friends_at rows counts i)
-      (λ k l. row_out w.place_digits w.place_powers w.strands i (get_or (friends_at rows counts i) k 0) (friends-below i h k l))
-      ∙ ap (any (place_out w i)) (sym (friends-at i h))
+  -- of a friend lent as a part
+  pub friend-below : (i : ℕ) {items : List ℕ} (k x : ℕ) → i < length counts → items ≡ friends_at rows counts i → k < length items → x ≡ get_or items k x → x < w.strands
+  friend-below i {items} k x h e l r = rw (get_or_read items k x l r 0, e) (friends-below i h k (rw e at l))
 
-  -- and of its pairs with the next
-  pub pairs-at : (i : ℕ) → i + 1 < length counts → any (pairs_out_in w.strands w.pair_digits w.pair_powers (friends_at rows counts (i + 1))) (friends_at rows counts i) ≡ pairs_out_at (friends_in rows counts) w i
-  pairs-at i h =
-      any_same (pairs_out_in w.strands w.pair_digits w.pair_powers (friends_at rows counts (i + 1))) (pairs_out w (friends_at rows counts (i + 1))) (friends_at rows counts i)
-      (λ k l. any_same (out_in (row_of w.strands (get_or (friends_at rows counts i) k 0) w.pair_digits) (row_of w.strands (get_or (friends_at rows counts i) k 0) w.pair_powers)) (pair_out w (get_or (friends_at rows counts i) k 0)) (friends_at rows counts (i + 1))
-      (λ j m. row_out w.pair_digits w.pair_powers w.strands (get_or (friends_at rows counts i) k 0) (get_or (friends_at rows counts (i + 1)) j 0) (friends-below (i + 1) h j m)))
-      ∙ ap₂ (λ (right left : List ℕ). any (pairs_out w right) left) (sym (friends-at (i + 1) h)) (sym (friends-at i (omega arith)))
+  -- what is looked at
+  pub places-at : (i : ℕ) → i < length counts → any (place_out w i) (friends_at rows counts i) ≡ places_out_at (friends_in rows counts) w i
+  places-at i h = ap (any (place_out w i)) (sym (friends-at i h))
+
+  pub pairs-at : (i : ℕ) → i + 1 < length counts → any (pairs_out w (friends_at rows counts (i + 1))) (friends_at rows counts i) ≡ pairs_out_at (friends_in rows counts) w i
+  pairs-at i h = ap₂ (λ (right left : List ℕ). any (pairs_out w right) left) (sym (friends-at (i + 1) h)) (sym (friends-at i (omega arith)))
 
   none_right : (left : List ℕ) → any (pairs_out w []) left ≡ false
   unfolding any

@@ -1,24 +1,24 @@
 -- A row of terms written by strand, one for each option of a position, and its sums. Assumes nothing.
-use mathlib.Core.Path.{◌≡◌, refl, sym, ap, ap₂, ◌∙◌, subst}
+use mathlib.Core.Path.{◌≡◌, refl, sym, ap, ◌∙◌, subst}
 use mathlib.Core.Logic.{◌⊎◌, inl, inr, ◌≢◌}
-use mathlib.Core.Bool.{false}
 use mathlib.Core.List.Memᴰ
 use mathlib.Core.List.{List, [], ◌∷◌, Memᴰ}
-use Prim.Native.Nat.{ℕ, suc, ◌+◌, ◌*◌, ◌^◌, ◌≤◌, ◌<◌}
-use native.Mathlib.Nat.{zero-lt-suc, not-suc-le-zero, lt_of_not-le}
+use Prim.Native.Nat.{ℕ, suc, ◌+◌, ◌-◌, ◌^◌, ◌≤◌, ◌<◌}
+use native.Mathlib.Nat.{zero-lt-suc, not-suc-le-zero, lt_of_not-le, add_comm}
 use native.Mathlib.Numerals.{add-one}
 use native.Mathlib.Omega.{arith}
 use native.Mathlib.Decide.{dec_le, ℕ_discrete}
-use lib.Dec.{eqb}
-use lib.IntN.{ℤ}
-use lib.ListN.{length, get_or, set, length-set, drop, drop_of_length-le}
-use lib.Seq.{drop-cons, get_or-set_same, get_or-set_other, get_or-take, get_or-drop}
+use lib.ListN.{length, get_or, set, length-set, take, drop, length-drop, drop_of_length-le}
+use lib.Seq.{drop-cons, get_or-set_same, get_or-set_other}
+use Rattle.std.proofs.lemmas.List.{take_all}
+use Rattle.std.proofs.lemmas.Grind.{get_or_after_one}
 use Rattle.partition.specs.declared.Term.{Term}
-use Rattle.partition.specs.Terms.{size, times, plus}
+use Rattle.partition.specs.Terms.{term, size, times, plus}
 use Rattle.partition.specs.Pass.{sum_from, sum_terms, passed}
+use Rattle.partition.specs.Weights.{Weights}
 use Rattle.partition.specs.inner.Used.{Fit}
 use Rattle.partition.proofs.Passed.{Some, fit-holds, sum_terms-some}
-use Rattle.partition_sums.specs.inner.Rows.{row_of, factor_of, row_term, joined, step_of, Written}
+use Rattle.partition_sums.specs.inner.Rows.{place_term, pair_term, row_term, joined}
 
 -- ---- the sum left to right, from place k on
 module _ (f : ℕ → Term) where
@@ -34,6 +34,20 @@ module _ (f : ℕ → Term) where
   pub sum_done : (xs : List ℕ) (t : Term) (k : ℕ) → length xs ≤ k → sum_from f t (drop k xs) ≡ t
   unfolding sum_from
   sum_done xs t k h = rw (drop_of_length-le xs h) refl
+
+-- the options past the first, lent as a part
+module _ (xs : List ℕ) where
+  rest-is : take (length xs - 1) (drop 1 xs) ≡ drop 1 xs
+  rest-is = take_all (length xs - 1) (drop 1 xs) (let n = length-drop 1 xs in omega arith)
+
+  pub rest-at : (i : ℕ) → get_or (take (length xs - 1) (drop 1 xs)) i 0 ≡ get_or xs (i + 1) 0
+  rest-at i = rw rest-is (get_or_after_one xs i 0 ∙ ap (λ (k : ℕ). get_or xs k 0) (add_comm 1 i))
+
+  pub rest-in : (i : ℕ) → i < length (take (length xs - 1) (drop 1 xs)) → i + 1 < length xs
+  rest-in i h = let n = ap length rest-is ∙ length-drop 1 xs in omega arith
+
+  pub rest-past : (i : ℕ) → length (take (length xs - 1) (drop 1 xs)) ≤ i → length xs ≤ i + 1
+  rest-past i h = let n = ap length rest-is ∙ length-drop 1 xs in omega arith
 
 -- ---- a sum over options has its form
 pub mem_index : {y : ℕ} (xs : List ℕ) → Memᴰ y xs → (k : ℕ) × (k < length xs) × (y ≡ get_or xs k 0)
@@ -54,24 +68,26 @@ sum-fit f xs h l each =
     record { form = s.form; low = omega (arith, s.low) }
 
 -- ---- what is written so far
-pub written_none : (step : ℕ → Term) (here digits powers : List ℕ) → length digits ≡ 64 → length powers ≡ 64 → Written step here 0 digits powers
-written_none step here digits powers h g = record { sized = (h, g); done = λ j l. absurd (not-suc-le-zero l) }
 
-pub written-more : (step : ℕ → Term) (here digits powers : List ℕ) (k x : ℕ) (t : Term) → x < 64 → x ≡ get_or here k 0 → t ≡ step x → Written step here k digits powers
-    → Written step here (k + 1) (set digits x t.digits) (set powers x t.power)
-written-more step here digits powers k x t X e s w = record {
-  sized = (rw (length-set digits x t.digits) w.sized.0, rw (length-set powers x t.power) w.sized.1);
-  done = each;
-}
+-- of the first k options the terms are written, each at its strand
+pub record Written (step : ℕ → Term) (here : List ℕ) (k : ℕ) (row : List Term) : Type 0 where
+  pub sized : length row ≡ 64
+  pub done : (j : ℕ) → j < k → row_term row (get_or here j 0) ≡ step (get_or here j 0)
+
+pub written_none : (step : ℕ → Term) (here : List ℕ) (row : List Term) → length row ≡ 64 → Written step here 0 row
+written_none step here row h = record { sized = h; done = λ j l. absurd (not-suc-le-zero l) }
+
+pub written-more : (step : ℕ → Term) (here : List ℕ) (row : List Term) (k x : ℕ) (t : Term) → x < 64 → x ≡ get_or here k 0 → t ≡ step x → Written step here k row → Written step here (k + 1) (set row x t)
+written-more step here row k x t X e s w = record { sized = rw (length-set row x t) w.sized; done = each }
   where
-    here-now : row_term (set digits x t.digits) (set powers x t.power) x ≡ step x
-    here-now = rw (get_or-set_same digits x t.digits 0 (rw w.sized.0 X), get_or-set_same powers x t.power 0 (rw w.sized.1 X)) s
+    here-now : row_term (set row x t) x ≡ step x
+    here-now = rw (get_or-set_same row x t (term 0 0) (rw w.sized X)) s
 
-    at : (y : ℕ) → (y ≢ x → row_term digits powers y ≡ step y) → Dec (y ≡ x) → row_term (set digits x t.digits) (set powers x t.power) y ≡ step y
-    at y old (yes f) = subst (λ (z : ℕ). row_term (set digits x t.digits) (set powers x t.power) z ≡ step z) (sym f) here-now
-    at y old (no f) = rw (get_or-set_other digits x y t.digits 0 f, get_or-set_other powers x y t.power 0 f) (old f)
+    at : (y : ℕ) → (y ≢ x → row_term row y ≡ step y) → Dec (y ≡ x) → row_term (set row x t) y ≡ step y
+    at y old (yes f) = subst (λ (z : ℕ). row_term (set row x t) z ≡ step z) (sym f) here-now
+    at y old (no f) = rw (get_or-set_other row x y t (term 0 0) f) (old f)
 
-    each : (j : ℕ) → j < k + 1 → row_term (set digits x t.digits) (set powers x t.power) (get_or here j 0) ≡ step (get_or here j 0)
+    each : (j : ℕ) → j < k + 1 → row_term (set row x t) (get_or here j 0) ≡ step (get_or here j 0)
     each j l = at (get_or here j 0) (λ f. w.done j (before j l f (dec_le (suc j) k))) (ℕ_discrete (get_or here j 0) x)
       where
         before : (j : ℕ) → j < k + 1 → (get_or here j 0 ≢ x) → Dec (suc j ≤ k) → j < k
@@ -80,6 +96,10 @@ written-more step here digits powers k x t X e s w = record {
           where
             same : (j : ℕ) → j < k + 1 → (suc j ≤ k → ⊥) → j ≡ k
             same j l h = let g : k < suc j = lt_of_not-le h in omega arith
+
+-- all of them
+pub written-all : {step : ℕ → Term} {here : List ℕ} {k : ℕ} {row : List Term} → Written step here k row → length here ≤ k → (x : ℕ) → Memᴰ x here → row_term row x ≡ step x
+written-all {step} {here} w h x m = let k = mem_index here m in rw k.2 (w.done k.0 (omega (arith, k.1)))
 
 -- ---- the step is the pass's, where the row of the next position holds the pass's terms
 sum-from-same : (f g : ℕ → Term) (xs : List ℕ) (t : Term) → ((y : ℕ) → Memᴰ y xs → f y ≡ g y) → sum_from f t xs ≡ sum_from g t xs
@@ -92,15 +112,8 @@ unfolding sum_terms
 sum-terms-same f g [] h = refl
 sum-terms-same f g (x ∷ xs) h = ap (λ (z : Term). sum_from f z xs) (h x (Memᴰ.head refl)) ∙ sum-from-same f g xs (g x) (λ y m. h y (Memᴰ.tail m))
 
--- a lent table's row at a column is its cell
-pub row-cell : {A : Type 0} (d : A) (columns row column : ℕ) (table : List A) → column < columns → get_or (row_of columns row table) column d ≡ get_or table (row * columns + column) d
-row-cell d columns row column table h = get_or-take columns (drop (row * columns) table) column d h ∙ get_or-drop (row * columns) table column d
-
-module _ (place_term pair_term : ℕ → ℕ → Term) (i : ℕ) (later : List (List ℕ)) (next : List ℕ)
-    (place_digits : List ℕ) (place_powers : List ℤ) (pair_digits : List ℕ) (pair_powers : List ℤ) (strands : ℕ) (row_digits row_powers : List ℕ) where
-  pub step-passed : (x : ℕ) → factor_of place_digits place_powers false x ≡ place_term i x
-      → ((y : ℕ) → Memᴰ y next → factor_of (row_of strands x pair_digits) (row_of strands x pair_powers) (eqb x 0) y ≡ pair_term x y)
-      → ((y : ℕ) → Memᴰ y next → row_term row_digits row_powers y ≡ passed place_term pair_term (suc i) later y)
-      → step_of place_digits place_powers pair_digits pair_powers strands row_digits row_powers next x ≡ passed place_term pair_term i (next ∷ later) x
-  unfolding step_of passed joined
-  step-passed x p q r = ap₂ times p (sum-terms-same _ (λ y. times (pair_term x y) (passed place_term pair_term (suc i) later y)) next (λ y m. ap₂ times (q y m) (r y m)))
+module _ (w : Weights) (i : ℕ) (next : List ℕ) (later : List (List ℕ)) (row : List Term) where
+  pub step-passed : (x : ℕ) → ((y : ℕ) → Memᴰ y next → row_term row y ≡ passed (place_term w) (pair_term w) (suc i) later y)
+      → times (place_term w i x) (sum_terms (joined w row x) next) ≡ passed (place_term w) (pair_term w) i (next ∷ later) x
+  unfolding passed joined
+  step-passed x r = ap (times (place_term w i x)) (sum-terms-same _ (λ y. times (pair_term w x y) (passed (place_term w) (pair_term w) (suc i) later y)) next (λ y m. ap (times (pair_term w x y)) (r y m)))

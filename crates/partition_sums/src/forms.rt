@@ -1,129 +1,58 @@
 // The weights that some state uses, and whether one is outside its form.
-ghost use Rattle.std.specs.Prelude.{◌≡◌, ◌||◌, ℕ, ◌*◌, ◌<◌, ◌≤◌, length, get_or};
+ghost use Rattle.std.specs.Prelude.{◌≡◌, ◌+◌, ◌<◌, ◌≤◌, length, slice_index, EachIndex};
 ghost use Rattle.lists.specs.Build.{up_to};
 ghost use Rattle.lists.specs.Find.{any};
 ghost use Rattle.ensemble.specs.Layout.{Searchable};
-ghost use Rattle.partition.specs.Weights.{places_out_at, pairs_out_at, weights_out};
+ghost use Rattle.partition.specs.Weights.{places_out_at, pairs_out, pairs_out_at, weights_out};
 ghost use Rattle.partition_sums.specs.Layout.{friends_in, lent_weights, Celled};
-ghost use Rattle.partition_sums.specs.inner.Rows.{row_of};
-ghost use Rattle.partition_sums.specs.inner.Kept.{Below, out_in, pairs_out_in};
 
-use super::factors::wide;
+use super::lent::Lent;
 use super::terms::unformed;
 
-// Whether the weight of one of several strands in a row is outside its form.
-fn row_out(digits: &[u32], powers: &[i32], strands: &[u8]) -> bool
-    requires below { Below (length digits.now) strands.now }
-    requires below_2 { Below (length powers.now) strands.now }
-    ensures { result ≡ any (out_in digits.now powers.now) strands.now }
+// Whether the weight of a friend of a position is outside its form.
+fn places_out_at(lent: &Lent<'_>, position: usize) -> bool
+    requires { position < length lent.now.counts }
+    ensures { result ≡ places_out_at (friends_in lent.now.rows lent.now.counts) lent.now.weights position }
 {
-    let mut k = 0;
-    while k < strands.len() {
-        let at = wide(strands[k]);
-        let power = powers[at];
-        if unformed(digits[at], power) {
-            return true;
-        }
-        k += 1;
-    }
-    false
+    lent.friends(position)
+        .iter()
+        .any(|strand| unformed(lent.place_weight(position, *strand)))
 }
 
-// Whether the weight of one of several left strands with one of several right strands is outside its form.
-fn pairs_out(
-    pair_digits: &[u32],
-    pair_powers: &[i32],
-    strands: usize,
-    left: &[u8],
-    right: &[u8],
-) -> bool
-    requires strands_bound { strands ≤ 64 }
-    requires strands_in_bounds { strands * strands ≤ length pair_digits.now }
-    requires strands_in_bounds_2 { strands * strands ≤ length pair_powers.now }
-    requires below { Below strands left.now }
-    requires below_2 { Below strands right.now }
-    ensures { result ≡ any (pairs_out_in strands pair_digits.now pair_powers.now right.now) left.now }
+// Whether the weight of a left strand with one of several right strands is outside its form.
+fn pairs_out(lent: &Lent<'_>, left: u8, right: &[u8]) -> bool
+    requires left_in_bounds { left < lent.now.weights.strands }
+    requires right_in_bounds { EachIndex right.now (λ k. slice_index right.now k < lent.now.weights.strands) }
+    ensures { result ≡ pairs_out lent.now.weights right.now left }
 {
-    let mut k = 0;
-    while k < left.len() {
-        let cell = wide(left[k]) * strands;
-        let next_cell = cell + strands;
-        if row_out(
-            &pair_digits[cell..next_cell],
-            &pair_powers[cell..next_cell],
-            right,
-        ) {
-            return true;
-        }
-        k += 1;
-    }
-    false
-}
-
-// Whether the weight of a friend at its position is outside its form.
-fn places_out(
-    rows: &[u8],
-    counts: &[u8],
-    place_digits: &[u32],
-    place_powers: &[i32],
-    pair_digits: &[u32],
-    pair_powers: &[i32],
-    strands: usize,
-) -> bool
-    requires searchable { Searchable strands rows.now counts.now }
-    requires celled { Celled (length counts.now) (lent_weights strands place_digits place_powers pair_digits pair_powers) }
-    ensures { result ≡ any (places_out_at (friends_in rows.now counts.now) (lent_weights strands place_digits.entry place_powers.entry pair_digits.entry pair_powers.entry)) (up_to (length counts.now)) }
-{
-    let mut position = 0;
-    while position < counts.len() {
-        let row = 64 * position;
-        let end = row + wide(counts[position]) - 1;
-        let cell = position * strands;
-        let next_cell = cell + strands;
-        if row_out(
-            &place_digits[cell..next_cell],
-            &place_powers[cell..next_cell],
-            &rows[row..end],
-        ) {
-            return true;
-        }
-        position += 1;
-    }
-    false
+    right
+        .iter()
+        .any(|strand| unformed(lent.pair_weight(left, *strand)))
 }
 
 // Whether the weight of a friend of a position with a friend of the next is outside its form.
-fn neighbours_out(
-    rows: &[u8],
-    counts: &[u8],
-    place_digits: &[u32],
-    place_powers: &[i32],
-    pair_digits: &[u32],
-    pair_powers: &[i32],
-    strands: usize,
-) -> bool
-    requires searchable { Searchable strands rows.now counts.now }
-    requires celled { Celled (length counts.now) (lent_weights strands place_digits place_powers pair_digits pair_powers) }
-    ensures { result ≡ any (pairs_out_at (friends_in rows.now counts.now) (lent_weights strands place_digits.entry place_powers.entry pair_digits.entry pair_powers.entry)) (up_to (length counts.now)) }
+fn pairs_out_at(lent: &Lent<'_>, position: usize) -> bool
+    requires { (position + 1 < length lent.now.counts) × (length lent.now.counts ≤ 128) }
+    ensures { result ≡ pairs_out_at (friends_in lent.now.rows lent.now.counts) lent.now.weights position }
 {
-    let mut next = 1;
-    while next < counts.len() {
-        let row = 64 * next;
-        let end = row + wide(counts[next]) - 1;
-        let left = row - 64;
-        let left_end = left + wide(counts[next - 1]) - 1;
-        if pairs_out(
-            pair_digits,
-            pair_powers,
-            strands,
-            &rows[left..left_end],
-            &rows[row..end],
-        ) {
-            return true;
-        }
-        next += 1;
-    }
-    false
+    let next = lent.friends(position + 1);
+    lent.friends(position)
+        .iter()
+        .any(|strand| pairs_out(lent, *strand, next))
+}
+
+// Whether the weight of a friend at its position is outside its form.
+fn places_out(lent: &Lent<'_>) -> bool
+    ensures { result ≡ any (places_out_at (friends_in lent.now.rows lent.now.counts) lent.now.weights) (up_to (length lent.now.counts)) }
+{
+    (0..lent.counts.len()).any(|position| places_out_at(lent, position))
+}
+
+// Whether the weight of a friend of a position with a friend of the next is outside its form.
+fn neighbours_out(lent: &Lent<'_>) -> bool
+    ensures { result ≡ any (pairs_out_at (friends_in lent.now.rows lent.now.counts) lent.now.weights) (up_to (length lent.now.counts)) }
+{
+    (1..lent.counts.len()).any(|next| pairs_out_at(lent, next - 1))
 }
 
 // Whether a weight that some state uses is outside its form.
@@ -140,7 +69,7 @@ pub fn weights_out(
     requires celled { Celled (length counts.now) (lent_weights strands place_digits place_powers pair_digits pair_powers) }
     ensures { result ≡ weights_out (friends_in rows.now counts.now) (lent_weights strands place_digits.entry place_powers.entry pair_digits.entry pair_powers.entry) }
 {
-    if places_out(
+    let lent = Lent {
         rows,
         counts,
         place_digits,
@@ -148,16 +77,6 @@ pub fn weights_out(
         pair_digits,
         pair_powers,
         strands,
-    ) {
-        return true;
-    }
-    neighbours_out(
-        rows,
-        counts,
-        place_digits,
-        place_powers,
-        pair_digits,
-        pair_powers,
-        strands,
-    )
+    };
+    places_out(&lent) || neighbours_out(&lent)
 }

@@ -3,8 +3,9 @@
 #![tactic(auto)]
 
 mod allowed;
-mod factors;
+mod constraint;
 pub mod forms;
+mod lent;
 mod rows;
 pub mod sums;
 mod terms;

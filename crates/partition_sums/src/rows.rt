@@ -1,70 +1,72 @@
 // Rows of terms, by strand: for each option of a position its term with all that can follow it.
-ghost use Rattle.std.specs.Prelude.{◌≡◌, false, ℕ, ◌<◌, ◌≤◌, length, get_or};
-ghost use Rattle.partition_sums.specs.inner.Rows.{factor_of, PlaceAt, step_of, StepAt, Written};
+ghost use Rattle.std.specs.Prelude.{◌≡◌, ℕ, ◌+◌, ◌-◌, ◌^◌, ◌<◌, ◌≤◌, length, slice_index};
+ghost use Rattle.partition.specs.declared.Term as Declared;
+ghost use Rattle.partition.specs.Pass as Pass;
+ghost use Rattle.partition.specs.inner.Used.{Fit, InUse};
+ghost use Rattle.partition_sums.specs.Layout.{options_in};
+ghost use Rattle.partition_sums.specs.inner.Rows as Rows;
+ghost use Rattle.partition_sums.specs.inner.Rows.{Joins, Row};
 
-use super::factors::{after, factor_term, wide};
-use super::terms::term_times;
+use super::lent::Lent;
+use super::terms::{term_plus, term_times};
+use partition::Term;
+
+// What stands in a row where no option does.
+const UNUSED: Term = Term {
+    digits: 0,
+    power: 0,
+};
+
+// The sum over one option or more of the term of each, in their order.
+pub(crate) fn sum_terms<F: Fn(u8) -> Term>(options: &[u8], term: F) -> Term
+    requires options_nonzero { (0 < length options.now) × (length options.now ≤ 64) }
+    requires callable { (k : ℕ) → k < length options.now → F.pre term (slice_index options.now k) }
+    requires fit { (k : ℕ) (t : Declared.Term) → k < length options.now → F.post term (slice_index options.now k) t → Fit (2 ^ 31) t }
+    // where `term` computes f, the definition's sum of f
+    ensures { (f : ℕ → Declared.Term) → ((k : ℕ) (t : Declared.Term) → k < length options.now → F.post term (slice_index options.now k) t → t ≡ f (slice_index options.now k)) → result ≡ Pass.sum_terms f options.now }
+{
+    let mut sum = term(options[0]);
+    for x in &options[1..] {
+        sum = term_plus(sum, term(*x));
+    }
+    sum
+}
+
+// A pair's factor times the term of its right occupant.
+#[tactic(auto, unfolding(crate::specs::inner::Rows::joined))]
+fn joined(lent: &Lent<'_>, row: &[Term; 64], left: u8, right: u8) -> Term
+    requires { Joins lent.now.weights row.now left right }
+    ensures { result ≡ Rows.joined lent.now.weights row.now left right }
+{
+    term_times(lent.pair_factor(left, right), row[usize::from(right)])
+}
 
 // The row of the last position, which nothing follows.
-pub(crate) fn last_row(
-    place_digits: &[u32],
-    place_powers: &[i32],
-    here: &[u8],
-    out_digits: &mut [u64],
-    out_powers: &mut [u64],
-)
-    requires here_len_bound { length here.now ≤ 64 }
-    requires by_index { (k : ℕ) → k < length here.now → PlaceAt place_digits.now place_powers.now (get_or here.now k 0) }
-    requires out_digits_len { (length out_digits.old ≡ 64) × (length out_powers.old ≡ 64) }
-    ensures { Written (factor_of place_digits.now place_powers.now false) here.now (length here.now) out_digits.new out_powers.new }
+pub(crate) fn last_row(lent: &Lent<'_>) -> [Term; 64]
+    requires counts_nonzero { 0 < length lent.now.counts }
+    requires in_use { InUse lent.now.weights 0 (options_in lent.now.rows lent.now.counts) }
+    ensures { Row lent.now (length lent.now.counts - 1) result }
 {
-    let mut k = 0;
-    while k < here.len() {
-        let x = here[k];
-        let at = wide(x);
-        let place = factor_term(place_digits, place_powers, false, x);
-        out_digits[at] = place.digits;
-        out_powers[at] = place.power;
-        k += 1;
+    let position = lent.counts.len() - 1;
+    let mut row = [UNUSED; 64];
+    for x in lent.options(position) {
+        row[usize::from(*x)] = lent.place_factor(position, *x);
     }
+    row
 }
 
 // The row of a position, from that of the next one.
-pub(crate) fn next_row(
-    place_digits: &[u32],
-    place_powers: &[i32],
-    pair_digits: &[u32],
-    pair_powers: &[i32],
-    strands: usize,
-    here: &[u8],
-    next: &[u8],
-    row_digits: &[u64],
-    row_powers: &[u64],
-    out_digits: &mut [u64],
-    out_powers: &mut [u64],
-)
-    requires next_nonzero { (0 < length next.now) × (length next.now ≤ 64) × (length here.now ≤ 64) }
-    requires by_index { (k : ℕ) → k < length here.now → StepAt place_digits.now place_powers.now pair_digits.now pair_powers.now strands row_digits.now row_powers.now next.now (get_or here.now k 0) }
-    requires out_digits_len { (length out_digits.old ≡ 64) × (length out_powers.old ≡ 64) }
-    ensures { Written (step_of place_digits.now place_powers.now pair_digits.now pair_powers.now strands row_digits.now row_powers.now next.now) here.now (length here.now) out_digits.new out_powers.new }
+pub(crate) fn row_before(lent: &Lent<'_>, position: usize, next_row: &[Term; 64]) -> [Term; 64]
+    requires next_in_bounds { (position + 1 < length lent.now.counts) × (length lent.now.counts ≤ 128) }
+    requires in_use { InUse lent.now.weights 0 (options_in lent.now.rows lent.now.counts) }
+    requires next { Row lent.now (position + 1) next_row.now }
+    ensures { Row lent.now position result }
 {
-    let mut k = 0;
-    while k < here.len() {
-        let x = here[k];
-        let at = wide(x);
-        let sum = after(
-            pair_digits,
-            pair_powers,
-            strands,
-            x,
-            row_digits,
-            row_powers,
-            next,
-        );
-        let place = factor_term(place_digits, place_powers, false, x);
-        let t = term_times(place, sum);
-        out_digits[at] = t.digits;
-        out_powers[at] = t.power;
-        k += 1;
+    let next = lent.options(position + 1);
+    let mut row = [UNUSED; 64];
+    for x in lent.options(position) {
+        let sum = sum_terms(next, |y| joined(lent, next_row, *x, y));
+        row[usize::from(*x)] = term_times(lent.place_factor(position, *x), sum);
     }
+    row
 }

@@ -1,17 +1,16 @@
 // Terms: their products and sums, cut to 31 digits, and exponents moved up and back.
 ghost use Rattle.std.specs.Prelude.{◌≡◌, ◌^◌, ◌<◌, ◌≤◌};
-ghost use Rattle.std.proofs.Math.IntN.{sub_ℕ};
-ghost use Rattle.fractions.specs.Weight.{weight};
 ghost use Rattle.partition.specs.Terms.{Normal, times, plus_lower, plus};
 ghost use Rattle.partition.specs.Weights as Weights;
 ghost use Rattle.partition.specs.Summed as Summed;
-ghost use Rattle.partition.specs.Summed.{lifted, factors};
-ghost use Rattle.partition_sums.specs.inner.Rows.{Low};
+ghost use Rattle.partition.specs.Summed.{factors, lifted_term};
+ghost use Rattle.partition.specs.inner.Used.{Weighs};
 
 use fractions::Weight;
 use partition::Term;
 
 // The product, cut to 31 digits.
+#[tactic(auto, unfolding(partition::specs::Terms::times))]
 pub(crate) fn term_times(a: Term, b: Term) -> Term
     requires normal { Normal a }
     requires normal_2 { Normal b }
@@ -21,18 +20,20 @@ pub(crate) fn term_times(a: Term, b: Term) -> Term
     let digits = a.digits * b.digits;
     let power = a.power + b.power;
     if digits < 0x2000_0000_0000_0000 {
-        return Term {
+        Term {
             digits: digits / 0x4000_0000,
             power: power + 30,
-        };
-    }
-    Term {
-        digits: digits / 0x8000_0000,
-        power: power + 31,
+        }
+    } else {
+        Term {
+            digits: digits / 0x8000_0000,
+            power: power + 31,
+        }
     }
 }
 
 // The sum of two terms, cut to 31 digits, where the power of the second is not higher. Where it is lower by 31, nothing is left of its digits.
+#[tactic(auto, unfolding(partition::specs::Terms::plus_lower))]
 fn term_plus_lower(a: Term, b: Term) -> Term
     requires normal { Normal a }
     requires normal_2 { Normal b }
@@ -44,6 +45,7 @@ fn term_plus_lower(a: Term, b: Term) -> Term
         return a;
     }
     let digits = a.digits + (b.digits >> gap);
+    // Returned early: of two arms the compiler makes a choice without a branch, for which each sum of a chain waits.
     if digits < 0x8000_0000 {
         return Term {
             digits,
@@ -57,6 +59,7 @@ fn term_plus_lower(a: Term, b: Term) -> Term
 }
 
 // The sum of two terms, cut to 31 digits.
+#[tactic(auto, unfolding(partition::specs::Terms::plus))]
 pub(crate) fn term_plus(a: Term, b: Term) -> Term
     requires normal { Normal a }
     requires normal_2 { Normal b }
@@ -64,25 +67,21 @@ pub(crate) fn term_plus(a: Term, b: Term) -> Term
     ensures { result ≡ plus a b }
 {
     if a.power < b.power {
-        return term_plus_lower(b, a);
+        term_plus_lower(b, a)
+    } else {
+        term_plus_lower(a, b)
     }
-    term_plus_lower(a, b)
 }
 
-// An exponent, 400,000 higher.
-pub(crate) fn lift(power: i32) -> u64
-    requires { Low power }
-    ensures { result ≡ lifted 400000 power }
+// A weight in form as a term: its exponent is 400,000 higher.
+pub(crate) fn lifted(weight: Weight) -> Term
+    requires { Weighs 400000 weight }
+    ensures { result ≡ lifted_term 400000 weight }
 {
-    (power as i64 + 400000) as u64
-}
-
-// An exponent, lower by so much.
-pub(crate) fn lower(power: u64, down: u64) -> i32
-    requires { (power ≤ 2 ^ 30) × (down ≤ 2 ^ 30) }
-    ensures { result ≡ sub_ℕ power down }
-{
-    (power as i64 - down as i64) as i32
+    Term {
+        digits: u64::from(weight.digits),
+        power: (i64::from(weight.power) + 400000) as u64,
+    }
 }
 
 // A term of a state of so many positions, as a weight: each of its factors was moved up.
@@ -95,22 +94,16 @@ pub(crate) fn lowered(t: Term, positions: usize) -> Weight
     let moved = 400000 * (2 * positions as u64 - 1);
     Weight {
         digits: t.digits as u32,
-        power: lower(t.power, moved),
+        power: (t.power as i64 - moved as i64) as i32,
     }
 }
 
 // Whether a weight is outside its form.
-pub(crate) fn unformed(digits: u32, power: i32) -> bool
-    ensures { result ≡ Weights.unformed (weight digits power) }
+#[tactic(auto, unfolding(partition::specs::Weights::unformed))]
+pub(crate) fn unformed(weight: Weight) -> bool
+    ensures { result ≡ Weights.unformed weight }
 {
-    if digits < 0x4000_0000 {
-        return true;
-    }
-    if 0x8000_0000 <= digits {
-        return true;
-    }
-    if power < -400000 {
-        return true;
-    }
-    400000 < power
+    let digits_fit = (0x4000_0000..0x8000_0000).contains(&weight.digits);
+    let power_fits = (-400000..=400000).contains(&weight.power);
+    !(digits_fit && power_fits)
 }

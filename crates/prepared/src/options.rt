@@ -1,42 +1,27 @@
 // The options of a design, and how many states they give.
 ghost use Rattle.std.specs.Prelude.{◌≡◌, ◌*◌, ◌≤◌, min, length};
+ghost use Rattle.lists.specs.Build.{product};
 ghost use Rattle.model.specs.States.{count};
 ghost use Rattle.ensemble.specs.Layout.{Searchable, OptionRows};
-ghost use Rattle.design.specs.Design.{lent, model_of};
+ghost use Rattle.design.specs.Design.{positions, strands, model_of};
 ghost use Rattle.design.specs.Checks.{TablesPass};
 
+use design::Design;
 use design::options::fill_options;
 use ensemble::states::state_count;
-use units::Ambient;
 
 // The options of a design whose tables pass, a row of 64 for each position, and how many states they give; one past the limit where these are more.
-pub fn count_options(
-    scaffold: &[u8],
-    marks: &[u8],
-    glues: &[u8],
-    dg: &[f64],
-    ds: &[f64],
-    potentials: &[f64],
-    ambient: Ambient,
-    rows: &mut [u8],
-    counts: &mut [u8],
-) -> u64
-    requires tables_pass { TablesPass (lent scaffold marks glues dg ds potentials ambient) }
-    requires scaffold_in_bounds { 64 * length scaffold.now ≤ length rows.old }
-    requires counts_len { length counts.old ≡ length scaffold.now }
-    ensures value { result ≡ min (count (model_of (lent scaffold.entry marks.entry glues.entry dg.entry ds.entry potentials.entry ambient))) 1048577 }
-    ensures option_rows { OptionRows (model_of (lent scaffold.entry marks.entry glues.entry dg.entry ds.entry potentials.entry ambient)) rows.new counts.new }
-    ensures searchable { Searchable (length potentials.now) rows.new counts.new }
+pub fn count_options(design: &Design, rows: &mut [u8], counts: &mut [u8]) -> u64
+    requires tables_pass { TablesPass design.now }
+    requires scaffold_in_bounds { 64 * positions design.now ≤ length rows.old }
+    requires counts_len { length counts.old ≡ positions design.now }
+    ensures value { result ≡ min (count (model_of design.now)) 1048577 }
+    ensures within { result ≤ 1048576 → result ≡ product counts.new }
+    ensures option_rows { OptionRows (model_of design.now) rows.new counts.new }
+    ensures searchable { Searchable (strands design.now) rows.new counts.new }
+    ensures rows_len_unchanged { length rows.new ≡ length rows.old }
+    ensures counts_len_unchanged { length counts.new ≡ length counts.old }
 {
-    fill_options(
-        scaffold,
-        marks,
-        glues,
-        dg,
-        ds,
-        potentials.len() as u8,
-        rows,
-        counts,
-    );
+    fill_options(design, rows, counts);
     state_count(counts)
 }

@@ -2,6 +2,7 @@
 // sum up to a scaffold bond serves for every state that begins so.
 ghost use Rattle.std.specs.Prelude.{◌≡◌, ℕ, ◌+◌, ◌*◌, ◌<◌, ◌≤◌, length, get_or};
 ghost use Rattle.std.specs.Float.{nan};
+ghost use Rattle.doubles.specs.Decimal.{zero};
 ghost use Rattle.model.specs.Model.{Model, State};
 ghost use Rattle.model.specs.Energy.{state_energy};
 ghost use Rattle.prepared.specs.Layout.{StateCells};
@@ -16,11 +17,16 @@ pub struct Begun {
     pub sum: f64,
 }
 
-// A strand's number as an index. As a function of its own it asks the proofs for no bound on the byte.
-fn wide(number: u8) -> usize
-    ensures { result ≡ number }
-{
-    number as usize
+impl Begun {
+    // Nobody yet.
+    pub fn nobody() -> Self
+        ensures { result ≡ record { strand = 0; sum = zero } }
+    {
+        Begun {
+            strand: 0,
+            sum: 0.0,
+        }
+    }
 }
 
 // The sum with what follows the left occupant's scaffold bond, its right neighbour known.
@@ -31,16 +37,12 @@ fn joined(left: Begun, right: u8, strand_bonds: &[f64], potentials: &[f64]) -> f
     requires potentials_in_bounds { length potentials.now * length potentials.now ≤ length strand_bonds.now }
     ensures { result ≡ joined_in (cell_of (length potentials.now) strand_bonds.now) (λ x. get_or potentials.now x nan) left.strand right left.sum }
 {
-    let strand = left.strand;
-    let sum = left.sum;
-    if strand == 0 {
-        return sum;
+    if left.strand == 0 {
+        return left.sum;
     }
-    let own = wide(strand);
-    let cell = own * potentials.len() + wide(right);
-    let bond = strand_bonds[cell];
-    let potential = potentials[own];
-    sum + bond - potential
+    let own = usize::from(left.strand);
+    let cell = own * potentials.len() + usize::from(right);
+    left.sum + strand_bonds[cell] - potentials[own]
 }
 
 // The sum up to an occupant's scaffold bond, after the occupant to its left.
@@ -65,11 +67,10 @@ pub fn begin(
     if strand == 0 {
         return Begun { strand, sum };
     }
-    let cell = position * potentials.len() + wide(strand);
-    let bond = scaffold_bonds[cell];
+    let cell = position * potentials.len() + usize::from(strand);
     Begun {
         strand,
-        sum: sum + bond,
+        sum: sum + scaffold_bonds[cell],
     }
 }
 
@@ -78,13 +79,10 @@ pub fn ended(last: Begun, potentials: &[f64]) -> f64
     requires { last.strand < length potentials.now }
     ensures { result ≡ ended_in (λ x. get_or potentials.now x nan) last.strand last.sum }
 {
-    let strand = last.strand;
-    let sum = last.sum;
-    if strand == 0 {
-        return sum;
+    if last.strand == 0 {
+        return last.sum;
     }
-    let potential = potentials[wide(strand)];
-    sum - potential
+    last.sum - potentials[usize::from(last.strand)]
 }
 
 // The state energy of a state.
@@ -103,21 +101,16 @@ pub fn state_energy(
     requires potentials_in_bounds_2 { length state.now * length potentials.now ≤ length scaffold_bonds.now }
     ensures { (m : Model) → StateCells m (length potentials.now) strand_bonds.now scaffold_bonds.now potentials.now → State m state.now → rt.0 ≡ m.rt → result.0 ≡ state_energy m state.now }
 {
-    let mut begun = Begun {
-        strand: 0,
-        sum: 0.0,
-    };
-    let mut position = 0;
-    while position < state.len() {
+    let mut begun = Begun::nobody();
+    for (position, strand) in state.iter().enumerate() {
         begun = begin(
             begun,
-            state[position],
+            *strand,
             position,
             strand_bonds,
             scaffold_bonds,
             potentials,
         );
-        position += 1;
     }
     rt.scale(ended(begun, potentials))
 }

@@ -3,13 +3,12 @@ use mathlib.Core.Path.{◌≡◌, refl, ap, sym, ◌∙◌}
 use Prim.Native.Nat.{ℕ, ◌≤◌}
 use native.Mathlib.Omega.{arith}
 use lib.Dec.{lit≤}
-use Rattle.reply.specs.Number.{number_of, answered}
+use Rattle.std.specs.Prelude.{Ok, Err}
+use Rattle.reply.specs.Number.{number_of, answered, Reply}
 use Rattle.reply.specs.First.{answer}
 use Rattle.reply.specs.declared.Refusal.{Refusal}
+use Rattle.reply.specs.declared.Refused.{Refused}
 use Rattle.reply.specs.declared.Refusal.TheVariants.{WrongSize, NotABase, TooShort, UnequalLengths, NoSuchLoop, UnknownName, TooManyGlues, DuplicatePair, OutOfRange, NullBinds, NotAFriend, TooManyStates, RankTooHigh, BadDeck, AmbientOut, PotentialOut, BareScaffold, WeightOut, NotARing, TwoStars, NotAJob, NoneUnder}
-use Rattle.reply.specs.declared.Place.{Place}
-use Rattle.reply.specs.declared.Reply.{Reply}
-use Rattle.reply.specs.declared.Reply.TheVariants.{Admitted, Refused}
 use Rattle.reply.proofs.Lowest.{same_number}
 
 pub number-positive : (r : Refusal) → 1 ≤ number_of r
@@ -39,16 +38,15 @@ number-positive NoneUnder = lit≤ tt
 -- over any figures that have a number
 module _ {A : Type 0} (number : A → ℕ) (refused : ℕ → A) (numbered : (n : ℕ) → number (refused n) ≡ n) (given : A) where
   -- a number of 0 is that of an admitted call
-  pub is-admitted : (r : Reply) (x : A) → number x ≡ answered → x ≡ answer r refused given → (r ≡ Admitted) × (x ≡ given)
-  is-admitted Admitted x e p = (refl, p)
-  is-admitted (Refused why place) x e p =
-      let n : number x ≡ number_of why = ap number p ∙ numbered (number_of why) in
-      absurd (omega (arith, number-positive why))
+  pub is-admitted : (r : Reply) (x : A) → number x ≡ answered → x ≡ answer r refused given → (r ≡ Ok tt) × (x ≡ given)
+  is-admitted (Ok u) x e p = (refl, p)
+  is-admitted (Err r) x e p =
+      let n : number x ≡ number_of r.refusal = ap number p ∙ numbered (number_of r.refusal) in
+      absurd (omega (arith, number-positive r.refusal))
 
   -- a refusal's number is that of the reply
-  pub is-refused : (r : Reply) (why : Refusal) → number given ≡ answered → refused (number_of why) ≡ answer r refused given → (place : Place) × (r ≡ Refused why place)
-  is-refused Admitted why g p =
+  pub is-refused : (r : Reply) (why : Refusal) → number given ≡ answered → refused (number_of why) ≡ answer r refused given → (e : Refused) × ((r ≡ Err e) × (e.refusal ≡ why))
+  is-refused (Ok u) why g p =
       let n : number_of why ≡ number given = sym (numbered (number_of why)) ∙ ap number p in
       absurd (omega (arith, number-positive why))
-  is-refused (Refused q place) why g p =
-      (place, ap (λ (x : Refusal). Refused x place) (same_number (sym (numbered (number_of q)) ∙ sym (ap number p) ∙ numbered (number_of why))))
+  is-refused (Err e) why g p = (e, (refl, same_number (sym (numbered (number_of e.refusal)) ∙ sym (ap number p) ∙ numbered (number_of why))))

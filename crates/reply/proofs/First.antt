@@ -4,18 +4,17 @@ use mathlib.Core.Bool.{Bool, true, false}
 use mathlib.Core.List.{List, [], ◌∷◌, ◌++◌}
 use Prim.Native.Nat.{ℕ}
 use native.Mathlib.Omega.{arith}
+use Rattle.std.specs.Prelude.{Option, Ok, Err}
+use Rattle.reply.specs.Number.{Reply}
 use Rattle.reply.specs.First.{Check, first_of, refused_if, ◌or_else◌}
 use Rattle.reply.specs.declared.Refusal.{Refusal}
-use Rattle.reply.specs.declared.Place.{Place}
-use Rattle.reply.specs.declared.Reply.{Reply}
-use Rattle.reply.specs.declared.Reply.TheVariants.{Admitted}
 
-passes-step : (holds : Bool) (refusal : Refusal) (place : Place) (rest : Reply) → refused_if holds refusal place rest ≡ Admitted → (holds ≡ false) × (rest ≡ Admitted)
+passes-step : (holds : Bool) (refusal : Refusal) (place : Option ℕ) (rest : Reply) → refused_if holds refusal place rest ≡ Ok tt → (holds ≡ false) × (rest ≡ Ok tt)
 passes-step true refusal place rest e = absurd (let z : ◌≡◌ {A = ℕ} 0 1 = cc in omega arith)
 passes-step false refusal place rest e = (refl, e)
 
 -- where a list is admitted, its first check does not hold, and the rest is admitted
-pub passes : (c : Check) (cs : List Check) → first_of (c ∷ cs) ≡ Admitted → (c.holds ≡ false) × (first_of cs ≡ Admitted)
+pub passes : (c : Check) (cs : List Check) → first_of (c ∷ cs) ≡ Ok tt → (c.holds ≡ false) × (first_of cs ≡ Ok tt)
 passes c cs e = passes-step c.holds c.refusal c.place (first_of cs) e
 
 -- no check of the list holds
@@ -24,19 +23,19 @@ NoneHolds [] = Unit
 NoneHolds (c ∷ cs) = (c.holds ≡ false) × NoneHolds cs
 
 -- where a list is admitted, none of its checks holds
-pub none-holds : (cs : List Check) → first_of cs ≡ Admitted → NoneHolds cs
+pub none-holds : (cs : List Check) → first_of cs ≡ Ok tt → NoneHolds cs
 none-holds [] e = tt
 none-holds (c ∷ cs) e = let here = passes c cs e in (here.0, none-holds cs here.1)
 
 -- and where two are, one after the other, both are
-pub both-pass : (xs ys : List Check) → first_of (xs ++ ys) ≡ Admitted → (first_of xs ≡ Admitted) × (first_of ys ≡ Admitted)
+pub both-pass : (xs ys : List Check) → first_of (xs ++ ys) ≡ Ok tt → (first_of xs ≡ Ok tt) × (first_of ys ≡ Ok tt)
 both-pass [] ys e = (refl, e)
 both-pass (c ∷ xs) ys e =
     let here = passes c (xs ++ ys) e in
     let later = both-pass xs ys here.1 in
     (rw here.0 later.0, later.1)
 
-joined_step : (holds : Bool) (refusal : Refusal) (place : Place) (r s t : Reply) → r or_else s ≡ t → refused_if holds refusal place r or_else s ≡ refused_if holds refusal place t
+joined_step : (holds : Bool) (refusal : Refusal) (place : Option ℕ) (r s t : Reply) → r or_else s ≡ t → refused_if holds refusal place r or_else s ≡ refused_if holds refusal place t
 joined_step true refusal place r s t e = refl
 joined_step false refusal place r s t e = e
 

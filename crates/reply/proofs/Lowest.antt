@@ -9,14 +9,11 @@ use native.Mathlib.Nat.{le_trans, le_antisymm}
 use native.Mathlib.Omega.{arith}
 use lib.Dec.{T, leb, leb→le}
 use lib.ListN.{get_or}
-use Rattle.reply.specs.Number.{number_of}
-use Rattle.reply.specs.First.{Check, first_of, sorted, AppliesAt, Applies, LowestGiven}
+use Rattle.std.specs.Prelude.{Option, None, Ok, Err}
+use Rattle.reply.specs.Number.{number_of, Reply}
+use Rattle.reply.specs.First.{Check, refuses, first_of, sorted, AppliesAt, Applies, LowestGiven}
 use Rattle.reply.specs.declared.Refusal.{Refusal}
 use Rattle.reply.specs.declared.Refusal.TheVariants.{WrongSize, NotABase, TooShort, UnequalLengths, NoSuchLoop, UnknownName, TooManyGlues, DuplicatePair, OutOfRange, NullBinds, NotAFriend, TooManyStates, RankTooHigh, BadDeck, AmbientOut, PotentialOut, BareScaffold, WeightOut, NotARing, TwoStars, NotAJob, NoneUnder}
-use Rattle.reply.specs.declared.Place.{Place}
-use Rattle.reply.specs.declared.Place.TheVariants.{Nowhere}
-use Rattle.reply.specs.declared.Reply.{Reply}
-use Rattle.reply.specs.declared.Reply.TheVariants.{Admitted, Refused}
 
 -- the refusal with a given number, whatever stands at 15
 refusal_of : ℕ → Refusal
@@ -55,13 +52,13 @@ pub same_number : {r q : Refusal} → number_of r ≡ number_of q → r ≡ q
 same_number {r} {q} e = sym (numbered r) ∙ ap refusal_of e ∙ numbered q
 
 -- the check behind a refusal: its condition holds
-abbrev applied : Refusal → Place → Check
+abbrev applied : Refusal → Option ℕ → Check
 applied refusal place = record { refusal = refusal; holds = true; place = place }
 
 -- the same of a reply
 abbrev applied-reply : Reply → Check
-applied-reply Admitted = applied WrongSize Nowhere
-applied-reply (Refused refusal place) = applied refusal place
+applied-reply (Ok u) = applied WrongSize None
+applied-reply (Err e) = applied e.refusal e.place
 
 both : (a b : Bool) → T (a && b) → T a × T b
 both true b t = (tt, t)
@@ -88,7 +85,7 @@ head-least c (d ∷ cs) t r m = here (λ n. head-least d cs s.1 r (m.0, n)) (Mem
     here below (inr n) = le_trans (leb→le _ _ s.0) (below n)
 
 -- a check whose condition fails applies to nothing
-pass : {o f : Refusal} {p : Place} {cs : List Check} → Applies o (record { refusal = f; holds = false; place = p } ∷ cs) → Applies o cs
+pass : {o f : Refusal} {p : Option ℕ} {cs : List Check} → Applies o (record { refusal = f; holds = false; place = p } ∷ cs) → Applies o cs
 pass {o} {f} {p} {cs} m = (m.0, rest (Memᴰ.cases_cons m.1))
   where
     rest : (applied o m.0 ≡ record { refusal = f; holds = false; place = p }) ⊎ AppliesAt o m.0 cs → AppliesAt o m.0 cs
@@ -99,7 +96,7 @@ later : {o : Refusal} {c : Check} {cs : List Check} → Applies o cs → Applies
 later m = (m.0, Memᴰ.tail m.1)
 
 step :
-    (f : Refusal) (h : Bool) (p : Place) (cs : List Check)
+    (f : Refusal) (h : Bool) (p : Option ℕ) (cs : List Check)
     → T (sorted (record { refusal = f; holds = h; place = p } ∷ cs))
     → LowestGiven cs (first_of cs)
     → LowestGiven (record { refusal = f; holds = h; place = p } ∷ cs) (first_of (record { refusal = f; holds = h; place = p } ∷ cs))
@@ -111,7 +108,7 @@ step f true p cs t below =
       none = λ e. absurd (let z : ◌≡◌ {A = ℕ} 0 1 = cc in omega arith);
     }
   where
-    told : (r : Refusal) (q : Place) → Refused f p ≡ Refused r q → applied f p ≡ applied r q
+    told : (r : Refusal) (q : Option ℕ) → ◌≡◌ {A = Reply} (refuses f p) (refuses r q) → applied f p ≡ applied r q
     told r q e = ap applied-reply e
 step f false p cs t below =
     record {

@@ -1,9 +1,8 @@
 -- The table of replies of documents 01 and 02: the number of each refusal, and 0 for an answer.
-use Rattle.std.specs.Prelude.{ℕ}
+use Rattle.std.specs.Prelude.{ℕ, Result, Ok, Err}
 use Rattle.reply.specs.declared.Refusal.{Refusal}
 use Rattle.reply.specs.declared.Refusal.TheVariants.{WrongSize, NotABase, TooShort, UnequalLengths, NoSuchLoop, UnknownName, TooManyGlues, DuplicatePair, OutOfRange, NullBinds, NotAFriend, TooManyStates, RankTooHigh, BadDeck, AmbientOut, PotentialOut, BareScaffold, WeightOut, NotARing, TwoStars, NotAJob, NoneUnder}
-use Rattle.reply.specs.declared.Reply.{Reply}
-use Rattle.reply.specs.declared.Reply.TheVariants.{Admitted, Refused}
+use Rattle.reply.specs.declared.Refused.{Refused}
 
 -- the number of a refusal; 1 to 14 are document 01's, higher ones document 02's; src/lib.rt has its trade word beside each
 abbrev pub number_of : Refusal → ℕ
@@ -34,7 +33,11 @@ number_of NoneUnder = 23
 abbrev pub answered : ℕ
 answered = 0
 
+-- what a call's checks reply: they pass, or one refuses
+abbrev pub Reply : Type 0
+Reply = Result Unit Refused
+
 -- the number of a reply
 abbrev pub reply_number : Reply → ℕ
-reply_number Admitted = answered
-reply_number (Refused refusal place) = number_of refusal
+reply_number (Ok u) = answered
+reply_number (Err e) = number_of e.refusal

@@ -1,12 +1,11 @@
 -- The table of replies as numerals, under the trade words, to be held line by line against document 01's table (to 14) and document 02's (from 15).
-use Rattle.std.specs.Prelude.{◌≡◌}
+use Rattle.std.specs.Prelude.{◌≡◌, Ok}
 use Rattle.reply.specs.Number.{number_of, reply_number}
 use Rattle.reply.specs.declared.Refusal.TheVariants.{WrongSize, NotABase, TooShort, UnequalLengths, NoSuchLoop, UnknownName, TooManyGlues, DuplicatePair, OutOfRange, NullBinds, NotAFriend, TooManyStates, RankTooHigh, BadDeck, AmbientOut, PotentialOut, BareScaffold, WeightOut, NotARing, TwoStars, NotAJob, NoneUnder}
-use Rattle.reply.specs.declared.Reply.TheVariants.{Admitted}
 
 -- the numbers that the definitions give are the table's; proofs/Table.antt shows it
 pub record ReplyTable : Type 0 where
-  pub answered : reply_number Admitted ≡ 0
+  pub answered : reply_number (Ok tt) ≡ 0
   pub size : number_of WrongSize ≡ 1
   pub base : number_of NotABase ≡ 2
   pub short : number_of TooShort ≡ 3

@@ -4,11 +4,14 @@
 pub mod limits;
 
 ghost use Rattle.std.specs.Prelude.{◌≡◌, [], ◌∷◌};
-ghost use Rattle.reply.specs.Number.{number_of, reply_number};
-ghost use Rattle.reply.specs.First.{first_of, ◌if◌, ◌if◌at◌, ◌or_else◌};
+ghost use Rattle.reply.specs.Number.{number_of};
+ghost use Rattle.reply.specs.First.{nowhere, bare, first_of, ◌if◌, ◌if◌at◌};
+
+// The number of a call that is answered.
+pub const ANSWERED: u32 = 0;
 
 // Each with its trade word.
-#[derive(Clone, Copy)]
+#[derive(Clone, Copy, PartialEq, Eq, Debug)]
 pub enum Refusal {
     // size: a count, a length, a number or a glue outside its limits
     WrongSize,
@@ -56,18 +59,23 @@ pub enum Refusal {
     NoneUnder,
 }
 
-// Where a refusal lies, for those that say so.
-#[derive(Clone, Copy)]
-pub enum Place {
-    Nowhere,
-    At(usize),
+// A refusal, and where the fault lies for those that say so.
+#[derive(Clone, Copy, PartialEq, Eq, Debug)]
+pub struct Refused {
+    pub refusal: Refusal,
+    pub place: Option<usize>,
 }
 
-// What a call replies: its checks pass, or it refuses, and where the fault lies if the refusal says so.
-#[derive(Clone, Copy)]
-pub enum Reply {
-    Admitted,
-    Refused(Refusal, Place),
+// A refusal that says no place.
+impl From<Refusal> for Refused {
+    ghost from_gives = { λ refusal refused. refused ≡ nowhere refusal };
+
+    fn from(refusal: Refusal) -> Refused {
+        Refused {
+            refusal,
+            place: None,
+        }
+    }
 }
 
 impl Refusal {
@@ -102,44 +110,25 @@ impl Refusal {
     }
 }
 
-impl Reply {
-    // Its number, 0 where the call is answered.
-    pub fn number(self) -> u32
-        ensures { result ≡ reply_number self }
-    {
-        match self {
-            Reply::Admitted => 0,
-            Reply::Refused(refusal, _) => refusal.number(),
-        }
-    }
-
-    // This refusal, or else what the next check replies.
-    pub fn or(self, next: Reply) -> Reply
-        ensures { result ≡ self or_else next }
-    {
-        match self {
-            Reply::Admitted => next,
-            Reply::Refused(refusal, place) => Reply::Refused(refusal, place),
-        }
-    }
-}
-
 // A refusal where its condition holds, with no place.
-pub fn refused_if(refusal: Refusal, holds: bool) -> Reply
-    ensures { result ≡ first_of (refusal if holds ∷ []) }
+pub fn refused_if(refusal: Refusal, holds: bool) -> Result<(), Refusal>
+    ensures { result ≡ bare (first_of (refusal if holds ∷ [])) }
 {
     if holds {
-        return Reply::Refused(refusal, Place::Nowhere);
+        return Err(refusal);
     }
-    Reply::Admitted
+    Ok(())
 }
 
 // A refusal where its condition holds, and its place.
-pub fn refused_at(refusal: Refusal, holds: bool, place: usize) -> Reply
+pub fn refused_at(refusal: Refusal, holds: bool, place: usize) -> Result<(), Refused>
     ensures { result ≡ first_of (refusal if holds at place ∷ []) }
 {
     if holds {
-        return Reply::Refused(refusal, Place::At(place));
+        return Err(Refused {
+            refusal,
+            place: Some(place),
+        });
     }
-    Reply::Admitted
+    Ok(())
 }

@@ -8,8 +8,7 @@ use lib.Dec.{eqb}
 use lib.ListN.{length}
 use borrow.Author.Tests.{eq-eqb}
 use Rattle.doubles.specs.Decimal.{zero}
-use Rattle.reply.specs.First.{first_of}
-use Rattle.reply.specs.declared.Reply.TheVariants as Reply
+use Rattle.reply.specs.First.{first_of, refuses}
 use Rattle.reply.proofs.First.{none-holds}
 use Rattle.reply.proofs.Figures.{number-admitted}
 use Rattle.model.specs.Model.{State}
@@ -22,6 +21,7 @@ use Rattle.design.proofs.Replies.{passed, own-decide}
 use Rattle.ring.specs.Answers.{least_ring, own_ring_checks, ring_energy_checks, ring_energy_answer, ring_search_checks, ring_search_answer, ring_search_entries}
 use Rattle.ring.specs.Answered.{RingEnergyAnswered, RingSearchAnswers}
 use Rattle.ring.proofs.Replies.{Ring, ring-passed, ring-passes}
+use Rattle.std.specs.Prelude.{Ok}
 use Rattle.ring.proofs.Shown.{as_many, lowest-of}
 
 -- ---- the search
@@ -32,7 +32,7 @@ module _ (d : Design) (entries : List ℕ) where
   number_passed e = ring-passed d entries [] (number-admitted (first_of (ring_search_checks d entries)) zero (ring_search (model_of d)).energy e)
 
   module _ (a : Admitted d) (h : least_ring ≤ positions d) (l : length entries ≡ positions d) where
-    reply : first_of (ring_search_checks d entries) ≡ Reply.Admitted
+    reply : first_of (ring_search_checks d entries) ≡ Ok tt
     reply = own-decide (not (eqb (length entries) (positions d))) d [] (own_ring_checks d) (ap not (eq-eqb _ _ l)) a refl ∙ ring-passes d h
 
     number : (ring_search_answer d entries).number ≡ 0
@@ -50,7 +50,7 @@ ring-search-answered d entries doubles = record {
 -- ---- the energy
 
 module _ (d : Design) (s : List ℕ) where
-  energy-reply : Admitted d → least_ring ≤ positions d → length s ≡ positions d → strangers d s ≡ false → first_of (ring_energy_checks d s) ≡ Reply.Admitted
+  energy-reply : Admitted d → least_ring ≤ positions d → length s ≡ positions d → strangers d s ≡ false → first_of (ring_energy_checks d s) ≡ Ok tt
   energy-reply a h l t =
       own-decide (not (eqb (length s) (positions d))) d (own_energy_checks d s) (own_ring_checks d) (ap not (eq-eqb _ _ l)) a (rw t refl) ∙ ring-passes d h
 
@@ -60,7 +60,7 @@ module _ (d : Design) (s : List ℕ) where
       rw (energy-reply w.0 w.1 l (((friends-right d).states s l).1 w.2)) refl
 
   -- a configuration that is taken is a state
-  pub state-of : first_of (ring_energy_checks d s) ≡ Reply.Admitted → State (model_of d) s
+  pub state-of : first_of (ring_energy_checks d s) ≡ Ok tt → State (model_of d) s
   state-of e =
       let own = none-holds (own_energy_checks d s) (passed (not (eqb (length s) (positions d))) d (own_energy_checks d s) (own_ring_checks d) e).own in
       ((friends-right d).states s (ring-passed d s (own_energy_checks d s) e).places).0 own.0

@@ -9,7 +9,6 @@ use lib.Dec.{eqb}
 use lib.ListN.{length}
 use borrow.Author.Tests.{eqb-true, ltb-false, le-ltb, not-false}
 use Rattle.reply.specs.First.{Check, first_of, ◌or_else◌, LowestGiven}
-use Rattle.reply.specs.declared.Reply.{Reply}
 use Rattle.reply.proofs.First.{none-holds, joined}
 use Rattle.reply.proofs.Lowest.{lowest-given}
 use Rattle.design.specs.Design.{Design, positions}
@@ -18,6 +17,8 @@ use Rattle.design.specs.Places.{PlacesRight}
 use Rattle.design.proofs.Sizes.{sized}
 use Rattle.design.proofs.Replies.{passed}
 use Rattle.design.proofs.Places.{Placeless, places-right}
+use Rattle.std.specs.Prelude.{Ok}
+use Rattle.reply.specs.Number.{Reply}
 use Rattle.ring.specs.Answers.{least_ring, own_ring_checks, ring_energy_checks, ring_search_checks}
 
 -- ---- put together
@@ -40,7 +41,7 @@ pub record Ring (d : Design) (s : List ℕ) : Type 0 where
   pub short : length s ≤ 128
 
 module _ (d : Design) (s : List ℕ) (between : List Check) where
-  pub ring-passed : first_of (design_checks (not (eqb (length s) (positions d))) d between (own_ring_checks d)) ≡ Reply.Admitted → Ring d s
+  pub ring-passed : first_of (design_checks (not (eqb (length s) (positions d))) d between (own_ring_checks d)) ≡ Ok tt → Ring d s
   ring-passed e =
       let p = passed (not (eqb (length s) (positions d))) d between (own_ring_checks d) e in
       let same : length s ≡ positions d = eqb-true _ _ (not-false _ p.size) in
@@ -48,7 +49,7 @@ module _ (d : Design) (s : List ℕ) (between : List Check) where
       record { design = p.design; ring = ltb-false _ _ (none-holds (own_ring_checks d) p.last).0; places = same; short = omega arith }
 
 -- a ring is not refused for its size
-pub ring-passes : (d : Design) → least_ring ≤ positions d → first_of (own_ring_checks d) ≡ Reply.Admitted
+pub ring-passes : (d : Design) → least_ring ≤ positions d → first_of (own_ring_checks d) ≡ Ok tt
 ring-passes d h = rw (le-ltb (positions d) least_ring h) refl
 
 -- ---- document 01's rule

@@ -1,5 +1,5 @@
 -- What the calls on rings answer of a design and of what is lent: document 02's number and figure, and what stands in the entries afterwards.
-use Rattle.std.specs.Prelude.{◌≡◌, not, List, [], ◌∷◌, ℕ, ◌≤◌, eqb, ltb, length, Float}
+use Rattle.std.specs.Prelude.{◌≡◌, not, List, [], ◌∷◌, ℕ, ◌≤◌, eqb, ltb, length, Float, Result}
 use Rattle.doubles.specs.Decimal.{zero}
 use Rattle.reply.specs.First.{Check, first_of, ◌if◌}
 use Rattle.reply.specs.Figures.{Figures, figures_of, entries_of}
@@ -8,7 +8,8 @@ use Rattle.model.specs.Ring.{ring_energy, ring_search, LowestRing}
 use Rattle.design.specs.Design.{Design, positions, model_of}
 use Rattle.design.specs.Checks.{Admitted, design_checks, own_energy_checks}
 use Rattle.design.specs.Answers.{energy_figures}
-use Rattle.design.specs.declared.answers.EnergyAnswer.{EnergyAnswer}
+use Rattle.reply.specs.declared.Refused.{Refused}
+use Rattle.units.specs.declared.KcalPerMol.{KcalPerMol}
 
 -- ---- checks
 
@@ -43,6 +44,6 @@ abbrev pub ring_search_entries : Design → List ℕ → List ℕ
 ring_search_entries d entries = entries_of (first_of (ring_search_checks d entries)) entries (ring_search (model_of d)).configuration
 
 -- Demand 3 of rings: of every admitted design that is one, with an entry lent for each position, the lowest ring is written and its energy answered.
-abbrev pub LowestRingShown : Design → List ℕ → List ℕ → EnergyAnswer → Type 0
+abbrev pub LowestRingShown : Design → List ℕ → List ℕ → Result KcalPerMol Refused → Type 0
 LowestRingShown d entries written r =
     Admitted d → least_ring ≤ positions d → length entries ≡ positions d → LowestRing (model_of d) written (energy_figures r).figure

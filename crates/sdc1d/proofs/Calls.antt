@@ -11,12 +11,13 @@ use borrow.Author.Tests.{lt-ltb, le-ltb, ltb-false, leb-false, eqb-true, not-fal
 use Rattle.lists.proofs.Build.{length-tabulate}
 use Rattle.reply.specs.First.{first_of, ◌if◌}
 use Rattle.reply.specs.declared.Refusal.TheVariants.{TooManyStates, RankTooHigh}
-use Rattle.reply.specs.declared.Reply.{Reply}
 use Rattle.reply.proofs.First.{none-holds}
 use Rattle.ensemble.specs.Layout.{OptionRows}
 use Rattle.design.specs.Design.{Design, positions, friends_of, model_of}
 use Rattle.design.specs.Checks.{design_checks, own_energy_checks, energy_checks}
 use Rattle.design.proofs.Sizes.{sized}
+use Rattle.std.specs.Prelude.{Ok}
+use Rattle.reply.specs.Number.{Reply}
 use Rattle.design.proofs.Replies.{passed}
 
 -- the reply as its list has it, where the code's test of a size is the list's
@@ -24,7 +25,7 @@ pub replied : (d : Design) {a b : Bool} {r s : Reply} → r ≡ first_of (design
 replied d e f g = ap (λ (t : Bool). first_of (design_checks t d [] [])) (sym f) ∙ sym e ∙ g
 
 -- a configuration that a call takes has at most 128 places
-pub few-places : (d : Design) (s : List ℕ) → first_of (energy_checks d s) ≡ Reply.Admitted → length s ≤ 128
+pub few-places : (d : Design) (s : List ℕ) → first_of (energy_checks d s) ≡ Ok tt → length s ≤ 128
 few-places d s e =
     let p = passed (not (eqb (length s) (positions d))) d (own_energy_checks d s) [] e in
     let same : length s ≡ positions d = eqb-true _ _ (not-false _ p.size) in
@@ -63,5 +64,5 @@ module _ (n : ℕ) {r : ℕ} (held : r ≡ min n 1048577) where
       go (no h) = let same : r ≡ n = omega arith in ap (λ (k : ℕ). first_of (TooManyStates if ltb 1048576 k ∷ RankTooHigh if leb k rank ∷ [])) same
 
 -- a count that passes both is that of the states, and the rank is below it
-pub ranked : (n rank : ℕ) → first_of (TooManyStates if ltb 1048576 n ∷ RankTooHigh if leb n rank ∷ []) ≡ Reply.Admitted → (n ≤ 1048576) × (rank < n)
+pub ranked : (n rank : ℕ) → first_of (TooManyStates if ltb 1048576 n ∷ RankTooHigh if leb n rank ∷ []) ≡ Ok tt → (n ≤ 1048576) × (rank < n)
 ranked n rank e = let none = none-holds (TooManyStates if ltb 1048576 n ∷ RankTooHigh if leb n rank ∷ []) e in (ltb-false _ _ none.0, leb-false _ _ none.1.0)

@@ -22,10 +22,9 @@ use Rattle.sdc_common.proofs.Fit.{glue_at, glues-listed}
 use Rattle.sdc_common.proofs.Spelled.{bases-bare}
 use Rattle.sdc_common.proofs.Looked.{unknown-spelled, spelled-number, number-at-most, glue-at-most}
 use Rattle.sdc1d_params.specs.Entries.{cell, cell_of}
-use Rattle.sdc1d_params.specs.inner.Cells.{base_at, ref_or_pair, cell_of_names, first_of}
+use Rattle.sdc1d_params.specs.inner.Cells.{base_at, one_cell, first_of}
 use Rattle.sdc1d_params.specs.declared.Entry.{Entry}
 use Rattle.sdc1d_params.specs.inner.Scaffold.{unknown_by, unknown_at}
-use Rattle.sdc1d_params.specs.declared.cells.RefOrPair.TheVariants.{Ref, Pair}
 
 -- two tests that agree at each place
 pub any_same : {A B : Type 0} (p : A → Bool) (q : B → Bool) (n : ℕ) (f : ℕ → A) (g : ℕ → B) → ((k : ℕ) → k < n → p (f k) ≡ q (g k)) → any p (tabulate n f) ≡ any q (tabulate n g)
@@ -93,22 +92,22 @@ one_known n place stars h =
     rw none (ap₂ cell first second)
 
 -- one name: base and base*
-one_cell : (bases : List Name) (base : Name) (stars n : ℕ) → n ≡ base_number bases base stars → cell_of_names (Ref n) ≡ cell (base_number bases base 0) (base_number bases base 1)
+alone : (bases : List Name) (base : Name) (stars n : ℕ) → n ≡ base_number bases base stars → one_cell n ≡ cell (base_number bases base 0) (base_number bases base 1)
 unfolding base_number
-one_cell bases base stars n e = go (is_known bases base) e
+alone bases base stars n e = go (is_known bases base) e
   where
-    go : (t : Bool) → n ≡ cond t (number_at (first_index (same_name base) bases) stars) 0 → cell_of_names (Ref n) ≡ cell (cond t (number_at (first_index (same_name base) bases) 0) 0) (cond t (number_at (first_index (same_name base) bases) 1) 0)
+    go : (t : Bool) → n ≡ cond t (number_at (first_index (same_name base) bases) stars) 0 → one_cell n ≡ cell (cond t (number_at (first_index (same_name base) bases) 0) 0) (cond t (number_at (first_index (same_name base) bases) 1) 0)
     go true h = one_known n (first_index (same_name base) bases) stars h
     go false h = rw h
 
-module _ (bases : List Name) (first : Name) (text : List ℕ) (second : LentName) (n m : ℕ) where
-  pub cell-found : n ≡ name_number bases first → m ≡ glue_number bases (glue_of text second) → cell_of_names (ref_or_pair second.mark n m) ≡ cell_of bases first (glue_of text second)
-  unfolding glue_of cell_of glue_number
-  cell-found e f = go (eqb second.mark 0) f
-    where
-      go : (t : Bool) → m ≡ glue_number bases (cond t none (some (part_of text second.start second.size))) → cell_of_names (cond t (Ref n) (Pair n m)) ≡ cell_of bases first (cond t none (some (part_of text second.start second.size)))
-      go true g = one_cell bases (base_of first) (stars_of first) n e
-      go false g = ap₂ cell e g
+module _ (bases : List Name) (first : Name) (n : ℕ) (e : n ≡ name_number bases first) where
+  pub one-found : one_cell n ≡ cell_of bases first none
+  unfolding cell_of
+  one-found = alone bases (base_of first) (stars_of first) n e
+
+  pub pair-found : (second : Name) (m : ℕ) → m ≡ glue_number bases (some second) → cell n m ≡ cell_of bases first (some second)
+  unfolding cell_of glue_number
+  pair-found second m f = ap₂ cell e f
 
 -- the number of an entry's first name, which is always there
 pub first-number : (bases : List Name) (text : List ℕ) (e : Entry) → glue_number bases (glue_of text (first_of e)) ≡ name_number bases (part_of text e.first_start e.first_size)

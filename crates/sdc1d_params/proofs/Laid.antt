@@ -16,20 +16,6 @@ use Rattle.sdc1d_params.specs.declared.Copied.{Copied}
 use Rattle.sdc1d_params.specs.declared.Copied.TheVariants.{Nothing, Strand}
 use Rattle.sdc1d_params.proofs.Lengths.{copied-fits}
 
--- three stores fill three places
-pub three-set : (xs : List ℕ) (west bottom east : ℕ) → length xs ≡ 3 → set (set (set xs 0 west) 1 bottom) 2 east ≡ west ∷ bottom ∷ east ∷ []
-three-set [] west bottom east h = absurd (omega arith)
-three-set (x ∷ []) west bottom east h = absurd (omega arith)
-three-set (x ∷ y ∷ []) west bottom east h = absurd (omega arith)
-three-set (x ∷ y ∷ z ∷ []) west bottom east h = refl
-three-set (x ∷ y ∷ z ∷ w ∷ xs) west bottom east h = absurd (omega arith)
-
--- strand k has its glues from 3 k on, strand 0 the first three
-pub side-at : (glues : List ℕ) (k side at : ℕ) → 1 ≤ k → at ≡ 3 * k + side → get_or glues at 0 ≡ glue_of_strand (drop 3 glues) k side
-side-at glues k side at h e =
-    let same : at ≡ 3 + (3 * (k - 1) + side) = omega arith in
-    ap (λ (n : ℕ). get_or glues n 0) same ∙ sym (get_or-drop 3 glues (3 * (k - 1) + side) 0)
-
 -- a part that is lent behind what stands already
 pub laid : (before part rest : List ℕ) (a k : ℕ) → length before ≡ a → take a (before ++ rest) ++ (part ++ drop k (drop a (before ++ rest))) ≡ (before ++ part) ++ drop k rest
 laid before part rest a k h = rw (take_at before rest a h, drop_at before rest a h) (sym (append_assoc before part (drop k rest)))

@@ -1,10 +1,8 @@
 pub mod Sequences
 pub mod Pairs
 pub mod Marked
-pub mod Small
 pub mod Writes
 pub mod Lengths
-pub mod Named
 pub mod Laid
 pub mod Found
 pub mod Stars

@@ -13,8 +13,9 @@ use Rattle.lists.specs.Find.{any}
 use Rattle.lists.specs.Fold.{foldl}
 use Rattle.lists.specs.Each.{Each}
 use Rattle.lists.specs.Build.{tabulate}
+use Rattle.lists.proofs.Places.{tabulate-get_or}
 use Rattle.lists.proofs.Each.{each-tabulate}
-use Rattle.sdc1d_params.specs.Entries.{Cell, is_written, same_pair}
+use Rattle.sdc1d_params.specs.Entries.{Cell, cell, is_written, same_pair}
 use Rattle.sdc1d_params.specs.Tables.{place_of}
 use Rattle.sdc1d_params.specs.inner.Cells.{mark_both, is_marked}
 
@@ -122,3 +123,10 @@ module _ (f : ℕ → Cell) where
   marked-is i h l =
       fold-marked (replicate 4096 false) (tabulate i f) (f i) (length-replicate 4096 false) l (each-tabulate Inside i f h)
       ∙ ap (λ (b : Bool). b || any (same_pair (f i)) (tabulate i f)) (none-marked 4096 (f i))
+
+-- the cells of a list, by their places
+abbrev pub nth : List Cell → ℕ → Cell
+nth cells k = get_or cells k (cell 0 0)
+
+pub listed : (cells : List Cell) → cells ≡ tabulate (length cells) (nth cells)
+listed cells = sym (tabulate-get_or (cell 0 0) (length cells) cells refl)

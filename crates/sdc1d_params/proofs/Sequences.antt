@@ -10,13 +10,11 @@ use borrow.Author.Tests.{ltb-false, le-ltb, eq-eqb}
 use Rattle.lists.specs.Find.{any}
 use Rattle.lists.proofs.Tests.{neither}
 use Rattle.reply.specs.Number.{number_of}
-use Rattle.reply.specs.First.{first_of, refused_if}
+use Rattle.reply.specs.First.{first_of, refused_if, nowhere}
 use Rattle.reply.proofs.Answer.{is-admitted, is-refused}
 use Rattle.reply.specs.declared.Refusal.{Refusal}
+use Rattle.reply.specs.declared.Refused.{Refused}
 use Rattle.reply.specs.declared.Refusal.TheVariants.{NotABase, TooShort}
-use Rattle.reply.specs.declared.Place.{Place}
-use Rattle.reply.specs.declared.Place.TheVariants.{Nowhere}
-use Rattle.reply.specs.declared.Reply.TheVariants.{Admitted, Refused}
 use Rattle.utils.specs.Answers.{DgDsFigures, given_dg_ds, refused_dg_ds}
 use Rattle.utils.specs.Bases.{not_a_base}
 use Rattle.utils.specs.Single.{too_long, too_short, sequence_checks, string_dna_dg_ds}
@@ -24,6 +22,7 @@ use Rattle.sdc_common.specs.Lent.{part_of, leaves}
 use Rattle.sdc_common.proofs.Held.{part_length}
 use Rattle.sdc1d_params.specs.Entries.{unfit_energy}
 use Rattle.sdc1d_params.specs.declared.entries.GsOrSeq.TheVariants.{Sequence}
+use Rattle.std.specs.Prelude.{None, Ok, Err}
 use lib.Ieee.{Float}
 
 module _ (text : List ℕ) (start size : ℕ) (fit : unfit_energy text (Sequence start size) ≡ false) where
@@ -41,14 +40,14 @@ module _ (text : List ℕ) (start size : ℕ) (fit : unfit_energy text (Sequence
   not-long = halves.1
 
 -- what a part of the text is where it leaves it not
-pub long-as-lent : (text : List ℕ) (start size : ℕ) → start + size ≤ length text → ltb 256 size ≡ (leaves text start size || too_long (part_of text start size))
-long-as-lent text start size h = rw (le-ltb (length text) (start + size) h, part_length text start size h)
+pub long-as-lent : (text : List ℕ) (start size : ℕ) → leaves text start size ≡ false → ltb 256 size ≡ (leaves text start size || too_long (part_of text start size))
+long-as-lent text start size e = let h : start + size ≤ length text = ltb-false (length text) (start + size) e in rw (le-ltb (length text) (start + size) h, part_length text start size h)
 
 figures-numbered : (n : ℕ) → (refused_dg_ds n).number ≡ n
 figures-numbered n = refl
 
 module _ (s : List ℕ) (fine : too_long s ≡ false) where
-  given-step : (b t : Bool) → refused_if b NotABase Nowhere (refused_if t TooShort Nowhere Admitted) ≡ Admitted → b ≡ false
+  given-step : (b t : Bool) → refused_if b NotABase None (refused_if t TooShort None (Ok tt)) ≡ Ok tt → b ≡ false
   given-step true t e = absurd (let z : ◌≡◌ {A = ℕ} 0 1 = cc in omega arith)
   given-step false t e = refl
 
@@ -59,14 +58,15 @@ module _ (s : List ℕ) (fine : too_long s ≡ false) where
       let a = is-admitted (λ (f : DgDsFigures). f.number) refused_dg_ds figures-numbered _ (first_of (sequence_checks s)) (given_dg_ds dg ds) refl e in
       given-step (any not_a_base s) (too_short s) (sym (rw fine) ∙ a.0)
 
-  refused-step : (b : Bool) (r : Refusal) {place : Place} (t : Bool) → refused_if b NotABase Nowhere (refused_if t TooShort Nowhere Admitted) ≡ Refused r place → eqb (number_of r) (number_of NotABase) ≡ b
-  refused-step true r t e = let same : NotABase ≡ r = cc in eq-eqb _ _ (ap number_of (sym same))
-  refused-step false r true e = let same : TooShort ≡ r = cc in rw (← same)
-  refused-step false r false e = absurd (let z : ◌≡◌ {A = ℕ} 0 1 = cc in omega arith)
+  module _ (test : Refusal → Bool) (bad : test NotABase ≡ true) (short : test TooShort ≡ false) where
+    refused-step : (b : Bool) (r : Refused) (t : Bool) → refused_if b NotABase None (refused_if t TooShort None (Ok tt)) ≡ Err r → test r.refusal ≡ b
+    refused-step true r t e = let same : nowhere NotABase ≡ r = cc in rw (← same) bad
+    refused-step false r true e = let same : nowhere TooShort ≡ r = cc in rw (← same) short
+    refused-step false r false e = absurd (let z : ◌≡◌ {A = ℕ} 0 1 = cc in omega arith)
 
-  -- a refusal is that of a bad base exactly where there is one
-  pub refused-bad : (r : Refusal) → refused_dg_ds (number_of r) ≡ string_dna_dg_ds s → eqb (number_of r) (number_of NotABase) ≡ any not_a_base s
-  unfolding string_dna_dg_ds
-  refused-bad r e =
-      let reply = is-refused (λ (f : DgDsFigures). f.number) refused_dg_ds figures-numbered _ (first_of (sequence_checks s)) r refl e in
-      refused-step (any not_a_base s) r (too_short s) (sym (rw fine) ∙ reply.1)
+    -- a refusal is that of a bad base exactly where there is one, by any test that tells it from that of a short sequence
+    pub refused-bad : (r : Refusal) → refused_dg_ds (number_of r) ≡ string_dna_dg_ds s → test r ≡ any not_a_base s
+    unfolding string_dna_dg_ds
+    refused-bad r e =
+        let reply = is-refused (λ (f : DgDsFigures). f.number) refused_dg_ds figures-numbered _ (first_of (sequence_checks s)) r refl e in
+        ap test (sym reply.1.1) ∙ refused-step (any not_a_base s) reply.0 (too_short s) (sym (rw fine) ∙ reply.1.0)

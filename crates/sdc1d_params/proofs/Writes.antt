@@ -10,11 +10,6 @@ use Rattle.sdc1d_params.specs.Entries.{Cell, is_written, entry_dg, entry_ds}
 use Rattle.sdc1d_params.specs.Tables.{write_of, set_both, place_of}
 use Rattle.sdc1d_params.specs.declared.entries.GsOrSeq.{GsOrSeq}
 
-pub tabulate-same-value : {A : Type 0} (n : ℕ) (v : A) → tabulate n (λ k. v) ≡ replicate n v
-unfolding tabulate
-tabulate-same-value zero v = refl
-tabulate-same-value (suc n) v = ap (v ∷◌) (tabulate-same-value n v)
-
 -- a write from its two sums
 pub same_write :
     (text : List ℕ) (pdg pds : Float) (c : Cell) {entry other : GsOrSeq} {dg ds : Float}
@@ -24,11 +19,3 @@ pub same_write :
     → record { at = c; dg = dg; ds = ds } ≡ write_of text pdg pds c other
 unfolding write_of
 same_write text pdg pds c same d s = rw (d, s, same)
-
-pub set-length : (c : Cell) (v : Float) (table : List Float) → length (set_both c v table) ≡ length table
-unfolding set_both
-set-length c v table = go (is_written c)
-  where
-    go : (t : Bool) → length (cond t (set (set table (place_of c.row c.column) v) (place_of c.column c.row) v) table) ≡ length table
-    go true = simp length-set
-    go false = refl

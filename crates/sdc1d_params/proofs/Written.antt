@@ -14,31 +14,28 @@ use Rattle.lists.specs.Find.{any}
 use Rattle.lists.specs.Fold.{foldl}
 use Rattle.lists.specs.Build.{tabulate}
 use Rattle.lists.proofs.Tests.{neither}
-use Rattle.reply.specs.Number.{number_of, answered}
-use Rattle.reply.specs.First.{first_of, refused_if, answer}
+use Rattle.reply.specs.Number.{number_of, answered, Reply}
+use Rattle.reply.specs.First.{first_of, refused_if, answer, refuses}
 use Rattle.reply.specs.declared.Refusal.{Refusal}
 use Rattle.reply.specs.declared.Refusal.TheVariants.{WrongSize, NotABase, TooShort, UnknownName, TooManyGlues, DuplicatePair, OutOfRange}
-use Rattle.reply.specs.declared.Place.{Place}
-use Rattle.reply.specs.declared.Place.TheVariants.{Nowhere}
-use Rattle.reply.specs.declared.Reply.{Reply}
-use Rattle.reply.specs.declared.Reply.TheVariants.{Admitted, Refused}
 use Rattle.sdc_common.specs.Lent.{glue_of, glues_of}
 use Rattle.sdc_common.specs.Numbers.{numbers_among}
 use Rattle.sdc_common.specs.Spelled.{is_unknown, spelled_number}
 use Rattle.sdc_common.specs.Calls.{unfit_strands, too_many_bases}
 use Rattle.sdc_common.proofs.Fit.{as_many}
-use Rattle.sdc1d_params.specs.Entries.{entry_at, entry_rows, unfit_entry, unfit_entries, has_bad_base, is_short}
+use Rattle.sdc1d_params.specs.Entries.{Cell, entry_at, entry_rows, unfit_entry, unfit_entries, has_bad_base, is_short}
 use Rattle.sdc1d_params.specs.Tables.{Write, cells_of, duplicated, out_of_range, write_dg, write_ds, empty_table, dg_table, ds_table}
 use Rattle.sdc1d_params.specs.inner.Cells.{write_at}
 use Rattle.sdc1d_params.specs.Params.{Params, Outcome, outcome_of, energies_of, strand_names, bases, writes_of, unfit_copied, unfit_lent, unfit_scaffold, wrong_size, param_checks, build_checks, with_copies, strand_glues_of, from_params}
 use Rattle.sdc1d_params.specs.inner.Checked.{Checked}
 use Rattle.sdc1d_params.specs.declared.Build.{Build}
 use Rattle.sdc1d_params.proofs.Lengths.{Sized, sized}
+use Rattle.std.specs.Prelude.{Option, None, Ok}
 use Rattle.sdc1d_params.proofs.Passed.{never, reply-size, build-refused, build-passes, written}
 
 conditions-step :
     (a b c d e f g : Bool)
-    → refused_if a WrongSize Nowhere (refused_if b NotABase Nowhere (refused_if c TooShort Nowhere (refused_if d UnknownName Nowhere (refused_if e TooManyGlues Nowhere (refused_if f DuplicatePair Nowhere (refused_if g OutOfRange Nowhere Admitted)))))) ≡ Admitted
+    → refused_if a WrongSize None (refused_if b NotABase None (refused_if c TooShort None (refused_if d UnknownName None (refused_if e TooManyGlues None (refused_if f DuplicatePair None (refused_if g OutOfRange None (Ok tt))))))) ≡ Ok tt
     → (a ≡ false) × (e ≡ false)
 conditions-step true b c d e f g h = never WrongSize h
 conditions-step false true c d e f g h = never NotABase h
@@ -49,25 +46,25 @@ conditions-step false false false false false f g h = (refl, refl)
 
 module _ (p : Params) (lent : Outcome) where
   -- a refusal leaves what was lent
-  pub kept : (build : Build) (why : Refusal) {place : Place} → first_of (build_checks build p lent) ≡ Refused why place → outcome_of (number_of why) lent.strand_glues lent.scaffold_glues lent.dg lent.ds ≡ from_params build p lent
+  pub kept : (build : Build) (why : Refusal) {place : Option ℕ} → first_of (build_checks build p lent) ≡ refuses why place → outcome_of (number_of why) lent.strand_glues lent.scaffold_glues lent.dg lent.ds ≡ from_params build p lent
   unfolding from_params
   kept build why e = ap (λ (r : Reply). answer r (λ n. outcome_of n lent.strand_glues lent.scaffold_glues lent.dg lent.ds) (outcome_of answered (strand_glues_of p) (map (spelled_number (bases p)) (glues_of p.text p.scaffold)) (dg_table (writes_of p)) (ds_table (writes_of p)))) (sym e)
 
-  given : (build : Build) → first_of (build_checks build p lent) ≡ Admitted → outcome_of answered (strand_glues_of p) (map (spelled_number (bases p)) (glues_of p.text p.scaffold)) (dg_table (writes_of p)) (ds_table (writes_of p)) ≡ from_params build p lent
+  given : (build : Build) → first_of (build_checks build p lent) ≡ Ok tt → outcome_of answered (strand_glues_of p) (map (spelled_number (bases p)) (glues_of p.text p.scaffold)) (dg_table (writes_of p)) (ds_table (writes_of p)) ≡ from_params build p lent
   unfolding from_params
   given build e = ap (λ (r : Reply). answer r (λ n. outcome_of n lent.strand_glues lent.scaffold_glues lent.dg lent.ds) (outcome_of answered (strand_glues_of p) (map (spelled_number (bases p)) (glues_of p.text p.scaffold)) (dg_table (writes_of p)) (ds_table (writes_of p)))) (sym e)
 
   -- ---- what an admitted set keeps to
 
-  conditions : first_of (param_checks p lent) ≡ Admitted → (wrong_size p lent ≡ false) × (too_many_bases (strand_names p) ≡ false)
+  conditions : first_of (param_checks p lent) ≡ Ok tt → (wrong_size p lent ≡ false) × (too_many_bases (strand_names p) ≡ false)
   conditions e =
       conditions-step (wrong_size p lent) (any (has_bad_base p.text) (energies_of p)) (any (is_short p.text) (energies_of p))
       (any (is_unknown (bases p)) (glues_of p.text p.scaffold)) (too_many_bases (strand_names p)) (duplicated (cells_of (writes_of p))) (any out_of_range (writes_of p)) e
 
-  pub fits-tables : first_of (param_checks p lent) ≡ Admitted → too_many_bases (strand_names p) ≡ false
+  pub fits-tables : first_of (param_checks p lent) ≡ Ok tt → too_many_bases (strand_names p) ≡ false
   fits-tables e = (conditions e).1
 
-  pub fits-sizes : first_of (param_checks p lent) ≡ Admitted → Sized p lent
+  pub fits-sizes : first_of (param_checks p lent) ≡ Ok tt → Sized p lent
   fits-sizes e = sized p lent (conditions e).0
 
   pub fits-lengths : Sized p lent → (length lent.strand_glues ≡ 3 * (p.users + 3)) × (length lent.dg ≡ 4096) × (length lent.ds ≡ 4096)
@@ -77,24 +74,24 @@ module _ (p : Params) (lent : Outcome) where
       (eqb-true _ _ (not-false _ two.0), eqb-true _ _ (not-false _ two.1), eqb-true _ _ (not-false _ last.1))
 
   module _ (entries : List ℕ) (energies : List Float) (same : p.entries.each ≡ tabulate (entry_rows entries) (entry_at entries energies))
-      (numbers rows columns : List ℕ) (w : Checked p entries energies numbers rows columns) where
+      (numbers : List ℕ) (cells : List Cell) (w : Checked p entries energies numbers cells) where
     pub as-many-positions : Sized p lent → length lent.scaffold_glues ≡ length numbers
     unfolding glues_of
     as-many-positions fit =
         sym (ap length w.spelled ∙ length-map (glues_of p.text p.scaffold) (spelled_number (bases p)) ∙ length-map p.scaffold.each (glue_of p.text) ∙ as_many (length lent.scaffold_glues) p.text p.scaffold fit.scaffold)
 
-    writes : tabulate (entry_rows entries) (write_at p.text entries energies p.penalty_dg p.penalty_ds rows columns) ≡ writes_of p
-    writes = written p entries energies rows columns same w.cells
+    writes : tabulate (entry_rows entries) (write_at p.text entries energies p.penalty_dg p.penalty_ds cells) ≡ writes_of p
+    writes = written p entries energies cells same w.cells-at
 
     cleared : {n : ℕ} (table : List Float) → n ≡ 4096 → table ≡ replicate n doubles.zero → table ≡ empty_table
     unfolding empty_table
     cleared table l e = e ∙ ap (λ (n : ℕ). replicate n doubles.zero) l
 
-    dg-written : {n : ℕ} (table out : List Float) → n ≡ 4096 → table ≡ replicate n doubles.zero → out ≡ foldl write_dg table (tabulate (entry_rows entries) (write_at p.text entries energies p.penalty_dg p.penalty_ds rows columns)) → out ≡ dg_table (writes_of p)
+    dg-written : {n : ℕ} (table out : List Float) → n ≡ 4096 → table ≡ replicate n doubles.zero → out ≡ foldl write_dg table (tabulate (entry_rows entries) (write_at p.text entries energies p.penalty_dg p.penalty_ds cells)) → out ≡ dg_table (writes_of p)
     unfolding dg_table
     dg-written table out l e d = d ∙ ap₂ (λ (t : List Float) (ws : List Write). foldl write_dg t ws) (cleared table l e) writes
 
-    ds-written : {n : ℕ} (table out : List Float) → n ≡ 4096 → table ≡ replicate n doubles.zero → out ≡ foldl write_ds table (tabulate (entry_rows entries) (write_at p.text entries energies p.penalty_dg p.penalty_ds rows columns)) → out ≡ ds_table (writes_of p)
+    ds-written : {n : ℕ} (table out : List Float) → n ≡ 4096 → table ≡ replicate n doubles.zero → out ≡ foldl write_ds table (tabulate (entry_rows entries) (write_at p.text entries energies p.penalty_dg p.penalty_ds cells)) → out ≡ ds_table (writes_of p)
     unfolding ds_table
     ds-written table out l e d = d ∙ ap₂ (λ (t : List Float) (ws : List Write). foldl write_ds t ws) (cleared table l e) writes
 
@@ -104,22 +101,19 @@ module _ (p : Params) (lent : Outcome) where
 
     pub all-written :
         (build : Build) (strands scaffold : List ℕ) (dg0 ds0 dg ds : List Float)
-        → first_of (build_checks build p lent) ≡ Admitted
+        → first_of (build_checks build p lent) ≡ Ok tt
         → strands ≡ with_copies (numbers_among (strand_names p) (strand_names p)) p.quencher p.reporter
         → scaffold ≡ numbers
         → dg0 ≡ replicate (length lent.dg) doubles.zero
         → ds0 ≡ replicate (length lent.ds) doubles.zero
-        → dg ≡ foldl write_dg dg0 (tabulate (entry_rows entries) (write_at p.text entries energies p.penalty_dg p.penalty_ds rows columns))
-        → ds ≡ foldl write_ds ds0 (tabulate (entry_rows entries) (write_at p.text entries energies p.penalty_dg p.penalty_ds rows columns))
+        → dg ≡ foldl write_dg dg0 (tabulate (entry_rows entries) (write_at p.text entries energies p.penalty_dg p.penalty_ds cells))
+        → ds ≡ foldl write_ds ds0 (tabulate (entry_rows entries) (write_at p.text entries energies p.penalty_dg p.penalty_ds cells))
         → outcome_of answered strands scaffold dg ds ≡ from_params build p lent
     all-written build strands scaffold dg0 ds0 dg ds e a b c d f g =
         let l = fits-lengths (fits-sizes (build-passes build p lent e)) in
         ap₂ (λ (x y : List ℕ). outcome_of answered x y dg ds) (strands-written strands a) (b ∙ w.spelled)
         ∙ ap₂ (λ (x y : List Float). outcome_of answered (strand_glues_of p) (map (spelled_number (bases p)) (glues_of p.text p.scaffold)) x y) (dg-written dg0 dg l.1 c f) (ds-written ds0 ds l.2 d g)
         ∙ given build e
-
-pub cleared-length : {n : ℕ} (table : List Float) → n ≡ 4096 → table ≡ replicate n doubles.zero → length table ≡ 4096
-cleared-length {n} table l e = ap length e ∙ length-replicate n doubles.zero ∙ l
 
 -- ---- limits
 

@@ -11,6 +11,7 @@ use Rattle.sdc_common.specs.Lent.{Glue, part_of, leaves, unfit_name, unfit_glue}
 use Rattle.sdc_common.specs.Numbers.{base_number, name_number}
 use Rattle.sdc1d_params.specs.declared.Entry.{Entry}
 use Rattle.sdc1d_params.specs.declared.entries.GsOrSeq.{GsOrSeq}
+use Rattle.sdc1d_params.specs.declared.cells.Cell as lent
 use Rattle.sdc1d_params.specs.declared.entries.GsOrSeq.TheVariants.{Given, Sequence}
 
 -- ---- what an entry gives
@@ -92,10 +93,9 @@ unfit_entries text entries = entries.ragged || ltb 1024 (length entries.each) ||
 
 -- ---- where it is written
 
--- a cell of the glue tables; row or column 0 where a name is not known
-pub record Cell : Type 0 where
-  pub row : ℕ
-  pub column : ℕ
+-- a cell of the glue tables, by its row and column; 0 where a name is not known
+abbrev pub Cell : Type 0
+Cell = lent.Cell
 
 -- a cell out of its row and column
 abbrev pub cell : ℕ → ℕ → Cell

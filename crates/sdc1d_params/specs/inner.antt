@@ -2,4 +2,5 @@
 pub mod Fit
 pub mod Cells
 pub mod Scaffold
+pub mod Set
 pub mod Checked

@@ -1,68 +1,48 @@
 // The build: the checks of document 01, that of the names in an ordinary build, then the glues and the tables.
 ghost use Rattle.std.specs.Prelude.{◌≡◌, ◌≤◌, length};
-ghost use Rattle.reply.specs.Number.{reply_number};
+ghost use Rattle.sdc_common.specs.Calls.{result_number};
 ghost use Rattle.sdc1d_params.specs.Entries.{entry_rows};
-ghost use Rattle.sdc1d_params.specs.Params.{params_of, lent_of, outcome_of, from_params};
+ghost use Rattle.sdc1d_params.specs.inner.Set.{set_of};
+ghost use Rattle.sdc1d_params.specs.Params.{lent_of, outcome_of, from_params};
 
+use crate::cells::Cell;
 use crate::checks::check;
 use crate::retired::refuses_names;
 use crate::scaffold::write_scaffold;
 use crate::strands::write_strands;
-use crate::tables::{clear, fill_tables};
-use crate::{Build, Copies, Penalty};
-use reply::{Place, Refusal, Reply};
+use crate::tables::fill_tables;
+use crate::{Build, ParameterSet};
+use reply::{Refusal, refused_if};
 
-// What is written where no check holds. The last three slices have room for a number of each scaffold name, and a row and a column of each entry.
+// What is written where no check holds. The last two slices have room for a number of each scaffold name and a cell of each entry.
 pub(crate) fn build_all(
     build: Build,
-    text: &[u8],
-    users: usize,
-    strands: &[usize],
-    scaffold: &[usize],
-    entries: &[usize],
-    energies: &[f64],
-    penalty: Penalty,
-    copies: Copies,
+    set: &ParameterSet,
     strand_glues: &mut [u8],
     scaffold_glues: &mut [u8],
     dg: &mut [f64],
     ds: &mut [f64],
     numbers: &mut [usize],
-    rows: &mut [usize],
-    columns: &mut [usize],
-) -> Reply
+    cells: &mut [Cell],
+) -> Result<(), Refusal>
     requires scaffold_glues_len_bound { (length scaffold_glues.old ≤ 128) × (length numbers.old ≡ length scaffold_glues.old) }
-    requires rows_len { (length rows.old ≡ entry_rows entries.now) × (length columns.old ≡ entry_rows entries.now) }
-    ensures { outcome_of (reply_number result) strand_glues.new scaffold_glues.new dg.new ds.new ≡ from_params build (params_of text.now users strands.now scaffold.now entries.now energies.now penalty copies) (lent_of strand_glues.old scaffold_glues.old dg.old ds.old) }
+    requires cells_len { length cells.old ≡ entry_rows set.now.entries.now }
+    ensures { outcome_of (result_number result) strand_glues.new scaffold_glues.new dg.new ds.new ≡ from_params build (set_of set.now) (lent_of strand_glues.old scaffold_glues.old dg.old ds.old) }
 {
-    match check(
-        text,
-        users,
-        strands,
-        scaffold,
-        entries,
-        energies,
-        penalty,
-        copies,
-        strand_glues,
-        scaffold_glues,
+    check(set, strand_glues, scaffold_glues, dg, ds, numbers, cells)?;
+    refused_if(Refusal::TwoStars, refuses_names(build, set))?;
+    write_strands(set, strand_glues);
+    write_scaffold(numbers, scaffold_glues);
+    dg.fill(0.0);
+    ds.fill(0.0);
+    fill_tables(
+        set.text,
+        set.entries,
+        set.energies,
+        set.penalty,
+        cells,
         dg,
         ds,
-        numbers,
-        rows,
-        columns,
-    ) {
-        Reply::Refused(refusal, place) => Reply::Refused(refusal, place),
-        Reply::Admitted => {
-            if refuses_names(build, text, strands, entries, energies) {
-                return Reply::Refused(Refusal::TwoStars, Place::Nowhere);
-            }
-            write_strands(text, users, strands, copies, strand_glues);
-            write_scaffold(numbers, scaffold_glues);
-            clear(dg);
-            clear(ds);
-            fill_tables(text, entries, energies, penalty, rows, columns, dg, ds);
-            Reply::Admitted
-        }
-    }
+    );
+    Ok(())
 }

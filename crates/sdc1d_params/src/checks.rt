@@ -1,83 +1,49 @@
 // The checks of `from_params`, before anything is written.
-ghost use Rattle.std.specs.Prelude.{◌≡◌, ◌≤◌, length};
-ghost use Rattle.reply.specs.First.{first_of};
-ghost use Rattle.reply.specs.declared.Reply.TheVariants.{Admitted};
+ghost use Rattle.std.specs.Prelude.{◌≡◌, ◌≤◌, length, Ok};
+ghost use Rattle.reply.specs.First.{bare, first_of};
 ghost use Rattle.sdc1d_params.specs.Entries.{entry_rows};
-ghost use Rattle.sdc1d_params.specs.Params.{params_of, lent_of, param_checks};
+ghost use Rattle.sdc1d_params.specs.inner.Set.{set_of};
+ghost use Rattle.sdc1d_params.specs.Params.{lent_of, param_checks};
 ghost use Rattle.sdc1d_params.specs.inner.Checked.{Checked};
 
-use crate::cells::{any_repeated, fill_cells};
+use crate::ParameterSet;
+use crate::cells::{Cell, any_repeated, fill_cells};
 use crate::entries::{any_bad_base, any_short};
 use crate::scaffold::any_unknown;
 use crate::sizes::wrong_size;
 use crate::tables::any_out;
-use crate::{Copies, Penalty};
-use reply::{Place, Refusal, Reply};
+use reply::{Refusal, refused_if};
 use sdc_common::MOST_BASES;
-use sdc_common::table::{base_names, fill_numbers};
+use sdc_common::table::BaseTable;
 
 // The first check that holds. Where none does, the numbers of the scaffold's names and the cells of the entries are left for the writing.
 pub(crate) fn check(
-    text: &[u8],
-    users: usize,
-    strands: &[usize],
-    scaffold: &[usize],
-    entries: &[usize],
-    energies: &[f64],
-    penalty: Penalty,
-    copies: Copies,
+    set: &ParameterSet,
     strand_glues: &[u8],
     scaffold_glues: &[u8],
     dg: &[f64],
     ds: &[f64],
     numbers: &mut [usize],
-    rows: &mut [usize],
-    columns: &mut [usize],
-) -> Reply
+    cells: &mut [Cell],
+) -> Result<(), Refusal>
     requires scaffold_glues_len_bound { (length scaffold_glues.now ≤ 128) × (length numbers.old ≡ length scaffold_glues.now) }
-    requires rows_len { (length rows.old ≡ entry_rows entries.now) × (length columns.old ≡ entry_rows entries.now) }
-    ensures value { result ≡ first_of (param_checks (params_of text.now users strands.now scaffold.now entries.now energies.now penalty copies) (lent_of strand_glues.now scaffold_glues.now dg.now ds.now)) }
-    ensures checked { result ≡ Admitted → Checked (params_of text.now users strands.now scaffold.now entries.now energies.now penalty copies) entries.now energies.now numbers.new rows.new columns.new }
+    requires cells_len { length cells.old ≡ entry_rows set.now.entries.now }
+    ensures value { result ≡ bare (first_of (param_checks (set_of set.now) (lent_of strand_glues.now scaffold_glues.now dg.now ds.now))) }
+    ensures checked { result ≡ Ok tt → Checked (set_of set.now) set.now.entries.now set.now.energies.now numbers.new cells.new }
 {
-    if wrong_size(
-        text,
-        users,
-        strands,
-        scaffold,
-        entries,
-        energies,
-        copies,
-        strand_glues,
-        scaffold_glues,
-        dg,
-        ds,
-    ) {
-        return Reply::Refused(Refusal::WrongSize, Place::Nowhere);
-    }
-    if any_bad_base(text, entries, energies) {
-        return Reply::Refused(Refusal::NotABase, Place::Nowhere);
-    }
-    if any_short(text, entries, energies) {
-        return Reply::Refused(Refusal::TooShort, Place::Nowhere);
-    }
-    let mut heads = [0usize; 183];
-    let mut sizes = [0usize; 183];
-    let bases = base_names(text, strands, &mut heads, &mut sizes);
-    fill_numbers(text, &heads, &sizes, bases, scaffold, numbers);
-    if any_unknown(text, scaffold, numbers) {
-        return Reply::Refused(Refusal::UnknownName, Place::Nowhere);
-    }
-    if MOST_BASES < bases {
-        return Reply::Refused(Refusal::TooManyGlues, Place::Nowhere);
-    }
-    fill_cells(
-        text, &heads, &sizes, bases, entries, energies, rows, columns,
-    );
-    if any_repeated(rows, columns) {
-        return Reply::Refused(Refusal::DuplicatePair, Place::Nowhere);
-    }
-    if any_out(text, entries, energies, penalty, rows, columns) {
-        return Reply::Refused(Refusal::OutOfRange, Place::Nowhere);
-    }
-    Reply::Admitted
+    let wrong = wrong_size(set, strand_glues, scaffold_glues, dg, ds);
+    refused_if(Refusal::WrongSize, wrong)?;
+    let bad_base = any_bad_base(set.text, set.entries, set.energies);
+    refused_if(Refusal::NotABase, bad_base)?;
+    let short = any_short(set.text, set.entries, set.energies);
+    refused_if(Refusal::TooShort, short)?;
+    let bases = BaseTable::new(set.text, set.strands);
+    bases.fill_numbers(set.text, set.scaffold, numbers);
+    let unknown = any_unknown(set.text, set.scaffold, numbers);
+    refused_if(Refusal::UnknownName, unknown)?;
+    refused_if(Refusal::TooManyGlues, MOST_BASES < bases.len())?;
+    fill_cells(set.text, &bases, set.entries, set.energies, cells);
+    refused_if(Refusal::DuplicatePair, any_repeated(cells))?;
+    let out = any_out(set.text, set.entries, set.energies, set.penalty, cells);
+    refused_if(Refusal::OutOfRange, out)
 }

@@ -7,9 +7,8 @@ ghost use Rattle.sdc1d_params.specs.inner.Fit.{FitEntries};
 
 use crate::Entry;
 use reply::Refusal;
-use sdc_common::names::{LentName, PRESENT, unfit_glue};
+use sdc_common::names::{LentName, PRESENT, leaves, unfit_glue};
 use units::{KcalPerMol, KcalPerMolKelvin};
-use utils::DgDsAnswer;
 
 // The numbers of an entry's row.
 pub(crate) const ROW: usize = 8;
@@ -38,7 +37,10 @@ pub(crate) enum GsOrSeq {
 
 // dG and dS of an entry.
 #[derive(Clone, Copy)]
-pub(crate) struct Gs(pub(crate) KcalPerMol, pub(crate) KcalPerMolKelvin);
+pub(crate) struct Gs {
+    pub(crate) dg: KcalPerMol,
+    pub(crate) ds: KcalPerMolKelvin,
+}
 
 // Entry i, out of its row of eight numbers and its two doubles.
 pub(crate) fn entry_at(entries: &[usize], energies: &[f64], i: usize) -> Entry
@@ -46,15 +48,14 @@ pub(crate) fn entry_at(entries: &[usize], energies: &[f64], i: usize) -> Entry
     ensures { result ≡ entry_at entries.now energies.now i }
 {
     let row = ROW * i;
-    let second = LentName {
-        mark: entries[row + 2],
-        start: entries[row + 3],
-        size: entries[row + 4],
-    };
     Entry {
         first_start: entries[row],
         first_size: entries[row + 1],
-        second: second,
+        second: LentName {
+            mark: entries[row + 2],
+            start: entries[row + 3],
+            size: entries[row + 4],
+        },
         form: entries[row + 5],
         start: entries[row + 6],
         size: entries[row + 7],
@@ -88,10 +89,7 @@ pub(crate) fn gs_or_seq(entry: Entry) -> GsOrSeq
 fn bad_form(form: usize) -> bool
     ensures { result ≡ bad_form form }
 {
-    if form == GIVEN {
-        return false;
-    }
-    form != SEQUENCE
+    form != GIVEN && form != SEQUENCE
 }
 
 // Whether an entry's sequence is too long or leaves the text.
@@ -100,15 +98,7 @@ fn unfit_energy(text: &[u8], energy: GsOrSeq) -> bool
 {
     match energy {
         GsOrSeq::Given(_, _) => false,
-        GsOrSeq::Sequence(start, length) => {
-            if text.len() < start {
-                return true;
-            }
-            if text.len() - start < length {
-                return true;
-            }
-            LONGEST < length
-        }
+        GsOrSeq::Sequence(start, length) => { leaves(text, start, length) || LONGEST < length }
     }
 }
 
@@ -116,31 +106,37 @@ fn unfit_energy(text: &[u8], energy: GsOrSeq) -> bool
 fn unfit_entry(text: &[u8], entry: Entry) -> bool
     ensures { result ≡ unfit_entry text.now entry }
 {
+    // One test after the other: in a longer chain of `||` the proof did not close.
     if unfit_glue(text, first_name(entry)) {
         return true;
     }
-    let second = entry.second;
-    if unfit_glue(text, second) {
+    if unfit_glue(text, entry.second) {
         return true;
     }
-    if bad_form(entry.form) {
-        return true;
-    }
-    unfit_energy(text, gs_or_seq(entry))
+    bad_form(entry.form) || unfit_energy(text, gs_or_seq(entry))
 }
 
 // dG and dS that an energy gives; its sequence was checked before.
 pub(crate) fn gsorseq_to_gs(text: &[u8], energy: GsOrSeq) -> Gs
     requires { unfit_energy text.now energy ≡ false }
-    ensures { (result.0.0 ≡ entry_dg text.now energy) × (result.1.0 ≡ entry_ds text.now energy) }
+    ensures { (result.dg.0 ≡ entry_dg text.now energy) × (result.ds.0 ≡ entry_ds text.now energy) }
 {
     match energy {
-        GsOrSeq::Given(dg, ds) => Gs(KcalPerMol(dg), KcalPerMolKelvin(ds)),
+        GsOrSeq::Given(dg, ds) => Gs {
+            dg: KcalPerMol(dg),
+            ds: KcalPerMolKelvin(ds),
+        },
         GsOrSeq::Sequence(start, length) => {
             let end = start + length;
             match utils::string_dna_dg_ds(&text[start..end]) {
-                DgDsAnswer::Given(dg, ds) => Gs(dg, ds),
-                DgDsAnswer::Refused(_) => Gs(KcalPerMol(0.0), KcalPerMolKelvin(0.0)),
+                Ok(energy) => Gs {
+                    dg: energy.dg,
+                    ds: energy.ds,
+                },
+                Err(_) => Gs {
+                    dg: KcalPerMol(0.0),
+                    ds: KcalPerMolKelvin(0.0),
+                },
             }
         }
     }
@@ -156,8 +152,8 @@ fn has_bad_base(text: &[u8], energy: GsOrSeq) -> bool
         GsOrSeq::Sequence(start, length) => {
             let end = start + length;
             match utils::string_dna_dg_ds(&text[start..end]) {
-                DgDsAnswer::Given(_, _) => false,
-                DgDsAnswer::Refused(refusal) => { refusal.number() == Refusal::NotABase.number() }
+                Ok(_) => false,
+                Err(refusal) => refusal == Refusal::NotABase
             }
         }
     }
@@ -178,22 +174,14 @@ fn is_short(text: &[u8], energy: GsOrSeq) -> bool
 pub(crate) fn unfit_entries(text: &[u8], entries: &[usize], energies: &[f64]) -> bool
     ensures { result ≡ unfit_entries text.now (entries_of entries.now energies.now) }
 {
-    if entries.len() % ROW != 0 {
-        return true;
-    }
     let n = entries.len() / ROW;
-    if energies.len() != 2 * n {
+    if entries.len() % ROW != 0 || energies.len() != 2 * n || MOST_ENTRIES < n {
         return true;
     }
-    if MOST_ENTRIES < n {
-        return true;
-    }
-    let mut i = 0;
-    while i < n {
+    for i in 0..n {
         if unfit_entry(text, entry_at(entries, energies, i)) {
             return true;
         }
-        i += 1;
     }
     false
 }
@@ -203,13 +191,10 @@ pub(crate) fn any_bad_base(text: &[u8], entries: &[usize], energies: &[f64]) -> 
     requires { FitEntries text.now entries.now energies.now }
     ensures { result ≡ any (has_bad_base text.now) (map energy_of (entries_of entries.now energies.now).each) }
 {
-    let n = entries.len() / ROW;
-    let mut i = 0;
-    while i < n {
+    for i in 0..entries.len() / ROW {
         if has_bad_base(text, gs_or_seq(entry_at(entries, energies, i))) {
             return true;
         }
-        i += 1;
     }
     false
 }
@@ -219,13 +204,10 @@ pub(crate) fn any_short(text: &[u8], entries: &[usize], energies: &[f64]) -> boo
     requires { FitEntries text.now entries.now energies.now }
     ensures { result ≡ any (is_short text.now) (map energy_of (entries_of entries.now energies.now).each) }
 {
-    let n = entries.len() / ROW;
-    let mut i = 0;
-    while i < n {
+    for i in 0..entries.len() / ROW {
         if is_short(text, gs_or_seq(entry_at(entries, energies, i))) {
             return true;
         }
-        i += 1;
     }
     false
 }

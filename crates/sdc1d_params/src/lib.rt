@@ -12,17 +12,16 @@ mod strands;
 mod tables;
 
 ghost use Rattle.std.specs.Prelude.{◌≡◌};
-ghost use Rattle.reply.specs.Number.{reply_number};
+ghost use Rattle.sdc_common.specs.Calls.{result_number};
 ghost use Rattle.sdc1d_params.specs.Params.{params_of, lent_of, outcome_of, from_params};
 
 use building::build_all;
+use cells::NO_CELL;
 use entries::{MOST_ENTRIES, ROW};
-use reply::{Place, Refusal, Reply};
+use reply::limits::POSITIONS;
+use reply::{Refusal, refused_if};
 use sdc_common::names::LentName;
 use units::{KcalPerMol, KcalPerMolKelvin};
-
-// The most positions of a scaffold.
-const MOST_POSITIONS: usize = 128;
 
 // Which names are taken: an ordinary build refuses strand and entry names that end in two or more stars, the archive's takes old designs.
 #[derive(Clone, Copy)]
@@ -38,7 +37,8 @@ pub struct Penalty {
     pub ds: KcalPerMolKelvin,
 }
 
-// Whose glues the quencher or the reporter copies: no strand's, or those of a user strand, which are numbered from 1.
+// Whose glues the quencher or the reporter copies: no strand's, or those of a user strand, which are numbered from 1. An enum of its own, and no
+// `Option`: the definitions of the calls above name its cases.
 #[derive(Clone, Copy)]
 pub enum Copied {
     Nothing,
@@ -52,7 +52,8 @@ pub struct Copies {
     pub reporter: Copied,
 }
 
-// An energy entry as it is lent: its first name, its second where it is for a pair, and its energy in one of two forms.
+// An energy entry as it is lent: its first name, its second where it is for a pair, and its energy in one of two forms. The form is a number of
+// the C interface, which may have neither value.
 #[derive(Clone, Copy)]
 pub struct Entry {
     pub first_start: usize,
@@ -63,6 +64,19 @@ pub struct Entry {
     pub size: usize,
     pub dg: f64,
     pub ds: f64,
+}
+
+// A parameter set as `from_params` takes it: its names and entries are rows of numbers, the form in which C lends them.
+#[derive(Drop)]
+pub(crate) struct ParameterSet<'a> {
+    pub(crate) text: &'a [u8],
+    pub(crate) users: usize,
+    pub(crate) strands: &'a [usize],
+    pub(crate) scaffold: &'a [usize],
+    pub(crate) entries: &'a [usize],
+    pub(crate) energies: &'a [f64],
+    pub(crate) penalty: Penalty,
+    pub(crate) copies: Copies,
 }
 
 // The glues of the strands and of the scaffold, and the two glue tables, into the lent slices. A name is a row of three numbers: its mark,
@@ -82,22 +96,14 @@ pub fn from_params(
     scaffold_glues: &mut [u8],
     dg: &mut [f64],
     ds: &mut [f64],
-) -> Reply
-    ensures { outcome_of (reply_number result) strand_glues.new scaffold_glues.new dg.new ds.new ≡ from_params build (params_of text.now users strands.now scaffold.now entries.now energies.now penalty copies) (lent_of strand_glues.old scaffold_glues.old dg.old ds.old) }
+) -> Result<(), Refusal>
+    ensures { outcome_of (result_number result) strand_glues.new scaffold_glues.new dg.new ds.new ≡ from_params build (params_of text.now users strands.now scaffold.now entries.now energies.now penalty copies) (lent_of strand_glues.old scaffold_glues.old dg.old ds.old) }
 {
     let count = entries.len() / ROW;
-    if MOST_ENTRIES < count {
-        return Reply::Refused(Refusal::WrongSize, Place::Nowhere);
-    }
+    refused_if(Refusal::WrongSize, MOST_ENTRIES < count)?;
     let positions = scaffold_glues.len();
-    if MOST_POSITIONS < positions {
-        return Reply::Refused(Refusal::WrongSize, Place::Nowhere);
-    }
-    let mut numbers = [0usize; 128];
-    let mut rows = [0usize; 1024];
-    let mut columns = [0usize; 1024];
-    build_all(
-        build,
+    refused_if(Refusal::WrongSize, POSITIONS < positions)?;
+    let set = ParameterSet {
         text,
         users,
         strands,
@@ -106,12 +112,17 @@ pub fn from_params(
         energies,
         penalty,
         copies,
+    };
+    let mut numbers = [0usize; POSITIONS];
+    let mut cells = [NO_CELL; MOST_ENTRIES];
+    build_all(
+        build,
+        &set,
         strand_glues,
         scaffold_glues,
         dg,
         ds,
         &mut numbers[0..positions],
-        &mut rows[0..count],
-        &mut columns[0..count],
+        &mut cells[0..count],
     )
 }

@@ -6,8 +6,7 @@ ghost use Rattle.sdc_common.specs.Lent.{glue_of};
 ghost use Rattle.sdc_common.specs.inner.Fit.{Fit, FitNames};
 ghost use Rattle.sdc1d_params.specs.inner.Scaffold.{unknown_by, unknown_at};
 
-use sdc_common::names::{ABSENT, LentName, name_at};
-use sdc_common::{NameAnswer, self_and_inverse};
+use sdc_common::names::{LentName, rows, stars_of};
 
 // A known name is a base or a base with one star.
 const MOST_STARS: usize = 1;
@@ -17,15 +16,9 @@ fn is_unknown(text: &[u8], name: LentName, number: usize) -> bool
     requires { Fit text.now name }
     ensures { result ≡ unknown_by number (glue_of text.now name) }
 {
-    if name.mark == ABSENT {
-        return false;
-    }
-    if number == 0 {
-        return true;
-    }
-    match self_and_inverse(text, name.start, name.size) {
-        NameAnswer::Given(_, base, _) => MOST_STARS < name.size - base,
-        NameAnswer::Refused(_) => true,
+    match name.bytes(text) {
+        None => false,
+        Some(name) => number == 0 || MOST_STARS < stars_of(name),
     }
 }
 
@@ -35,12 +28,10 @@ pub(crate) fn any_unknown(text: &[u8], scaffold: &[usize], numbers: &[usize]) ->
     requires numbers_len { length numbers.now ≡ length scaffold.now / 3 }
     ensures { result ≡ any (unknown_at text.now scaffold.now numbers.now) (up_to (length scaffold.now / 3)) }
 {
-    let mut i = 0;
-    while i < numbers.len() {
-        if is_unknown(text, name_at(scaffold, i), numbers[i]) {
+    for (i, row) in rows(scaffold).iter().enumerate() {
+        if is_unknown(text, LentName::from(*row), numbers[i]) {
             return true;
         }
-        i += 1;
     }
     false
 }
@@ -51,9 +42,7 @@ pub(crate) fn write_scaffold(numbers: &[usize], glues: &mut [u8])
     requires by_index { (k : ℕ) → k < length numbers.now → get_or numbers.now k 0 < 64 }
     ensures { glues.new ≡ numbers.now }
 {
-    let mut i = 0;
-    while i < numbers.len() {
-        glues[i] = numbers[i] as u8;
-        i += 1;
+    for (i, number) in numbers.iter().enumerate() {
+        glues[i] = *number as u8;
     }
 }

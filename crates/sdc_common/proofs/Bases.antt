@@ -50,28 +50,3 @@ module _ (s : Name) (n : ℕ) (h : n < length s) where
   strip-none e =
       let k : length (take n s) ≡ n = length-take-le n s (omega arith) in
       rw (add-one, take-suc s n 0) (base-other (take n s) (get_or s n 0) (ne_eqb _ _ e) ∙ ap suc k)
-
--- ---- equal names
-
-same-length-step : (t b : Bool) → b ≡ false → (t && b) ≡ false
-same-length-step t b e = rw e (and-false t)
-
-pub same-lengths : (s t : Name) → (length s ≡ length t → ⊥) → same_name s t ≡ false
-unfolding same_name
-same-lengths [] [] h = absurd (h refl)
-same-lengths [] (b ∷ t) h = refl
-same-lengths (a ∷ s) [] h = refl
-same-lengths (a ∷ s) (b ∷ t) h = same-length-step (eqb a b) _ (same-lengths s t (λ e. h (ap suc e)))
-
-module _ (s t : Name) (i : ℕ) (h : i < length s) (l : i < length t) where
-  pub same_more : get_or s i 0 ≡ get_or t i 0 → same_name (drop i s) (drop i t) ≡ same_name (drop (i + 1) s) (drop (i + 1) t)
-  unfolding same_name
-  same_more e = rw (add-one, drop-cons s i 0, drop-cons t i 0) (simp (eq-eqb _ _ e))
-
-  pub same_not : (get_or s i 0 ≡ get_or t i 0 → ⊥) → same_name (drop i s) (drop i t) ≡ false
-  unfolding same_name
-  same_not e = rw (drop-cons s i 0, drop-cons t i 0) (simp (ne_eqb _ _ e))
-
-pub same-done : (s t : Name) (i : ℕ) → length s ≤ i → length t ≤ i → same_name (drop i s) (drop i t) ≡ true
-unfolding same_name
-same-done s t i h l = rw (drop_of_length-le s h, drop_of_length-le t l)

@@ -1,5 +1,5 @@
--- Parts of the text, and the table of bases as it grows. Assumes nothing.
-use mathlib.Core.Path.{◌≡◌, ap, sym, ◌∙◌}
+-- Parts of the text, and what is learnt and numbered. Assumes nothing.
+use mathlib.Core.Path.{◌≡◌, refl, ap, sym, ◌∙◌}
 use mathlib.Core.Bool.{Bool, true, false, not, ◌&&◌, ◌||◌}
 use mathlib.Core.List.{List, [], ◌∷◌, ◌++◌}
 use mathlib.Core.Option.{none, some}
@@ -22,7 +22,6 @@ use Rattle.sdc_common.specs.Lent.{part_of, unfit_name, unfit_glue, is_absent, is
 use Rattle.sdc_common.specs.declared.names.LentName.{LentName}
 use Rattle.sdc_common.specs.inner.Fit.{Fit}
 use Rattle.sdc_common.specs.Numbers.{is_known, learn, number_at, base_number, name_number, glue_number}
-use Rattle.sdc_common.specs.inner.Table.{held_at, held, Table}
 use Rattle.sdc_common.specs.Calls.{self_and_inverse, given_name}
 use Rattle.sdc_common.proofs.Bases.{base-le}
 
@@ -41,15 +40,22 @@ part_length text start size h = length-take-le size (drop start text) (simp leng
 
 -- what a name's base is read off, as the code counts its stars
 pub named :
-    (text : List ℕ) (start size base : ℕ)
+    (text : List ℕ) (start size stars : ℕ)
     → unfit_name text start size ≡ false
-    → base ≡ base_length (take (start + size - start) (drop start text))
-    → given_name start base (eqb ((size - base) % 2) 0) ≡ self_and_inverse text start size
+    → stars ≡ stars_of (take (start + size - start) (drop start text))
+    → given_name start (size - stars) (eqb (stars % 2) 0) ≡ self_and_inverse text start size
 unfolding self_and_inverse is_from stars_of
-named text start size base fit e =
+named text start size stars fit e =
     let l : length (part_of text start size) ≡ size = part_length text start size (fits text start size fit) in
-    let b : base ≡ base_length (part_of text start size) = e ∙ ap base_length (part-is text start size) in
-    rw fit (rw (l, b))
+    let s : stars ≡ length (part_of text start size) - base_length (part_of text start size) = e ∙ ap stars_of (part-is text start size) in
+    let b : size - stars ≡ base_length (part_of text start size) = omega (arith, base-le (part_of text start size)) in
+    rw fit (rw (b, s))
+
+pub stars-within : (text : List ℕ) (start size stars : ℕ) → unfit_name text start size ≡ false → stars ≡ stars_of (take (start + size - start) (drop start text)) → stars ≤ size
+unfolding stars_of
+stars-within text start size stars fit e =
+    let s : stars ≡ length (part_of text start size) - base_length (part_of text start size) = e ∙ ap stars_of (part-is text start size) in
+    omega (arith, part_length text start size (fits text start size fit))
 
 -- ---- one glue
 
@@ -77,64 +83,29 @@ module _ (text : List ℕ) (name : LentName) where
   unfolding glue_of
   glue-present h = rw (ne_eqb name.mark 0 h)
 
-  module _ (base : ℕ) (h : name.start + name.size ≤ length text) (e : base ≡ base_length (take (name.start + name.size - name.start) (drop name.start text))) where
-    pub base-of-part : base ≡ base_length spelled
-    base-of-part = e ∙ ap base_length (part-is text name.start name.size)
+-- a name without its stars
+pub base-size : (name : Name) → length (base_of name) ≡ base_length name
+unfolding base_of
+base-size name = length-take-le (base_length name) name (base-le name)
 
-    pub base-within : base ≤ name.size
-    base-within = let l = part_length text name.start name.size h in omega (arith, base-le spelled, base-of-part)
+pub base-is : (name : Name) (n : ℕ) → base_length name ≡ n → take n name ≡ base_of name
+unfolding base_of
+base-is name n e = rw e
 
-    pub stars-of : name.size - base ≡ stars_of spelled
-    unfolding stars_of
-    stars-of = rw (part_length text name.start name.size h, base-of-part)
-
-    -- the part up to the stars is the base
-    pub base-part : part_of text name.start base ≡ base_of spelled
-    unfolding part_of base_of
-    base-part = let b = base-of-part in let w = base-within in sym (rw (← b) (take-take base name.size (drop name.start text) w))
+pub no-base : (name : Name) → base_length name ≡ 0 → [] ≡ base_of name
+unfolding base_of
+no-base name e = rw e (none name)
+  where
+    none : (s : Name) → [] ≡ take 0 s
+    none [] = refl
+    none (b ∷ s) = refl
 
 -- ---- the table
 
-pub held-length : (text heads sizes : List ℕ) (count : ℕ) → length (held text heads sizes count) ≡ count
-unfolding held
-held-length text heads sizes count = length-tabulate count (held_at text heads sizes)
-
-module _ (text heads sizes : List ℕ) (count : ℕ) (base : Name) (place : ℕ) (e : place ≡ first_index (same_name base) (held text heads sizes count)) where
-  pub is_known_lem : place < count → is_known (held text heads sizes count) base ≡ true
-  is_known_lem h = any-true (same_name base) (held text heads sizes count) (let l = held-length text heads sizes count in omega arith)
-
-  pub not_known : count ≤ place → is_known (held text heads sizes count) base ≡ false
-  not_known h = any_false (same_name base) (held text heads sizes count) (let l = held-length text heads sizes count in omega arith)
-
--- one base more
-module _ {text heads sizes : List ℕ} {count : ℕ} (t : Table text heads sizes count) (start base : ℕ) (room : count < 183) where
-  room-heads : count < length heads
-  room-heads = let l = t.starts-room in omega arith
-
-  room-sizes : count < length sizes
-  room-sizes = let l = t.lengths-room in omega arith
-
-  at_other : (xs : List ℕ) (v k : ℕ) → k < count → get_or (set xs count v) k 0 ≡ get_or xs k 0
-  at_other xs v k h = get_or-set_other xs count k v 0 (ne_of_lt h)
-
-  pub table_more : start + base ≤ length text → Table text (set heads count start) (set sizes count base) (count + 1)
-  table_more h =
-      record {
-        starts-room = length-set heads count start ∙ t.starts-room;
-        lengths-room = length-set sizes count base ∙ t.lengths-room;
-        upto = omega arith;
-        inside =
-            below_more (λ k. get_or (set heads count start) k 0 + get_or (set sizes count base) k 0 ≤ length text) count
-            (λ k l. rw (at_other heads start k l, at_other sizes base k l) (t.inside k l))
-            (rw (get_or-set_same heads count start 0 room-heads, get_or-set_same sizes count base 0 room-sizes) h);
-      }
-
-  pub held_more : held text (set heads count start) (set sizes count base) (count + 1) ≡ held text heads sizes count ++ (part_of text start base ∷ [])
-  unfolding held
-  held_more =
-      rw (add-one, tabulate-suc count (held_at text (set heads count start) (set sizes count base)))
-      (rw (tabulate-same count (held_at text (set heads count start) (set sizes count base)) (held_at text heads sizes) (λ k l. rw (at_other heads start k l, at_other sizes base k l)))
-      (rw (get_or-set_same heads count start 0 room-heads, get_or-set_same sizes count base 0 room-sizes)))
+-- what is learnt of no name
+pub learn-none : (bases : List Name) → bases ≡ learn bases none
+unfolding learn
+learn-none bases = refl
 
 pub learn-known : (bases : List Name) (name : Name) → is_known bases (base_of name) ≡ true → bases ≡ learn bases (some name)
 unfolding learn
@@ -152,6 +123,10 @@ pub number-unknown : (bases : List Name) (name : Name) → is_known bases (base_
 unfolding base_number
 number-unknown bases name e = rw e
 
--- the number of the glue at a place, read off the table
-abbrev pub number_of_glue : List ℕ → List ℕ → List ℕ → ℕ → List ℕ → ℕ → ℕ
-number_of_glue text heads sizes count rows k = glue_number (held text heads sizes count) (glue_of text (name_at rows k))
+pub number-none : (bases : List Name) → 0 ≡ glue_number bases none
+unfolding glue_number
+number-none bases = refl
+
+pub number-some : (bases : List Name) (name : Name) → name_number bases name ≡ glue_number bases (some name)
+unfolding glue_number
+number-some bases name = refl

@@ -1,7 +1,9 @@
+pub mod Asked
 pub mod Bases
 pub mod Held
-pub mod Fit
+pub mod Rows
 pub mod Given
+pub mod Fit
 pub mod Replies
 pub mod Spelled
 pub mod Looked

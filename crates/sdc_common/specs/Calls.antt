@@ -1,15 +1,13 @@
 -- The calls of this crate: their checks, and what they give.
-use Rattle.std.specs.Prelude.{Bool, not, ◌||◌, List, [], ◌∷◌, ℕ, ◌*◌, eqb, ltb, length, false}
+use Rattle.std.specs.Prelude.{Bool, not, ◌||◌, List, [], ◌∷◌, ℕ, ◌*◌, eqb, ltb, length, false, Result, Ok, Err}
 use Rattle.reply.specs.Number.{number_of, answered, reply_number}
 use Rattle.reply.specs.First.{Check, ◌if◌, first_of, answer}
+use Rattle.reply.specs.declared.Refusal.{Refusal}
 use Rattle.reply.specs.declared.Refusal.TheVariants.{WrongSize, TooManyGlues}
 use Rattle.sdc_common.specs.Names.{base_length, is_from}
 use Rattle.sdc_common.specs.Lent.{Names, Glue, part_of, unfit_name, unfit_names, glues_of}
 use Rattle.sdc_common.specs.Numbers.{bases_of, numbers_among}
-use Rattle.sdc_common.specs.declared.NameAnswer.{NameAnswer}
-use Rattle.sdc_common.specs.declared.NameAnswer.TheVariants as name
-use Rattle.sdc_common.specs.declared.NumbersAnswer.{NumbersAnswer}
-use Rattle.sdc_common.specs.declared.NumbersAnswer.TheVariants as numbers
+use Rattle.sdc_common.specs.declared.NameBase.{NameBase}
 
 -- ---- a name's base
 
@@ -29,9 +27,9 @@ abbrev pub given_name : ℕ → ℕ → Bool → NameFigures
 given_name start size from = record { number = answered; start = start; size = size; from = from }
 
 -- an answer of the code as its number and figures
-abbrev pub name_figures : NameAnswer → NameFigures
-name_figures (name.Given start size from) = given_name start size from
-name_figures (name.Refused refusal) = refused_name (number_of refusal)
+abbrev pub name_figures : Result NameBase Refusal → NameFigures
+name_figures (Ok base) = given_name base.start base.size base.is_base
+name_figures (Err refusal) = refused_name (number_of refusal)
 
 -- what is refused of a name
 abbrev pub name_checks : List ℕ → ℕ → ℕ → List Check
@@ -59,9 +57,9 @@ abbrev pub given_numbers : ℕ → NumbersFigures
 given_numbers bases = record { number = answered; bases = bases }
 
 -- an answer of the code as its number and figures
-abbrev pub numbers_figures : NumbersAnswer → NumbersFigures
-numbers_figures (numbers.Given bases) = given_numbers bases
-numbers_figures (numbers.Refused refusal) = refused_numbers (number_of refusal)
+abbrev pub numbers_figures : Result ℕ Refusal → NumbersFigures
+numbers_figures (Ok bases) = given_numbers bases
+numbers_figures (Err refusal) = refused_numbers (number_of refusal)
 
 -- user strands in a build: 0 to 61
 abbrev pub too_many_strands : ℕ → Bool
@@ -99,6 +97,11 @@ glue_checks users text strands lent =
     WrongSize if (unfit_strands users text strands || not (eqb lent (3 * users)))
     ∷ TooManyGlues if too_many_bases (glues_of text strands)
     ∷ []
+
+-- the number of a reply that says no place
+abbrev pub result_number : Result Unit Refusal → ℕ
+result_number (Ok u) = answered
+result_number (Err refusal) = number_of refusal
 
 -- document 01's number of the reply of `strand_glues`
 unfoldable pub strand_glues : ℕ → List ℕ → Names → ℕ → ℕ

@@ -1,7 +1,9 @@
-// Names as parts of a text: their bases, whether two are the same, and whether lent names are as they should be.
-ghost use Rattle.std.specs.Prelude.{◌≡◌, ◌/◌, ◌<◌, ◌≤◌, length};
-ghost use Rattle.sdc_common.specs.Names.{base_length, same_name};
-ghost use Rattle.sdc_common.specs.Lent.{unfit_name, unfit_glue, name_at, names_of, unfit_names};
+// Names as parts of a text: their bases, and whether lent names are as they should be.
+ghost use Rattle.std.specs.Prelude.{◌≡◌, ℕ, [], ◌/◌, ◌<◌, ◌≤◌, length, slice_index_or};
+ghost use Rattle.sdc_common.specs.Names.{base_of, stars_of, same_name};
+ghost use Rattle.sdc_common.specs.Lent.{leaves, unfit_name, unfit_glue, name_at, names_of, unfit_names, glue_of};
+ghost use Rattle.sdc_common.specs.inner.Fit.{Fit};
+ghost use Rattle.sdc_common.specs.inner.Table.{glue};
 
 // The mark of a name that is absent.
 pub const ABSENT: usize = 0;
@@ -12,7 +14,10 @@ pub const PRESENT: usize = 1;
 // The longest name, its stars counted.
 const LONGEST: usize = 64;
 
-// A name as it is lent: whether it is there, and its part of the text.
+// The numbers of a name's row.
+const ROW: usize = 3;
+
+// A name as it is lent: whether it is there, and its part of the text. The mark is a number of the C interface, which may have neither value.
 #[derive(Clone, Copy)]
 pub struct LentName {
     pub mark: usize,
@@ -20,94 +25,100 @@ pub struct LentName {
     pub size: usize,
 }
 
-// The length of a name without its trailing stars.
-pub(crate) fn base_length(name: &[u8]) -> usize
-    ensures { (result ≡ base_length name.now) × (result ≤ length name.now) }
-{
-    let mut n = name.len();
-    while 0 < n {
-        if name[n - 1] != b'*' {
-            return n;
+// A row has the mark, the start and the length.
+impl From<[usize; ROW]> for LentName {
+    ghost from_gives = { λ row name. name ≡ name_at row 0 };
+
+    fn from(row: [usize; ROW]) -> LentName {
+        LentName {
+            mark: row[0],
+            start: row[1],
+            size: row[2],
         }
-        n -= 1;
     }
-    0
+}
+
+impl LentName {
+    // The bytes of a name that is there.
+    pub fn bytes(self, text: &[u8]) -> Option<&[u8]>
+        requires { Fit text.now self }
+        ensures { glue result ≡ glue_of text.now self }
+    {
+        if self.mark == ABSENT {
+            return None;
+        }
+        let start = self.start;
+        let end = start + self.size;
+        Some(&text[start..end])
+    }
+}
+
+// The rows of names; what is left of a last row that is not whole belongs to none.
+pub fn rows(names: &[usize]) -> &[[usize; ROW]]
+    ensures len { length result.now ≡ length names.now / 3 }
+    ensures by_index { (k : ℕ) → k < length names.now / 3 → name_at (slice_index_or result.now k []) 0 ≡ name_at names.now k }
+{
+    names.as_chunks::<ROW>().0
+}
+
+// A name without its trailing stars.
+pub fn base_of(name: &[u8]) -> &[u8]
+    ensures { result.now ≡ base_of name.now }
+{
+    for last in (0..name.len()).rev() {
+        if name[last] != b'*' {
+            return &name[..last + 1];
+        }
+    }
+    &name[..0]
+}
+
+// How many stars it has at its end.
+pub fn stars_of(name: &[u8]) -> usize
+    ensures { result ≡ stars_of name.now }
+{
+    name.len() - base_of(name).len()
 }
 
 // Whether two texts have the same bytes.
 pub fn same_bytes(a: &[u8], b: &[u8]) -> bool
     ensures { result ≡ same_name a.now b.now }
 {
-    if a.len() != b.len() {
-        return false;
-    }
-    let mut i = 0;
-    while i < a.len() {
-        if a[i] != b[i] {
-            return false;
-        }
-        i += 1;
-    }
-    true
+    a == b
+}
+
+// Whether a part leaves the text.
+pub fn leaves(text: &[u8], start: usize, size: usize) -> bool
+    ensures { result ≡ leaves text.now start size }
+{
+    text.len() < start || text.len() - start < size
 }
 
 // Whether a name is too long or leaves the text.
 pub(crate) fn unfit_name(text: &[u8], start: usize, length: usize) -> bool
     ensures { result ≡ unfit_name text.now start length }
 {
-    if LONGEST < length {
-        return true;
-    }
-    if text.len() < start {
-        return true;
-    }
-    if text.len() - start < length {
-        return true;
-    }
-    false
+    LONGEST < length || leaves(text, start, length)
 }
 
 // Whether a mark has neither value, or a present name is unfit.
 pub fn unfit_glue(text: &[u8], name: LentName) -> bool
     ensures { result ≡ unfit_glue text.now name }
 {
-    if name.mark == ABSENT {
-        return false;
-    }
-    if name.mark != PRESENT {
-        return true;
-    }
-    unfit_name(text, name.start, name.size)
-}
-
-// Name i of rows of three numbers: a mark, a start and a length.
-pub fn name_at(names: &[usize], i: usize) -> LentName
-    requires { i < length names.now / 3 }
-    ensures { result ≡ name_at names.now i }
-{
-    LentName {
-        mark: names[3 * i],
-        start: names[3 * i + 1],
-        size: names[3 * i + 2],
-    }
+    name.mark != ABSENT && (name.mark != PRESENT || unfit_name(text, name.start, name.size))
 }
 
 // Whether n names are not as they should be.
 pub fn unfit_names(n: usize, text: &[u8], names: &[usize]) -> bool
     ensures { result ≡ unfit_names n text.now (names_of names.now) }
 {
-    if names.len() % 3 != 0 {
+    if names.len() % ROW != 0 || names.len() / ROW != n {
         return true;
     }
-    if names.len() / 3 != n {
-        return true;
-    }
-    let mut i = 0;
-    while i < n {
-        if unfit_glue(text, name_at(names, i)) {
+    for row in rows(names) {
+        if unfit_glue(text, LentName::from(*row)) {
             return true;
         }
-        i += 1;
     }
     false
 }

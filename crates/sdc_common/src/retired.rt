@@ -4,7 +4,7 @@ ghost use Rattle.lists.specs.Find.{any};
 ghost use Rattle.sdc_common.specs.Lent.{names_of, glue_of, glues_of, is_retired_glue};
 ghost use Rattle.sdc_common.specs.inner.Fit.{Fit, FitNames};
 
-use crate::names::{ABSENT, LentName, base_length, name_at};
+use crate::names::{LentName, rows, stars_of};
 
 // The fewest stars of a name that retires.
 const FEWEST_RETIRED: usize = 2;
@@ -14,12 +14,10 @@ pub fn is_retired(text: &[u8], name: LentName) -> bool
     requires { Fit text.now name }
     ensures { result ≡ is_retired_glue (glue_of text.now name) }
 {
-    if name.mark == ABSENT {
-        return false;
+    match name.bytes(text) {
+        None => false,
+        Some(name) => FEWEST_RETIRED <= stars_of(name),
     }
-    let start = name.start;
-    let end = start + name.size;
-    FEWEST_RETIRED <= name.size - base_length(&text[start..end])
 }
 
 // Whether some name of the rows does.
@@ -27,13 +25,10 @@ pub fn any_retired(text: &[u8], names: &[usize]) -> bool
     requires { FitNames text.now names.now }
     ensures { result ≡ any is_retired_glue (glues_of text.now (names_of names.now)) }
 {
-    let n = names.len() / 3;
-    let mut i = 0;
-    while i < n {
-        if is_retired(text, name_at(names, i)) {
+    for row in rows(names) {
+        if is_retired(text, LentName::from(*row)) {
             return true;
         }
-        i += 1;
     }
     false
 }

@@ -1,13 +1,13 @@
 // The design of a file's rows, and of beginnings of them.
 use crate::reads;
 use crate::reads::{first_numbers, first_places};
-use reply::{Place, Refusal, Reply};
+use reply::Refusal;
 use sdc_common::strand_glues;
 use sdc1d_params::{Build, Copies, Penalty, from_params};
 use sheet::once::{copied, junction_penalty};
 use sheet::parts;
-use sheet::rows::rows_of;
-use statements::grammar::{ENERGY_GIVEN, POSITION, QUENCHER, REPORTER, STRAND};
+use sheet::rows::{Group, rows_of};
+use statements::statement::Row;
 use units::{KcalPerMol, KcalPerMolKelvin};
 
 // ---- document 01's limits, for which there is room here
@@ -27,9 +27,7 @@ pub(crate) const MOST_ENTRIES: usize = 1024;
 pub(crate) fn build(
     which: Build,
     text: &[u8],
-    kinds: &[u8],
-    words: &[usize],
-    numbers: &[f64],
+    rows: &[Row],
     users: usize,
     positions: usize,
     entries: usize,
@@ -37,42 +35,38 @@ pub(crate) fn build(
     scaffold_glues: &mut [u8],
     dg: &mut [f64],
     ds: &mut [f64],
-) -> Reply {
+) -> Result<(), Refusal> {
     if MOST_USERS < users {
-        return Reply::Refused(Refusal::WrongSize, Place::Nowhere);
+        return Err(Refusal::WrongSize);
     }
     let strand_numbers = 9 * users;
     if MOST_POSITIONS < positions {
-        return Reply::Refused(Refusal::WrongSize, Place::Nowhere);
+        return Err(Refusal::WrongSize);
     }
     let scaffold_numbers = 3 * positions;
     let mut room = [0usize; 61];
-    rows_of(kinds, STRAND, reads::places(&mut room, users));
-    let rows = first_places(&room, users);
+    rows_of(rows, Group::Strand, reads::places(&mut room, users));
+    let strand_rows = first_places(&room, users);
     let mut strands = [0usize; 549];
     parts::strands(
-        kinds,
-        words,
         rows,
+        strand_rows,
         reads::places(&mut strands, strand_numbers),
     );
     let mut sites = [0usize; 128];
-    rows_of(kinds, POSITION, reads::places(&mut sites, positions));
+    rows_of(rows, Group::Position, reads::places(&mut sites, positions));
     let mut scaffold = [0usize; 384];
     parts::positions(
-        kinds,
-        words,
+        rows,
         first_places(&sites, positions),
         reads::places(&mut scaffold, scaffold_numbers),
     );
-    let quencher = copied(text, kinds, words, rows, QUENCHER);
-    let reporter = copied(text, kinds, words, rows, REPORTER);
+    let quencher = copied(text, rows, strand_rows, Group::Quencher);
+    let reporter = copied(text, rows, strand_rows, Group::Reporter);
     with_entries(
         which,
         text,
-        kinds,
-        words,
-        numbers,
+        rows,
         entries,
         users,
         first_places(&strands, strand_numbers),
@@ -89,9 +83,7 @@ pub(crate) fn build(
 fn with_entries(
     which: Build,
     text: &[u8],
-    kinds: &[u8],
-    words: &[usize],
-    numbers: &[f64],
+    rows: &[Row],
     entries: usize,
     users: usize,
     strands: &[usize],
@@ -101,18 +93,18 @@ fn with_entries(
     scaffold_glues: &mut [u8],
     dg: &mut [f64],
     ds: &mut [f64],
-) -> Reply {
+) -> Result<(), Refusal> {
     if MOST_ENTRIES < entries {
-        return Reply::Refused(Refusal::WrongSize, Place::Nowhere);
+        return Err(Refusal::WrongSize);
     }
     let mut room = [0usize; 1024];
-    rows_of(kinds, ENERGY_GIVEN, reads::places(&mut room, entries));
-    let rows = first_places(&room, entries);
+    rows_of(rows, Group::Entry, reads::places(&mut room, entries));
+    let entry_rows = first_places(&room, entries);
     let mut names = [0usize; 8192];
-    parts::entries(kinds, words, rows, reads::places(&mut names, 8 * entries));
+    parts::entries(rows, entry_rows, reads::places(&mut names, 8 * entries));
     let mut energies = [0.0; 2048];
-    parts::energies(numbers, rows, reads::numbers(&mut energies, 2 * entries));
-    let penalty = junction_penalty(kinds, numbers);
+    parts::energies(rows, entry_rows, reads::numbers(&mut energies, 2 * entries));
+    let penalty = junction_penalty(rows);
     from_params(
         which,
         text,
@@ -122,8 +114,8 @@ fn with_entries(
         first_places(&names, 8 * entries),
         first_numbers(&energies, 2 * entries),
         Penalty {
-            dg: KcalPerMol(penalty.0),
-            ds: KcalPerMolKelvin(penalty.1),
+            dg: KcalPerMol(penalty.dg),
+            ds: KcalPerMolKelvin(penalty.ds),
         },
         copies,
         strand_glues,
@@ -136,15 +128,13 @@ fn with_entries(
 // The reply alone, in the archive's build: of the refusals whose place is looked for so, none is that of a name with two stars.
 pub(crate) fn reply_to(
     text: &[u8],
-    kinds: &[u8],
-    words: &[usize],
-    numbers: &[f64],
+    rows: &[Row],
     users: usize,
     positions: usize,
     entries: usize,
-) -> Reply {
+) -> Result<(), Refusal> {
     if MOST_USERS < users || MOST_POSITIONS < positions {
-        return Reply::Refused(Refusal::WrongSize, Place::Nowhere);
+        return Err(Refusal::WrongSize);
     }
     let glues = 3 * (users + 3);
     let mut strand_glues = [0u8; 192];
@@ -154,9 +144,7 @@ pub(crate) fn reply_to(
     build(
         Build::Archive,
         text,
-        kinds,
-        words,
-        numbers,
+        rows,
         users,
         positions,
         entries,
@@ -168,16 +156,15 @@ pub(crate) fn reply_to(
 }
 
 // The reply to the glues of the first so many strands alone.
-pub(crate) fn glues_reply(text: &[u8], kinds: &[u8], words: &[usize], users: usize) -> Reply {
+pub(crate) fn glues_reply(text: &[u8], rows: &[Row], users: usize) -> Result<(), Refusal> {
     if MOST_USERS < users {
-        return Reply::Refused(Refusal::WrongSize, Place::Nowhere);
+        return Err(Refusal::WrongSize);
     }
     let mut room = [0usize; 61];
-    rows_of(kinds, STRAND, reads::places(&mut room, users));
+    rows_of(rows, Group::Strand, reads::places(&mut room, users));
     let mut strands = [0usize; 549];
     parts::strands(
-        kinds,
-        words,
+        rows,
         first_places(&room, users),
         reads::places(&mut strands, 9 * users),
     );

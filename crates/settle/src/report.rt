@@ -2,22 +2,14 @@
 use crate::reads;
 use crate::reads::{first_places, first_words};
 use answers::print::Style;
-use answers::{States, settled};
-use deck::{DeckForm, DeckWritten};
-use design::answers::CountAnswer;
+use answers::settled;
+use deck::DeckForm;
 use sheet::parts;
-use sheet::rows::rows_of;
-use statements::grammar::POSITION;
+use sheet::rows::{Group, rows_of};
+use statements::statement::Row;
+use statements::words::Word;
 use std::io;
 use std::io::Write;
-
-// A design that the search has answered is refused its count only where it has too many states.
-fn states_of(count: CountAnswer) -> States {
-    match count {
-        CountAnswer::Count(n) => States::Number(n),
-        CountAnswer::Refused(_, _) => States::TooMany,
-    }
-}
 
 // The glues of the positions, then the names of the strands.
 pub(crate) fn report<W: Write>(
@@ -25,37 +17,27 @@ pub(crate) fn report<W: Write>(
     style: Style,
     path: &[u8],
     text: &[u8],
-    kinds: &[u8],
-    words: &[usize],
+    rows: &[Row],
     strand_rows: &[usize],
     entries: usize,
-    states: CountAnswer,
+    states: Option<u64>,
     configuration: &[u8],
     marks: &[u8],
     energy: f64,
 ) -> io::Result<bool> {
     let positions = configuration.len();
-    let mut rows = [0usize; 128];
-    rows_of(kinds, POSITION, reads::places(&mut rows, positions));
-    let mut starts = [0usize; 128];
-    let mut sizes = [0usize; 128];
-    parts::shown(
-        kinds,
-        words,
-        first_places(&rows, positions),
-        reads::places(&mut starts, positions),
-        reads::places(&mut sizes, positions),
-    );
+    let mut room = [0usize; 128];
+    rows_of(rows, Group::Position, reads::places(&mut room, positions));
+    let mut glues = [Word::default(); 128];
+    parts::shown(rows, first_places(&room, positions), &mut glues);
     report_names(
         out,
         style,
         path,
         text,
-        kinds,
-        words,
+        rows,
         strand_rows,
-        first_places(&starts, positions),
-        first_places(&sizes, positions),
+        &glues,
         entries,
         states,
         configuration,
@@ -70,29 +52,21 @@ fn report_names<W: Write>(
     style: Style,
     path: &[u8],
     text: &[u8],
-    kinds: &[u8],
-    words: &[usize],
+    rows: &[Row],
     strand_rows: &[usize],
-    glue_starts: &[usize],
-    glue_sizes: &[usize],
+    glues: &[Word],
     entries: usize,
-    states: CountAnswer,
+    states: Option<u64>,
     configuration: &[u8],
     marks: &[u8],
     energy: f64,
 ) -> io::Result<bool> {
     let users = strand_rows.len();
-    let mut starts = [0usize; 61];
-    let mut sizes = [0usize; 61];
-    parts::shown(
-        kinds,
-        words,
-        strand_rows,
-        reads::places(&mut starts, users),
-        reads::places(&mut sizes, users),
-    );
+    let mut room = [Word::default(); 61];
+    parts::shown(rows, strand_rows, &mut room);
+    let names = room.get(..users).unwrap_or(&room);
     let mut deck = [0u32; 129];
-    let DeckWritten::Words(size) = deck::write(DeckForm::Singles, configuration, &mut deck) else {
+    let Ok(size) = deck::write(DeckForm::Singles, configuration, &mut deck) else {
         return Ok(false);
     };
     settled(
@@ -100,12 +74,10 @@ fn report_names<W: Write>(
         style,
         path,
         text,
-        glue_starts,
-        glue_sizes,
-        first_places(&starts, users),
-        first_places(&sizes, users),
+        glues,
+        names,
         entries,
-        states_of(states),
+        states,
         configuration,
         marks,
         energy,

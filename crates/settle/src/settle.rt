@@ -7,29 +7,30 @@ use crate::{place, reads, unfit};
 use answers::print::Style;
 use answers::reasons::Why;
 use answers::{Spot, refused, unreadable};
-use design::answers::EnergyAnswer;
+use design::Design;
 use mfe::mfe_configuration;
-use reply::{Refusal, Reply};
+use reply::{Refusal, Refused};
 use sdc1d::number_of_states;
 use sdc1d_params::Build;
-use sheet::faults::SheetAnswer;
-use sheet::rows::rows_of;
+use sheet::faults::{Counts, SheetFault};
+use sheet::rows::{Group, rows_of};
 use sheet::{once, parts};
-use statements::ReadAnswer;
-use statements::grammar::{ENERGY_GIVEN, POSITION, STRAND};
+use statements::ReadFault;
+use statements::grammar::Kind;
+use statements::statement::Row;
 use std::io;
 use std::io::Write;
-use units::{Ambient, AmbientAnswer, KcalPerMol, Kelvin};
+use units::{Ambient, KcalPerMol, Kelvin};
 
 // More rows than any design has.
 const ROWS: usize = 2048;
 
 // What is too many, by the group of its rows.
-fn too_many(group: u8) -> Why {
+fn too_many(group: Group) -> Why {
     match group {
-        STRAND => Why::TooManyStrands,
-        POSITION => Why::TooManyPositions,
-        ENERGY_GIVEN => Why::TooManyEnergies,
+        Group::Strand => Why::TooManyStrands,
+        Group::Position => Why::TooManyPositions,
+        Group::Entry => Why::TooManyEnergies,
         _ => Why::Refused,
     }
 }
@@ -83,12 +84,9 @@ pub(crate) fn settle<W: Write>(
     path: &[u8],
     text: &[u8],
 ) -> io::Result<bool> {
-    let mut kinds = [0u8; 2048];
-    let mut lines = [0usize; 2048];
-    let mut words = [0usize; 16384];
-    let mut numbers = [0.0; 6144];
-    match statements::read(text, &mut kinds, &mut lines, &mut words, &mut numbers) {
-        ReadAnswer::Rows(n) => {
+    let mut rows = [Row::blank(Kind::Kelvin, 0); 2048];
+    match statements::read(text, &mut rows) {
+        Ok(n) => {
             if ROWS < n {
                 return refuse(
                     out,
@@ -99,31 +97,21 @@ pub(crate) fn settle<W: Write>(
                     at_line(0, Why::TooManyRows),
                 );
             }
-            settle_rows(
-                out,
-                style,
-                which,
-                path,
-                text,
-                first_bytes(&kinds, n),
-                first_places(&lines, n),
-                first_places(&words, 8 * n),
-                first_numbers(&numbers, 3 * n),
-            )
+            settle_rows(out, style, which, path, text, &rows[..n])
         }
-        ReadAnswer::Unreadable(line, word, reason) => {
+        Err(ReadFault::Unreadable(line, fault)) => {
             let spot = Spot {
                 line,
-                start: word.start,
-                size: word.size,
+                start: fault.word.start,
+                size: fault.word.size,
             };
             let found = Found {
                 spot,
-                why: Why::Line(reason),
+                why: Why::Line(fault.reason),
             };
             complain(out, style, path, text, found)
         }
-        ReadAnswer::TooManyRows(line) => refuse(
+        Err(ReadFault::TooManyRows(line)) => refuse(
             out,
             style,
             path,
@@ -131,8 +119,7 @@ pub(crate) fn settle<W: Write>(
             Refusal::WrongSize,
             at_line(line, Why::TooManyRows),
         ),
-        ReadAnswer::TooLong => complain(out, style, path, text, at_line(0, Why::TooLong)),
-        ReadAnswer::UnequalRoom => complain(out, style, path, text, at_line(0, Why::ReadFailed)),
+        Err(ReadFault::TooLong) => complain(out, style, path, text, at_line(0, Why::TooLong)),
     }
 }
 
@@ -143,16 +130,11 @@ fn settle_rows<W: Write>(
     which: Build,
     path: &[u8],
     text: &[u8],
-    kinds: &[u8],
-    lines: &[usize],
-    words: &[usize],
-    numbers: &[f64],
+    rows: &[Row],
 ) -> io::Result<bool> {
-    match sheet::faults::check(text, kinds, lines, words) {
-        SheetAnswer::Whole(users, positions, entries) => settle_sheet(
-            out, style, which, path, text, kinds, lines, words, numbers, users, positions, entries,
-        ),
-        SheetAnswer::NameTwice(line, word) => {
+    match sheet::faults::check(text, rows) {
+        Ok(counts) => settle_sheet(out, style, which, path, text, rows, counts),
+        Err(SheetFault::NameTwice(line, word)) => {
             let spot = Spot {
                 line,
                 start: word.start,
@@ -164,11 +146,11 @@ fn settle_rows<W: Write>(
             };
             complain(out, style, path, text, found)
         }
-        SheetAnswer::GivenTwice(line, _) => {
+        Err(SheetFault::GivenTwice(line, _)) => {
             let found = place::on_line(text, line, 1, Why::GivenTwice);
             complain(out, style, path, text, found)
         }
-        SheetAnswer::TooMany(line, group) => refuse(
+        Err(SheetFault::TooMany(line, group)) => refuse(
             out,
             style,
             path,
@@ -176,7 +158,7 @@ fn settle_rows<W: Write>(
             Refusal::WrongSize,
             at_line(line, too_many(group)),
         ),
-        SheetAnswer::NoAmbient => complain(out, style, path, text, at_line(0, Why::NoAmbient)),
+        Err(SheetFault::NoAmbient) => complain(out, style, path, text, at_line(0, Why::NoAmbient)),
     }
 }
 
@@ -187,14 +169,14 @@ fn settle_sheet<W: Write>(
     which: Build,
     path: &[u8],
     text: &[u8],
-    kinds: &[u8],
-    lines: &[usize],
-    words: &[usize],
-    numbers: &[f64],
-    users: usize,
-    positions: usize,
-    entries: usize,
+    rows: &[Row],
+    counts: Counts,
 ) -> io::Result<bool> {
+    let Counts {
+        strands: users,
+        positions,
+        entries,
+    } = counts;
     if MOST_USERS < users || MOST_POSITIONS < positions || MOST_ENTRIES < entries {
         return refuse(
             out,
@@ -207,7 +189,7 @@ fn settle_sheet<W: Write>(
     }
     let glue_count = 3 * (users + 3);
     let mut room = [0usize; 61];
-    rows_of(kinds, STRAND, reads::places(&mut room, users));
+    rows_of(rows, Group::Strand, reads::places(&mut room, users));
     let strand_rows = first_places(&room, users);
     let mut glues = [0u8; 192];
     let mut scaffold = [0u8; 128];
@@ -216,9 +198,7 @@ fn settle_sheet<W: Write>(
     match build(
         which,
         text,
-        kinds,
-        words,
-        numbers,
+        rows,
         users,
         positions,
         entries,
@@ -227,33 +207,20 @@ fn settle_sheet<W: Write>(
         &mut dg,
         &mut ds,
     ) {
-        Reply::Refused(refusal, _) => refuse(
+        Err(refusal) => refuse(
             out,
             style,
             path,
             text,
             refusal,
-            place::of_build(
-                refusal,
-                text,
-                kinds,
-                lines,
-                words,
-                numbers,
-                strand_rows,
-                positions,
-                entries,
-            ),
+            place::of_build(refusal, text, rows, strand_rows, positions, entries),
         ),
-        Reply::Admitted => settle_design(
+        Ok(()) => settle_design(
             out,
             style,
             path,
             text,
-            kinds,
-            lines,
-            words,
-            numbers,
+            rows,
             strand_rows,
             entries,
             first_bytes(&scaffold, positions),
@@ -265,15 +232,15 @@ fn settle_sheet<W: Write>(
 }
 
 // The ambient as given, or at a temperature.
-fn ambient_of(kinds: &[u8], numbers: &[f64]) -> AmbientAnswer {
-    match once::ambient_of(kinds, numbers) {
-        once::Ambient::Kelvin(kelvin) => units::ambient_at(Kelvin(kelvin)),
-        once::Ambient::Given(rt, strand_excess, scaffold_excess) => AmbientAnswer::Given(Ambient {
+fn ambient_of(rows: &[Row]) -> Result<Ambient, Refusal> {
+    match once::ambient_of(rows) {
+        Some(once::Ambient::Kelvin(kelvin)) => units::ambient_at(Kelvin(kelvin)),
+        Some(once::Ambient::Given(rt, strand_excess, scaffold_excess)) => Ok(Ambient {
             rt: KcalPerMol(rt),
             strand_excess: Kelvin(strand_excess),
             scaffold_excess: Kelvin(scaffold_excess),
         }),
-        once::Ambient::Missing => AmbientAnswer::Refused(Refusal::OutOfRange),
+        None => Err(Refusal::OutOfRange),
     }
 }
 
@@ -283,10 +250,7 @@ fn settle_design<W: Write>(
     style: Style,
     path: &[u8],
     text: &[u8],
-    kinds: &[u8],
-    lines: &[usize],
-    words: &[usize],
-    numbers: &[f64],
+    rows: &[Row],
     strand_rows: &[usize],
     entries: usize,
     scaffold: &[u8],
@@ -294,26 +258,23 @@ fn settle_design<W: Write>(
     dg: &[f64],
     ds: &[f64],
 ) -> io::Result<bool> {
-    match ambient_of(kinds, numbers) {
-        AmbientAnswer::Refused(refusal) => {
+    match ambient_of(rows) {
+        Err(refusal) => {
             refuse(
                 out,
                 style,
                 path,
                 text,
                 refusal,
-                unfit::of_kelvin(text, kinds, lines),
+                unfit::of_kelvin(text, rows),
             )
         }
-        AmbientAnswer::Given(ambient) => search(
+        Ok(ambient) => search(
             out,
             style,
             path,
             text,
-            kinds,
-            lines,
-            words,
-            numbers,
+            rows,
             strand_rows,
             entries,
             scaffold,
@@ -326,11 +287,44 @@ fn settle_design<W: Write>(
 }
 
 // The marks of the positions, as many as there are.
-fn mark(kinds: &[u8], marks: &mut [u8]) {
+fn mark(rows: &[Row], marks: &mut [u8]) {
     let positions = marks.len();
-    let mut rows = [0usize; 128];
-    rows_of(kinds, POSITION, reads::places(&mut rows, positions));
-    parts::blocks(kinds, first_places(&rows, positions), marks);
+    let mut chosen = [0usize; 128];
+    rows_of(rows, Group::Position, reads::places(&mut chosen, positions));
+    parts::blocks(rows, first_places(&chosen, positions), marks);
+}
+
+// A settled design: the energy of its lowest configuration, and how many states it has, where so many are counted.
+#[derive(Clone, Copy)]
+struct Settled {
+    energy: KcalPerMol,
+    states: Option<u64>,
+}
+
+// The search over a design, its configuration into the lent places.
+fn lowest<'a>(
+    scaffold: &'a [u8],
+    marks: &'a [u8],
+    glues: &'a [u8],
+    dg: &'a [f64],
+    ds: &'a [f64],
+    potentials: &'a [f64],
+    ambient: Ambient,
+    configuration: &mut [u8],
+) -> Result<Settled, Refused> {
+    let design = Design {
+        scaffold,
+        marks,
+        glues,
+        dg,
+        ds,
+        potentials,
+        ambient,
+    };
+    let energy = mfe_configuration(&design, configuration)?;
+    // A design that the search has answered is refused its count only where it has too many states.
+    let states = number_of_states(&design).ok();
+    Ok(Settled { energy, states })
 }
 
 // The search, and what is printed of it.
@@ -339,10 +333,7 @@ fn search<W: Write>(
     style: Style,
     path: &[u8],
     text: &[u8],
-    kinds: &[u8],
-    lines: &[usize],
-    words: &[usize],
-    numbers: &[f64],
+    rows: &[Row],
     strand_rows: &[usize],
     entries: usize,
     scaffold: &[u8],
@@ -357,18 +348,13 @@ fn search<W: Write>(
     }
     let strands = strand_rows.len() + 3;
     let mut room = [0.0; 64];
-    parts::potentials(
-        kinds,
-        numbers,
-        strand_rows,
-        reads::numbers(&mut room, strands),
-    );
+    parts::potentials(rows, strand_rows, reads::numbers(&mut room, strands));
     let potentials = first_numbers(&room, strands);
     let mut blocks = [0u8; 128];
-    mark(kinds, reads::bytes(&mut blocks, positions));
+    mark(rows, reads::bytes(&mut blocks, positions));
     let marks = first_bytes(&blocks, positions);
     let mut configuration = [0u8; 128];
-    match mfe_configuration(
+    match lowest(
         scaffold,
         marks,
         glues,
@@ -378,30 +364,26 @@ fn search<W: Write>(
         ambient,
         reads::bytes(&mut configuration, positions),
     ) {
-        EnergyAnswer::Refused(refusal, place) => refuse(
+        Err(given) => refuse(
             out,
             style,
             path,
             text,
-            refusal,
-            unfit::of_design(refusal, place, text, kinds, lines, words, strand_rows),
+            given.refusal,
+            unfit::of_design(given, text, rows, strand_rows),
         ),
-        EnergyAnswer::Energy(energy) => {
-            let states = number_of_states(scaffold, marks, glues, dg, ds, potentials, ambient);
-            report(
-                out,
-                style,
-                path,
-                text,
-                kinds,
-                words,
-                strand_rows,
-                entries,
-                states,
-                first_bytes(&configuration, positions),
-                marks,
-                energy.0,
-            )
-        }
+        Ok(answer) => report(
+            out,
+            style,
+            path,
+            text,
+            rows,
+            strand_rows,
+            entries,
+            answer.states,
+            first_bytes(&configuration, positions),
+            marks,
+            answer.energy.0,
+        ),
     }
 }

@@ -1,23 +1,15 @@
 // Where a design that was built is unfit to be searched: its ambient, or the potential of a strand.
-use crate::place::{Found, at_row, nowhere, on_line, row_of};
+use crate::place::{Found, at_row, line_of, nowhere, on_line, row_of};
 use answers::reasons::Why;
-use reply::{Place, Refusal};
+use reply::{Refusal, Refused};
 use sheet::rows::word_of;
-use statements::grammar::{AMBIENT, KELVIN, QUENCHER, REPORTER};
-use statements::words::place_at;
+use statements::grammar::Kind;
+use statements::statement::Row;
 
 // The temperature of `kelvin`.
-pub(crate) fn of_kelvin(text: &[u8], kinds: &[u8], lines: &[usize]) -> Found {
-    let line = place_at(lines, row_of(kinds, KELVIN));
+pub(crate) fn of_kelvin(text: &[u8], rows: &[Row]) -> Found {
+    let line = line_of(rows, row_of(rows, Kind::Kelvin));
     on_line(text, line, 2, Why::KelvinRange)
-}
-
-// The index that a place names.
-fn index_of(place: Place) -> usize {
-    match place {
-        Place::At(index) => index,
-        Place::Nowhere => 0,
-    }
 }
 
 // The word of the ambient's line that holds one of its numbers: RT, then the two excesses.
@@ -30,37 +22,35 @@ fn ambient_word(number: usize) -> usize {
 }
 
 // The row of a strand by its number: the user strands, the quencher, the reporter.
-fn row_of_strand(kinds: &[u8], strand_rows: &[usize], strand: usize) -> usize {
+fn row_of_strand(rows: &[Row], strand_rows: &[usize], strand: usize) -> usize {
     if strand <= strand_rows.len() {
         if strand == 0 {
-            return kinds.len();
+            return rows.len();
         }
-        return place_at(strand_rows, strand - 1);
+        return strand_rows[strand - 1];
     }
     if strand - 1 == strand_rows.len() {
-        return row_of(kinds, QUENCHER);
+        return row_of(rows, Kind::Quencher);
     }
-    row_of(kinds, REPORTER)
+    row_of(rows, Kind::Reporter)
 }
 
 // Where a design that was built is refused: a number of its ambient, or the potential of a strand.
 pub(crate) fn of_design(
-    refusal: Refusal,
-    place: Place,
+    refused: Refused,
     text: &[u8],
-    kinds: &[u8],
-    lines: &[usize],
-    words: &[usize],
+    rows: &[Row],
     strand_rows: &[usize],
 ) -> Found {
-    match refusal {
+    let place = refused.place.unwrap_or(0);
+    match refused.refusal {
         Refusal::AmbientOut => {
-            let line = place_at(lines, row_of(kinds, AMBIENT));
-            on_line(text, line, ambient_word(index_of(place)), Why::AmbientRange)
+            let line = line_of(rows, row_of(rows, Kind::Ambient));
+            on_line(text, line, ambient_word(place), Why::AmbientRange)
         }
         Refusal::PotentialOut => {
-            let row = row_of_strand(kinds, strand_rows, index_of(place));
-            at_row(lines, row, word_of(words, row, 0), Why::PotentialRange)
+            let row = row_of_strand(rows, strand_rows, place);
+            at_row(rows, row, word_of(rows, row, 0), Why::PotentialRange)
         }
         _ => nowhere(Why::Refused),
     }

@@ -1,2 +1,4 @@
+pub mod Chosen
+pub mod Faulty
 pub mod Fill
 pub mod Theorems

@@ -1,116 +1,152 @@
 -- What specs/Theorems.antt states. Assumes nothing.
-use mathlib.Core.Path.{◌≡◌, refl, ap, ◌∙◌}
+use mathlib.Core.Path.{◌≡◌, refl, sym, ◌∙◌}
 use mathlib.Core.Bool.{Bool, true, false, cond}
-use mathlib.Core.List.{List, [], ◌∷◌, ◌++◌, append-nil}
+use mathlib.Core.List.{List, [], ◌∷◌, append-nil}
 use Prim.Native.Nat.{ℕ, zero, suc, ◌+◌, ◌≤◌, ◌<◌}
 use native.Mathlib.Omega.{arith}
 use lib.Dec.{eqb, ltb}
 use lib.ListN.{length, get_or, drop, take, drop_of_length-le}
-use lib.Seq.{take_all}
-use borrow.Author.Tests.{ltb-true, ltb-false, leb-false, eqb-true}
-use Rattle.lists.specs.Find.{any}
-use Rattle.lists.specs.Build.{tabulate, up_to, keep}
+use lib.Seq.{take_all, length-take-le}
+use borrow.Author.Tests.{ltb-true}
+use Rattle.std.specs.Prelude.{Option, None, Some, Result, Ok, Err, IsSome, slice_get}
+use Rattle.std.specs.List.{list_any}
+use Rattle.std.proofs.lemmas.List.Sums.{sum_by-cons, sum_by_more}
+use Rattle.std.proofs.lemmas.List.Folds.{list_any_at}
+use Rattle.std.proofs.lemmas.List.{get_or-take}
+use Rattle.std.proofs.lemmas.Option.{get_or_from_slice_get, slice_get_within}
+use denote.Enum.Bare.{same_true}
+use native.Mathlib.Numerals.{add-one}
+use Rattle.sheet.proofs.Faulty.{fault-none}
 use Rattle.lists.specs.Front.{over}
-use Rattle.lists.proofs.Tests.{neither}
-use Rattle.lists.proofs.Any.{none_below}
-use Rattle.lists.proofs.Build.{length-tabulate}
-use Rattle.lists.proofs.Counted.{tabulate-suc}
-use Rattle.lists.proofs.Find.{any_false}
-use Rattle.statements.specs.Grammar.{kelvin, strand, position, energy_given}
-use Rattle.sheet.specs.Rows.{group_of, is_of, rows_before, rows_of, count_of, first_of, laid, word_of}
-use Rattle.sheet.specs.Faults.{limit_of, is_over, has_name, is_name_twice, is_faulty, first_faulty, fault_at, sheet_answer}
+use Rattle.statements.specs.declared.statement.Row.{Row}
+use Rattle.sheet.specs.Rows.{group_of, is_of, places_from, rows_of, count_of, first_of, laid}
+use Rattle.sheet.specs.Faults.{limit_of, same_word, name_of, has_name, is_name_twice, fault_of, and_then, fault_from, counts_of, counts_if, sheet_answer}
 use Rattle.sheet.specs.Theorems.{Sound, Sheets}
-use Rattle.sheet.specs.declared.faults.SheetAnswer.TheVariants.{Whole, NameTwice, GivenTwice, TooMany, NoAmbient}
+use Rattle.sheet.specs.declared.faults.Counts.{Counts}
+use Rattle.sheet.specs.declared.faults.SheetFault.{SheetFault}
+use Rattle.sheet.specs.declared.faults.SheetFault.TheVariants.{NameTwice, GivenTwice, TooMany}
+use Rattle.sheet.specs.declared.rows.Group.{Group}
+use Rattle.sheet.specs.contracts.rows.Group as groups
+use Rattle.statements.specs.declared.grammar.Kind.TheVariants.{Kelvin}
+use Rattle.sheet.specs.declared.rows.Group.TheVariants.{Ambient, Strand, Position, Entry}
 
--- ---- limits
+-- ---- what no row at fault means
 
-keep-last : (p : ℕ → Bool) (xs : List ℕ) (x : ℕ) → length (keep p (xs ++ x ∷ [])) ≡ length (keep p xs) + length (keep p (x ∷ []))
-unfolding keep
-keep-last p [] x = omega arith
-keep-last p (y ∷ ys) x = go (p y) (keep-last p ys x)
-  where
-    go : (t : Bool) → length (keep p (ys ++ x ∷ [])) ≡ length (keep p ys) + length (keep p (x ∷ []))
-        → length (cond t (y ∷ keep p (ys ++ x ∷ [])) (keep p (ys ++ x ∷ []))) ≡ length (cond t (y ∷ keep p ys) (keep p ys)) + length (keep p (x ∷ []))
-    go true e = omega (arith, e)
-    go false e = e
+-- a row that is not at fault
+module _ (text : List ℕ) (before : List Row) (row : Row) where
+  fine-by : (n m o : Bool)
+      → cond n (Err (NameTwice row.line (name_of row))) (cond m (Ok (tt {0})) (cond o (Err (GivenTwice row.line (group_of row.kind))) (Err (TooMany row.line (group_of row.kind))))) ≡ Ok (tt {0})
+      → (n ≡ false) × (m ≡ true)
+  fine-by true m o e = absurd (cc)
+  fine-by false true o e = (refl, refl)
+  fine-by false false true e = absurd (cc)
+  fine-by false false false e = absurd (cc)
 
-module _ (group : ℕ) (kinds : List ℕ) where
-  count_next : (m : ℕ) → length (rows_before group kinds (suc m)) ≡ length (rows_before group kinds m) + length (cond (is_of group kinds m) (m ∷ []) [])
-  unfolding rows_before keep
-  count_next m = ap (λ (xs : List ℕ). length (keep (is_of group kinds) xs)) (tabulate-suc m (λ k. k)) ∙ keep-last (is_of group kinds) (up_to m) m
+  fine : fault_of text before row ≡ Ok (tt {0})
+      → (is_name_twice text before row ≡ false) × (count_of (group_of row.kind) before < limit_of (group_of row.kind))
+  unfolding fault_of
+  fine e =
+      let w = fine-by (is_name_twice text before row) (ltb (count_of (group_of row.kind) before) (limit_of (group_of row.kind))) (eqb (limit_of (group_of row.kind)) 1) e in
+      (w.0, ltb-true _ _ w.1)
 
-  within-next : (m : ℕ) (t : Bool) → is_of group kinds m ≡ t → is_over kinds m ≡ false → length (rows_before group kinds m) ≤ limit_of group
-      → length (rows_before group kinds m) + length (cond t (m ∷ []) []) ≤ limit_of group
-  unfolding is_over
-  within-next m true e h l =
-      let same : group_of (get_or kinds m 0) ≡ group = eqb-true _ _ e in
-      let more : length (rows_before group kinds m) < limit_of group = leb-false _ _ (rw same at h) in
+module _ (text : List ℕ) (rows : List Row) (clean : fault_from text [] rows ≡ Ok (tt {0})) (d : Row) where
+  left-clean : (i : ℕ) → i ≤ length rows → fault_from text (take i rows) (drop i rows) ≡ Ok (tt {0})
+  left-clean zero h = clean
+  left-clean (suc i) h =
+      let rest : fault_from text (take (i + 1) rows) (drop (i + 1) rows) ≡ Ok (tt {0}) = (fault-none text rows i d (omega arith) (left-clean i (omega arith))).1 in
+      rw (← add-one i) rest
+
+  row-fine : (i : ℕ) → i < length rows
+      → (is_name_twice text (take i rows) (get_or rows i d) ≡ false) × (count_of (group_of (get_or rows i d).kind) (take i rows) < limit_of (group_of (get_or rows i d).kind))
+  row-fine i h = fine text (take i rows) (get_or rows i d) (fault-none text rows i d h (left-clean i (omega arith))).0
+
+  within-next : (group : Group) (m : ℕ) (b : Bool) → is_of group (get_or rows m d) ≡ b → m < length rows → count_of group (take m rows) ≤ limit_of group
+      → count_of group (take m rows) + cond b 1 0 ≤ limit_of group
+  within-next group m true e h l =
+      let same : group_of (get_or rows m d).kind ≡ group = same_true groups.the_type tt (group_of (get_or rows m d).kind) group e in
+      let less : count_of group (take m rows) < limit_of group = rw same at (row-fine m h).1 in
       omega arith
-  within-next m false e h l = omega arith
+  within-next group m false e h l = omega arith
 
-  within : (m : ℕ) → ((k : ℕ) → k < m → is_over kinds k ≡ false) → length (rows_before group kinds m) ≤ limit_of group
-  unfolding rows_before keep tabulate
-  within zero h = omega arith
-  within (suc m) h = rw (count_next m) (within-next m (is_of group kinds m) refl (h m (omega arith)) (within m (λ k l. h k (omega arith))))
+  within : (group : Group) (m : ℕ) → m ≤ length rows → count_of group (take m rows) ≤ limit_of group
+  within group zero h = omega arith
+  within group (suc m) h =
+      let low : m < length rows = omega arith in
+      let more = sum_by_more (λ (row : Row). cond (is_of group row) 1 0) rows m d low in
+      let next = within-next group m (is_of group (get_or rows m d)) refl low (within group m (omega arith)) in
+      let fits : count_of group (take (m + 1) rows) ≤ limit_of group = omega (arith, more, next) in
+      rw (← add-one m) fits
+
+  other-name : (i j : ℕ) (a b : Row) → j < i → slice_get rows i ≡ Some a → slice_get rows j ≡ Some b → is_of Strand a ≡ true → is_of Strand b ≡ true
+      → same_word text (name_of a) (name_of b) ≡ false
+  unfolding is_name_twice
+  other-name i j a b h e f s t =
+      let low : i < length rows = slice_get_within rows i a e in
+      let here : get_or rows i d ≡ a = get_or_from_slice_get rows i a d e in
+      let there : get_or (take i rows) j d ≡ b = get_or-take i rows j d h ∙ get_or_from_slice_get rows j b d f in
+      let once : is_name_twice text (take i rows) a ≡ false = rw here at (row-fine i low).0 in
+      let none : list_any (has_name text (name_of a)) (take i rows) ≡ false = rw s at once in
+      let short : j < length (take i rows) = rw (length-take-le i rows (omega arith)) h in
+      named (same_word text (name_of a) (name_of b)) refl (λ met. list_any_at (has_name text (name_of a)) (take i rows) j d short (rw there (rw t met))) none
+    where
+      named : (b' : Bool) → same_word text (name_of a) (name_of b) ≡ b' → (same_word text (name_of a) (name_of b) ≡ true → list_any (has_name text (name_of a)) (take i rows) ≡ true)
+          → list_any (has_name text (name_of a)) (take i rows) ≡ false → same_word text (name_of a) (name_of b) ≡ false
+      named true q r none = let w = r q in absurd (cc)
+      named false q r none = q
 
 -- ---- sound rows
 
--- a fault is no answer `Whole`
-fault-not-whole : (text kinds lines words : List ℕ) (i a b c : ℕ) → fault_at text kinds lines words i ≡ Whole a b c → ⊥
-unfolding fault_at
-fault-not-whole text kinds lines words i a b c e = go (is_name_twice text kinds words i) (eqb (limit_of (group_of (get_or kinds i 0))) 1) e
-  where
-    go : (s t : Bool) → cond s (NameTwice (get_or lines i 0) (word_of words i 0)) (cond t (GivenTwice (get_or lines i 0) (group_of (get_or kinds i 0))) (TooMany (get_or lines i 0) (group_of (get_or kinds i 0)))) ≡ Whole a b c → ⊥
-    go true t e = let z : ◌≡◌ {A = ℕ} 0 1 = cc in omega arith
-    go false true e = let z : ◌≡◌ {A = ℕ} 0 1 = cc in omega arith
-    go false false e = let z : ◌≡◌ {A = ℕ} 0 1 = cc in omega arith
+answered : (r : Result Unit SheetFault) (o : Option Row) (rows : List Row) (counts : Counts) → and_then r (counts_if o rows) ≡ Ok counts
+    → (r ≡ Ok (tt {0})) × IsSome o × (counts ≡ counts_of rows)
+answered (Ok done) None rows counts e = absurd (cc)
+answered (Ok done) (Some row) rows counts e = (refl, refl, cc)
+answered (Err fault) o rows counts e = absurd (cc)
 
-module _ (text kinds lines words : List ℕ) (users sites terms : ℕ) where
-  -- what the answer goes by
-  whole-means : sheet_answer text kinds lines words ≡ Whole users sites terms
-      → (length kinds ≤ first_faulty text kinds words) × (first_of kelvin kinds < length kinds) × (users ≡ count_of strand kinds) × (sites ≡ count_of position kinds) × (terms ≡ count_of energy_given kinds)
-  unfolding sheet_answer
-  whole-means e = go (ltb (first_faulty text kinds words) (length kinds)) refl (ltb (first_of kelvin kinds) (length kinds)) refl e
-    where
-      go : (s : Bool) → ltb (first_faulty text kinds words) (length kinds) ≡ s → (t : Bool) → ltb (first_of kelvin kinds) (length kinds) ≡ t
-          → cond s (fault_at text kinds lines words (first_faulty text kinds words)) (cond t (Whole (count_of strand kinds) (count_of position kinds) (count_of energy_given kinds)) NoAmbient) ≡ Whole users sites terms
-          → (length kinds ≤ first_faulty text kinds words) × (first_of kelvin kinds < length kinds) × (users ≡ count_of strand kinds) × (sites ≡ count_of position kinds) × (terms ≡ count_of energy_given kinds)
-      go true f t g e = absurd (fault-not-whole text kinds lines words (first_faulty text kinds words) users sites terms e)
-      go false f true g e = (ltb-false _ _ f, ltb-true _ _ g, cc, cc, cc)
-      go false f false g e = absurd (let z : ◌≡◌ {A = ℕ} 0 1 = cc in omega arith)
+any-row : Row
+any-row = record { kind = Kelvin; line = 0; words = []; numbers = [] }
 
-  -- no row is at fault
-  none-faulty : length kinds ≤ first_faulty text kinds words → (i : ℕ) → i < length kinds → (is_name_twice text kinds words i ≡ false) × (is_over kinds i ≡ false)
-  unfolding first_faulty
-  none-faulty h i l =
-      let past : length (up_to (length kinds)) ≤ first_faulty text kinds words = rw (length-tabulate (length kinds) (λ k. k)) h in
-      neither _ _ (none_below (is_faulty text kinds words) (length kinds) (any_false (is_faulty text kinds words) (up_to (length kinds)) past) i l)
-
-  sound : sheet_answer text kinds lines words ≡ Whole users sites terms → Sound text kinds words users sites terms
-  unfolding limit_of is_name_twice has_name
-  sound e =
-      let w = whole-means e in
-      let clean = none-faulty w.0 in
-      let few : (group : ℕ) → count_of group kinds ≤ limit_of group = λ group. within group kinds (length kinds) (λ i l. (clean i l).1) in
-      record {
-        strands = (w.2, rw w.2 (few strand));
-        positions = (w.3, rw w.3 (few position));
-        entries = (w.4, rw w.4 (few energy_given));
-        few = few;
-        ambient = w.1;
-        names = λ i j h l a b.
-            let once : any (has_name text kinds words (word_of words i 0)) (up_to i) ≡ false = rw a at (clean i l).0 in
-            rw b at (none_below (has_name text kinds words (word_of words i 0)) i once j h);
-      }
+sound : (text : List ℕ) (rows : List Row) (counts : Counts) → sheet_answer text rows ≡ Ok counts → Sound text rows counts
+unfolding sheet_answer
+sound text rows counts e =
+    let w = answered (fault_from text [] rows) (first_of Ambient rows) rows counts e in
+    let few : (group : Group) → count_of group rows ≤ limit_of group =
+    λ group. rw (take_all (length rows) rows (omega arith)) at (within text rows w.0 any-row group (length rows) (omega arith)) in
+    record {
+      strands = rw w.2 (refl, few Strand);
+      positions = rw w.2 (refl, few Position);
+      entries = rw w.2 (refl, few Entry);
+      few = few;
+      ambient = w.1;
+      names = other-name text rows w.0 any-row;
+    }
 
 -- ---- lists of rows
 
-laid-whole : (group : ℕ) (kinds lent : List ℕ) → length lent ≡ count_of group kinds → laid group kinds lent ≡ rows_of group kinds
+places-counted : (group : Group) (at : ℕ) (rows : List Row) → length (places_from group at rows) ≡ count_of group rows
+unfolding places_from
+places-counted group at [] = refl
+places-counted group at (row ∷ rest) =
+    go (is_of group row) (places-counted group (at + 1) rest) ∙ sym (sum_by-cons (λ (r : Row). cond (is_of group r) 1 0) row rest)
+  where
+    go : (b : Bool) → length (places_from group (at + 1) rest) ≡ count_of group rest
+        → length (cond b (at ∷ places_from group (at + 1) rest) (places_from group (at + 1) rest)) ≡ cond b 1 0 + count_of group rest
+    go true e = omega (arith, e)
+    go false e = omega (arith, e)
+
+laid-whole : (group : Group) (rows : List Row) (lent : List ℕ) → length lent ≡ count_of group rows → laid group rows lent ≡ rows_of group rows
 unfolding laid over
-laid-whole group kinds lent e =
-    let all : take (length lent) (rows_of group kinds) ≡ rows_of group kinds = take_all (length lent) (rows_of group kinds) (omega (arith, e)) in
-    let none : drop (length (rows_of group kinds)) lent ≡ [] = drop_of_length-le lent {i = length (rows_of group kinds)} (omega (arith, e)) in
-    rw (all, none) (append-nil (rows_of group kinds))
+laid-whole group rows lent e =
+    let many = places-counted group 0 rows in
+    let all : take (length lent) (rows_of group rows) ≡ rows_of group rows = take_all (length lent) (rows_of group rows) (omega arith) in
+    let none : drop (length (rows_of group rows)) lent ≡ [] = drop_of_length-le lent {i = length (rows_of group rows)} (omega arith) in
+    rw (all, none) (append-nil (rows_of group rows))
 
 pub sheets : Sheets
-sheets = record { words = λ room row j. refl; numbers = λ room row j. refl; sound = sound; rows = laid-whole }
+sheets =
+    record {
+      words = λ rows chosen k row j e. rw e;
+      numbers = λ rows chosen k row j e. rw e;
+      sound = sound;
+      counted = λ group rows. places-counted group 0 rows;
+      rows = laid-whole;
+    }

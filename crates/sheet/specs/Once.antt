@@ -1,42 +1,56 @@
 -- What stands in the file at most once: the ambient, the junction penalty, quencher and reporter.
-use Rattle.std.specs.Prelude.{Bool, cond, List, ℕ, suc, eqb, ltb, Float, length, get_or}
-use Rattle.doubles.specs.Decimal.{zero}
+use Rattle.std.specs.Prelude.{Bool, cond, List, ℕ, suc, eqb, ltb, Float, length, Option, None, Some}
 use Rattle.lists.specs.Find.{first_index}
 use Rattle.sdc1d_params.specs.declared.Copied.{Copied}
-use Rattle.sdc1d_params.specs.declared.Copied.TheVariants.{Nothing, Strand}
-use Rattle.statements.specs.Grammar.{kelvin}
+use Rattle.sdc1d_params.specs.declared.Copied.TheVariants as copied
+use Rattle.statements.specs.Layout.{row_word, row_number, word_in}
+use Rattle.statements.specs.declared.grammar.Kind.{Kind}
+use Rattle.statements.specs.declared.grammar.Kind.TheVariants as kind
+use Rattle.statements.specs.declared.statement.Row.{Row}
 use Rattle.statements.specs.declared.words.Word.{Word}
-use Rattle.sheet.specs.Rows.{first_of, word_of, number_of}
+use Rattle.sheet.specs.Rows.{first_of}
 use Rattle.sheet.specs.Faults.{same_word}
 use Rattle.sheet.specs.declared.once.Ambient.{Ambient}
-use Rattle.sheet.specs.declared.once.Ambient.TheVariants.{Kelvin, Given, Missing}
+use Rattle.sheet.specs.declared.once.Ambient.TheVariants.{Kelvin, Given}
+use Rattle.sheet.specs.declared.rows.Group.{Group}
+use Rattle.sheet.specs.declared.rows.Group.TheVariants as group
 
 -- number j of the first row of a group, 0.0 where there is none
-unfoldable pub number_once : ℕ → List ℕ → List Float → ℕ → Float
-number_once group kinds numbers j = cond (ltb (first_of group kinds) (length kinds)) (number_of numbers (first_of group kinds) j) zero
+abbrev pub number_once : Group → List Row → ℕ → Float
+number_once group rows j = row_number (first_of group rows) j
 
--- the ambient: kelvin, or RT, strand excess and scaffold excess
-unfoldable pub ambient_of : List ℕ → List Float → Ambient
-ambient_of kinds numbers =
-    cond (ltb (first_of kelvin kinds) (length kinds))
-    (cond (eqb (get_or kinds (first_of kelvin kinds) 0) kelvin) (Kelvin (number_of numbers (first_of kelvin kinds) 0))
-    (Given (number_of numbers (first_of kelvin kinds) 0) (number_of numbers (first_of kelvin kinds) 1) (number_of numbers (first_of kelvin kinds) 2)))
-    Missing
+-- the ambient of a row by its kind: kelvin, or RT, strand excess and scaffold excess
+abbrev pub ambient_by : Kind → Row → Ambient
+ambient_by kind.Kelvin row = Kelvin (row_number (Some row) 0)
+ambient_by other row = Given (row_number (Some row) 0) (row_number (Some row) 1) (row_number (Some row) 2)
+
+-- of a row that may be there
+abbrev pub ambient_in : Option Row → Option Ambient
+ambient_in None = None
+ambient_in (Some row) = Some (ambient_by row.kind row)
+
+-- the ambient
+abbrev pub ambient_of : List Row → Option Ambient
+ambient_of rows = ambient_in (first_of group.Ambient rows)
 
 -- a strand's row has a word for its name
-abbrev pub is_named : List ℕ → List ℕ → Word → ℕ → Bool
-is_named text words name row = same_word text name (word_of words row 0)
+abbrev pub is_named : List ℕ → List Row → Word → ℕ → Bool
+is_named text rows name row = same_word text name (word_in rows row 0)
 
 -- the number of the strand with a name, among the strands' rows: they count from 1, and it is 0 where none has the name
-unfoldable pub strand_named : List ℕ → List ℕ → List ℕ → Word → ℕ
-strand_named text words rows name =
-    cond (ltb (first_index (is_named text words name) rows) (length rows)) (suc (first_index (is_named text words name) rows)) 0
+unfoldable pub strand_named : List ℕ → List Row → List ℕ → Word → ℕ
+strand_named text rows chosen name =
+    cond (ltb (first_index (is_named text rows name) chosen) (length chosen)) (suc (first_index (is_named text rows name) chosen)) 0
 
 -- whose glues one with this word for its strand copies; `-` is a word of size 0
-abbrev pub copied_from : List ℕ → List ℕ → List ℕ → Word → Copied
-copied_from text words rows name = cond (eqb name.size 0) Nothing (Strand (strand_named text words rows name))
+abbrev pub copied_from : List ℕ → List Row → List ℕ → Word → Copied
+copied_from text rows chosen name = cond (eqb name.size 0) copied.Nothing (copied.Strand (strand_named text rows chosen name))
+
+-- of a row that may be there
+abbrev pub copied_in : List ℕ → List Row → List ℕ → Option Row → Copied
+copied_in text rows chosen None = copied.Nothing
+copied_in text rows chosen (Some row) = copied_from text rows chosen (row_word (Some row) 0)
 
 -- whose glues the quencher or the reporter copies: nobody's where the statement is missing, or has `-` for its strand
-unfoldable pub copied_of : ℕ → List ℕ → List ℕ → List ℕ → List ℕ → Copied
-copied_of group text kinds words rows =
-    cond (ltb (first_of group kinds) (length kinds)) (copied_from text words rows (word_of words (first_of group kinds) 0)) Nothing
+abbrev pub copied_of : Group → List ℕ → List Row → List ℕ → Copied
+copied_of group text rows chosen = copied_in text rows chosen (first_of group rows)

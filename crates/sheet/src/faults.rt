@@ -1,161 +1,111 @@
 // What is wrong with a file whose every line can be read.
-ghost use Rattle.std.specs.Prelude.{◌≡◌, ◌<◌, length};
+ghost use Rattle.std.specs.Prelude.{◌≡◌};
 ghost use Rattle.statements.specs.Words.{spelled};
-ghost use Rattle.sheet.specs.Faults.{limit_of, is_over, same_word, has_name, is_name_twice, first_faulty, fault_at, sheet_answer};
+ghost use Rattle.sheet.specs.Faults.{limit_of, same_word, has_name, is_name_twice, fault_of, sheet_answer};
 
-use crate::rows::{count_before, first_of, group_of, word_of};
-use sdc_common::names::same_bytes;
-use statements::grammar::{ENERGY_GIVEN, KELVIN, POSITION, STRAND};
-use statements::words::{Word, place_at};
+use crate::rows::{Group, count_of, first_of};
+use statements::statement::Row;
+use statements::words::Word;
 
-// The most user strands.
-const MOST_STRANDS: usize = 61;
-
-// The most positions.
-const MOST_POSITIONS: usize = 128;
-
-// The most energy entries.
-const MOST_ENTRIES: usize = 1024;
-
-// What is wrong with a file's rows, or how many strands, positions and entries there are.
-#[derive(Clone, Copy)]
-pub enum SheetAnswer {
-    // Nothing is wrong: how many strands, positions and entries there are.
-    Whole(usize, usize, usize),
+// What is wrong with a file's rows.
+#[derive(Clone, Copy, PartialEq, Eq)]
+pub enum SheetFault {
     // The line, and the name, of a strand that has the name of one before it.
     NameTwice(usize, Word),
-    // The line with what may be given once and was given before, and the group of its kind: KELVIN for either way to give the ambient.
-    GivenTwice(usize, u8),
-    // The line with the first strand, position or entry above the limit, and the group of its kind: ENERGY_GIVEN for any entry.
-    TooMany(usize, u8),
+    // The line with what may be given once and was given before, and its group.
+    GivenTwice(usize, Group),
+    // The line with the first strand, position or entry above the limit, and its group.
+    TooMany(usize, Group),
     // The ambient is given nowhere.
     NoAmbient,
 }
 
-// How many rows of a group there may be.
-fn limit_of(group: u8) -> usize
-    ensures { result ≡ limit_of group }
-{
-    if group == STRAND {
-        return MOST_STRANDS;
-    }
-    if group == POSITION {
-        return MOST_POSITIONS;
-    }
-    if group == ENERGY_GIVEN {
-        return MOST_ENTRIES;
-    }
-    1
+// How many strands, positions and entries a file has.
+#[derive(Clone, Copy, PartialEq, Eq)]
+pub struct Counts {
+    pub strands: usize,
+    pub positions: usize,
+    pub entries: usize,
 }
 
-// Whether before row i there are as many of its group as there may be.
-fn is_over(kinds: &[u8], i: usize) -> bool
-    requires { i < length kinds.now }
-    ensures { result ≡ is_over kinds.now i }
+// How many rows of a group there may be.
+fn limit_of(group: Group) -> usize
+    ensures { result ≡ limit_of group }
 {
-    let group = group_of(kinds[i]);
-    limit_of(group) <= count_before(kinds, group, i)
+    match group {
+        Group::Strand => 61,
+        Group::Position => 128,
+        Group::Entry => 1024,
+        _ => 1,
+    }
 }
 
 // The bytes of a word, as far as they stand in the text.
+#[tactic(auto, unfolding(statements::specs::Words::spelled))]
 fn bytes(text: &[u8], word: Word) -> &[u8]
     ensures { result.now ≡ spelled text.now word }
 {
-    let start = word.start;
-    if text.len() < start {
-        return &text[0..0];
-    }
-    if text.len() - start < word.size {
-        return &text[start..text.len()];
-    }
-    let end = start + word.size;
-    &text[start..end]
+    let rest = text.get(word.start..).unwrap_or(&[]);
+    rest.get(..word.size).unwrap_or(rest)
 }
 
 // Whether two words of the text have the same bytes.
 pub(crate) fn same_word(text: &[u8], a: Word, b: Word) -> bool
     ensures { result ≡ same_word text.now a b }
 {
-    same_bytes(bytes(text, a), bytes(text, b))
+    bytes(text, a) == bytes(text, b)
 }
 
-// Whether row j is a strand with a name.
-fn has_name(text: &[u8], kinds: &[u8], words: &[usize], name: Word, j: usize) -> bool
-    requires { j < length kinds.now }
-    ensures { result ≡ has_name text.now kinds.now words.now name j }
+// Whether a row is a strand with a name.
+fn has_name(text: &[u8], name: Word, row: &Row) -> bool
+    ensures { result ≡ has_name text.now name row.now }
 {
-    if group_of(kinds[j]) != STRAND {
-        return false;
-    }
-    same_word(text, name, word_of(words, j, 0))
+    Group::from(row.kind) == Group::Strand && same_word(text, name, row.words[0])
 }
 
-// Whether row i is a strand with the name of one before it.
-fn is_name_twice(text: &[u8], kinds: &[u8], words: &[usize], i: usize) -> bool
-    requires { i < length kinds.now }
-    ensures { result ≡ is_name_twice text.now kinds.now words.now i }
+// Whether a row is a strand with the name of one before it.
+#[tactic(auto, unfolding(crate::specs::Faults::is_name_twice))]
+fn is_name_twice(text: &[u8], before: &[Row], row: &Row) -> bool
+    ensures { result ≡ is_name_twice text.now before.now row.now }
 {
-    if group_of(kinds[i]) != STRAND {
-        return false;
-    }
-    let name = word_of(words, i, 0);
-    let mut j = 0;
-    while j < i {
-        if has_name(text, kinds, words, name, j) {
-            return true;
-        }
-        j += 1;
-    }
-    false
+    Group::from(row.kind) == Group::Strand
+        && before
+            .iter()
+            .any(|other| has_name(text, row.words[0], other))
 }
 
-// The first row at fault, or the number of rows.
-fn first_faulty(text: &[u8], kinds: &[u8], words: &[usize]) -> usize
-    ensures { result ≡ first_faulty text.now kinds.now words.now }
+// What is wrong with a row that comes after others.
+#[tactic(auto, unfolding(crate::specs::Faults::fault_of))]
+fn check_row(text: &[u8], before: &[Row], row: &Row) -> Result<(), SheetFault>
+    ensures { result ≡ fault_of text.now before.now row.now }
 {
-    let mut i = 0;
-    while i < kinds.len() {
-        if is_name_twice(text, kinds, words, i) {
-            return i;
-        }
-        if is_over(kinds, i) {
-            return i;
-        }
-        i += 1;
+    if is_name_twice(text, before, row) {
+        return Err(SheetFault::NameTwice(row.line, row.words[0]));
     }
-    i
+    let group = Group::from(row.kind);
+    let limit = limit_of(group);
+    if count_of(before, group) < limit {
+        Ok(())
+    } else if limit == 1 {
+        Err(SheetFault::GivenTwice(row.line, group))
+    } else {
+        Err(SheetFault::TooMany(row.line, group))
+    }
 }
 
-// What is told of row i, which is at fault.
-fn fault_at(text: &[u8], kinds: &[u8], lines: &[usize], words: &[usize], i: usize) -> SheetAnswer
-    requires { i < length kinds.now }
-    ensures { result ≡ fault_at text.now kinds.now lines.now words.now i }
+// What is wrong with the rows of a text, or how much there is to gather.
+pub fn check(text: &[u8], rows: &[Row]) -> Result<Counts, SheetFault>
+    ensures { result ≡ sheet_answer text.now rows.now }
 {
-    let line = place_at(lines, i);
-    if is_name_twice(text, kinds, words, i) {
-        return SheetAnswer::NameTwice(line, word_of(words, i, 0));
+    for (i, row) in rows.iter().enumerate() {
+        check_row(text, &rows[..i], row)?;
     }
-    let group = group_of(kinds[i]);
-    if limit_of(group) == 1 {
-        return SheetAnswer::GivenTwice(line, group);
+    if first_of(rows, Group::Ambient).is_none() {
+        return Err(SheetFault::NoAmbient);
     }
-    SheetAnswer::TooMany(line, group)
-}
-
-// What is wrong with the rows of a text, or how much there is to gather. The slices hold the rows and nothing after them.
-pub fn check(text: &[u8], kinds: &[u8], lines: &[usize], words: &[usize]) -> SheetAnswer
-    ensures { result ≡ sheet_answer text.now kinds.now lines.now words.now }
-{
-    let i = first_faulty(text, kinds, words);
-    if i < kinds.len() {
-        return fault_at(text, kinds, lines, words, i);
-    }
-    if first_of(kinds, KELVIN) < kinds.len() {
-        return SheetAnswer::Whole(
-            count_before(kinds, STRAND, kinds.len()),
-            count_before(kinds, POSITION, kinds.len()),
-            count_before(kinds, ENERGY_GIVEN, kinds.len()),
-        );
-    }
-    SheetAnswer::NoAmbient
+    Ok(Counts {
+        strands: count_of(rows, Group::Strand),
+        positions: count_of(rows, Group::Position),
+        entries: count_of(rows, Group::Entry),
+    })
 }

@@ -1,137 +1,106 @@
-// Rows by their kind, and what stands in a row.
-ghost use Rattle.std.specs.Prelude.{◌≡◌, ◌<◌, ◌≤◌, length};
-ghost use Rattle.sheet.specs.Rows.{group_of, rows_before, first_of, laid, word_of, number_of, word_among, number_among, kind_among};
+// Rows by what they stand for, and what stands in a row.
+ghost use Rattle.std.specs.Prelude.{◌≡◌, ◌<◌, length};
+ghost use Rattle.std.specs.Option.{option_copied};
+ghost use Rattle.statements.specs.Layout.{word_in};
+ghost use Rattle.sheet.specs.Rows.{group_of, count_of, first_of, laid, row_among, word_among, number_among, kind_among};
 
-use statements::grammar::{AMBIENT, BLOCKED, ENERGY_GIVEN, KELVIN, PENALTY, POSITION};
-use statements::words::{Word, place_at};
+use statements::grammar::Kind;
+use statements::statement::Row;
+use statements::words::Word;
 
-// The lowest kind that stands for the same thing: the ambient, a position, or an entry.
-pub(crate) fn group_of(kind: u8) -> u8
-    ensures { result ≡ group_of kind }
-{
-    if kind == AMBIENT {
-        return KELVIN;
-    }
-    if kind == BLOCKED {
-        return POSITION;
-    }
-    if kind <= ENERGY_GIVEN {
-        return kind;
-    }
-    if kind < PENALTY {
-        return ENERGY_GIVEN;
-    }
-    kind
+// What a row stands for. The two ways to give the ambient are of one group, and so are open and blocked positions, and the four kinds of entries.
+#[derive(Clone, Copy, PartialEq, Eq)]
+pub enum Group {
+    Ambient,
+    Strand,
+    Quencher,
+    Reporter,
+    Position,
+    Entry,
+    Penalty,
 }
 
-// How many rows before `end` are of a group.
-pub(crate) fn count_before(kinds: &[u8], group: u8, end: usize) -> usize
-    requires { end ≤ length kinds.now }
-    ensures { result ≡ length (rows_before group kinds.now end) }
+impl From<Kind> for Group {
+    ghost from_gives = { λ kind group. group ≡ group_of kind };
+
+    fn from(kind: Kind) -> Self {
+        match kind {
+            Kind::Kelvin | Kind::Ambient => Group::Ambient,
+            Kind::Strand => Group::Strand,
+            Kind::Quencher => Group::Quencher,
+            Kind::Reporter => Group::Reporter,
+            Kind::Position | Kind::Blocked => Group::Position,
+            Kind::EnergyGiven | Kind::EnergySequence | Kind::PairGiven | Kind::PairSequence =>
+                Group::Entry,
+            Kind::Penalty => Group::Penalty,
+        }
+    }
+}
+
+// How many rows are of a group.
+pub(crate) fn count_of(rows: &[Row], group: Group) -> usize
+    ensures { result ≡ count_of group rows.now }
+{
+    rows.iter()
+        .filter(|row| Group::from(row.kind) == group)
+        .count()
+}
+
+// The first row of a group.
+pub(crate) fn first_of(rows: &[Row], group: Group) -> Option<&Row>
+    ensures { option_copied result ≡ first_of group rows.now }
+{
+    rows.iter().find(|row| Group::from(row.kind) == group)
+}
+
+// The places of a group's rows, in order, into a slice as long as there are.
+pub fn rows_of(rows: &[Row], group: Group, chosen: &mut [usize])
+    ensures { chosen.new ≡ laid group rows.now chosen.old }
 {
     let mut n = 0;
-    let mut i = 0;
-    while i < end {
-        if group_of(kinds[i]) == group {
+    for (i, row) in rows.iter().enumerate() {
+        if n < chosen.len() && Group::from(row.kind) == group {
+            chosen[n] = i;
             n += 1;
         }
-        i += 1;
-    }
-    n
-}
-
-// The first row of a group, or the number of rows.
-pub(crate) fn first_of(kinds: &[u8], group: u8) -> usize
-    ensures { result ≡ first_of group kinds.now }
-{
-    let mut i = 0;
-    while i < kinds.len() {
-        if group_of(kinds[i]) == group {
-            return i;
-        }
-        i += 1;
-    }
-    i
-}
-
-// The rows of a group, in order, into a slice as long as there are: STRAND, POSITION for open and blocked ones, or ENERGY_GIVEN for all entries.
-pub fn rows_of(kinds: &[u8], group: u8, rows: &mut [usize])
-    ensures { rows.new ≡ laid group kinds.now rows.old }
-{
-    let mut n = 0;
-    let mut i = 0;
-    while i < kinds.len() && n < rows.len() {
-        if group_of(kinds[i]) == group {
-            rows[n] = i;
-            n += 1;
-        }
-        i += 1;
     }
 }
 
 // Word j of a row; a size of 0 where there is none.
-pub fn word_of(words: &[usize], row: usize, j: usize) -> Word
-    ensures { result ≡ word_of words.now row j }
+pub fn word_of(rows: &[Row], row: usize, j: usize) -> Word
+    ensures { result ≡ word_in rows.now row j }
 {
-    if words.len() / 8 < row {
-        return Word { start: 0, size: 0 };
-    }
-    if words.len() / 2 < j {
-        return Word { start: 0, size: 0 };
-    }
-    let at = 8 * row + 2 * j;
-    Word {
-        start: place_at(words, at),
-        size: place_at(words, at + 1),
-    }
+    rows.get(row)
+        .and_then(|row| row.words.get(j).copied())
+        .unwrap_or_default()
 }
 
-// Number j of a row; 0.0 where there is none.
-pub(crate) fn number_of(numbers: &[f64], row: usize, j: usize) -> f64
+// Row k of a list of rows.
+fn row_among<'a>(rows: &'a [Row], chosen: &[usize], k: usize) -> Option<&'a Row>
+    ensures { option_copied result ≡ row_among rows.now chosen.now k }
+{
+    rows.get(*chosen.get(k)?)
+}
+
+// Its word j; a size of 0 where there is none.
+pub(crate) fn word_among(rows: &[Row], chosen: &[usize], k: usize, j: usize) -> Word
+    requires { j < 4 }
+    ensures { result ≡ word_among rows.now chosen.now k j }
+{
+    row_among(rows, chosen, k).map_or(Word { start: 0, size: 0 }, |row| row.words[j])
+}
+
+// Its number j; 0.0 where there is none.
+pub(crate) fn number_among(rows: &[Row], chosen: &[usize], k: usize, j: usize) -> f64
     requires { j < 3 }
-    ensures { result ≡ number_of numbers.now row j }
+    ensures { result ≡ number_among rows.now chosen.now k j }
 {
-    if numbers.len() / 3 < row {
-        return 0.0;
-    }
-    let at = 3 * row + j;
-    if numbers.len() <= at {
-        return 0.0;
-    }
-    numbers[at]
+    row_among(rows, chosen, k).map_or(0.0, |row| row.numbers[j])
 }
 
-// Word j of row k of a list of rows.
-pub(crate) fn word_among(words: &[usize], rows: &[usize], k: usize, j: usize) -> Word
-    ensures { result ≡ word_among words.now rows.now k j }
+// Its kind.
+pub(crate) fn kind_among(rows: &[Row], chosen: &[usize], k: usize) -> Option<Kind>
+    ensures { result ≡ kind_among rows.now chosen.now k }
 {
-    if rows.len() <= k {
-        return Word { start: 0, size: 0 };
-    }
-    word_of(words, rows[k], j)
-}
-
-// Number j of row k of a list of rows.
-pub(crate) fn number_among(numbers: &[f64], rows: &[usize], k: usize, j: usize) -> f64
-    requires { j < 3 }
-    ensures { result ≡ number_among numbers.now rows.now k j }
-{
-    if rows.len() <= k {
-        return 0.0;
-    }
-    number_of(numbers, rows[k], j)
-}
-
-// The kind of row k of a list of rows; 0, which is no entry, past its end.
-pub(crate) fn kind_among(kinds: &[u8], rows: &[usize], k: usize) -> u8
-    ensures { result ≡ kind_among kinds.now rows.now k }
-{
-    if rows.len() <= k {
-        return 0;
-    }
-    let row = rows[k];
-    if kinds.len() <= row {
-        return 0;
-    }
-    kinds[row]
+    row_among(rows, chosen, k).map(|row| row.kind)
 }

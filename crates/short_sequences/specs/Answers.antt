@@ -1,13 +1,11 @@
 -- What the call answers at a rank, and what the lent bytes then hold.
-use Rattle.std.specs.Prelude.{Bool, not, List, [], ◌∷◌, ℕ, eqb, leb, length}
+use Rattle.std.specs.Prelude.{Bool, not, List, [], ◌∷◌, ℕ, eqb, leb, length, None, Result, Ok, Err}
 use Rattle.lists.specs.Front.{over}
 use Rattle.reply.specs.First.{Check, ◌if◌, first_of}
 use Rattle.reply.specs.Figures.{Figures, given, refused_with, figures_of, entries_of}
-use Rattle.reply.specs.declared.Place.TheVariants.{Nowhere}
+use Rattle.reply.specs.declared.Refusal.{Refusal}
 use Rattle.reply.specs.declared.Refusal.TheVariants.{WrongSize, RankTooHigh}
 use Rattle.short_sequences.specs.Sequences.{sequence_count, sequence_at}
-use Rattle.short_sequences.specs.declared.SequenceAnswer.{SequenceAnswer}
-use Rattle.short_sequences.specs.declared.SequenceAnswer.TheVariants.{Bases, Refused}
 
 -- the longest has 8 bases, and so many bytes are lent
 abbrev pub wrong_size : List ℕ → Bool
@@ -30,6 +28,6 @@ unfoldable pub sequence_bytes : ℕ → List ℕ → List ℕ
 sequence_bytes rank bytes = entries_of (first_of (sequence_checks rank bytes)) bytes (over (sequence_at rank) bytes)
 
 -- an answer of the code as its number and figure
-abbrev pub sequence_figures : SequenceAnswer → Figures ℕ
-sequence_figures (Bases bases) = given bases
-sequence_figures (Refused refusal) = refused_with 0 refusal Nowhere
+abbrev pub sequence_figures : Result ℕ Refusal → Figures ℕ
+sequence_figures (Ok bases) = given bases
+sequence_figures (Err refusal) = refused_with 0 refusal None

@@ -1,9 +1,8 @@
 -- What is lent beside a design and has its sizes is what the pass relies on. Assumes nothing.
-use mathlib.Core.Path.{◌≡◌, sym}
+use mathlib.Core.Path.{◌≡◌}
 use mathlib.Core.Bool.{Bool, false, not, ◌||◌}
 use mathlib.Core.List.{List}
-use Prim.Native.Nat.{ℕ, ◌+◌, ◌-◌, ◌*◌, ◌≤◌}
-use native.Mathlib.Nat.{le_of_eq}
+use Prim.Native.Nat.{ℕ, ◌+◌, ◌-◌, ◌≤◌}
 use native.Mathlib.Omega.{arith}
 use lib.Dec.{ltb, eqb}
 use lib.IntN.{ℤ}
@@ -14,30 +13,13 @@ use Rattle.lists.specs.Find.{any}
 use Rattle.lists.proofs.Tests.{neither}
 use Rattle.lists.proofs.Any.{none_below}
 use Rattle.partition.specs.Weights.{Weights}
-use Rattle.partition_sums.specs.Layout.{Celled, Listed}
-use Rattle.state_sums.specs.Sizes.{Lists, wrong_cells, list_out, wrong_lists}
+use Rattle.partition_sums.specs.Layout.{Listed}
+use Rattle.state_sums.specs.Sizes.{Lists, list_out, wrong_lists}
 
 -- the weights of so many strands
 abbrev pub weights : ℕ → List ℕ → List ℤ → List ℕ → List ℤ → Weights
 weights strands place_digits place_powers pair_digits pair_powers =
     record { strands = strands; place_digits = place_digits; place_powers = place_powers; pair_digits = pair_digits; pair_powers = pair_powers }
-
-pub cells-celled : (n : ℕ) (w : Weights) → wrong_cells n w ≡ false → Celled n w
-cells-celled n w e =
-    let a = neither (not (eqb (length w.place_digits) (n * w.strands))) (not (eqb (length w.place_powers) (n * w.strands)) || (not (eqb (length w.pair_digits) (w.strands * w.strands)) || not (eqb (length w.pair_powers) (w.strands * w.strands)))) e in
-    let b = neither (not (eqb (length w.place_powers) (n * w.strands))) (not (eqb (length w.pair_digits) (w.strands * w.strands)) || not (eqb (length w.pair_powers) (w.strands * w.strands))) a.1 in
-    let c = neither (not (eqb (length w.pair_digits) (w.strands * w.strands))) (not (eqb (length w.pair_powers) (w.strands * w.strands))) b.1 in
-    record {
-      place-digits = le_of_eq (sym (eqb-true _ _ (not-false _ a.0)));
-      place-powers = le_of_eq (sym (eqb-true _ _ (not-false _ b.0)));
-      pair-digits = le_of_eq (sym (eqb-true _ _ (not-false _ c.0)));
-      pair-powers = le_of_eq (sym (eqb-true _ _ (not-false _ c.1)));
-    }
-
--- what the test of the sizes says, where the first three fit
-pub cells_told : (n : ℕ) (w : Weights) {b : Bool} → length w.place_digits ≡ n * w.strands → length w.place_powers ≡ n * w.strands → length w.pair_digits ≡ w.strands * w.strands
-    → b ≡ not (eqb (length w.pair_powers) (w.strands * w.strands)) → b ≡ wrong_cells n w
-cells_told n w p q r e = rw (eq-eqb (length w.place_digits) (n * w.strands) p, eq-eqb (length w.place_powers) (n * w.strands) q, eq-eqb (length w.pair_digits) (w.strands * w.strands) r) e
 
 list_inside : (many start size : ℕ) → (ltb many start || ltb (many - start) size) ≡ false → start + size ≤ many
 list_inside many start size e =
@@ -57,7 +39,7 @@ lists-listed n l e =
       within = λ i h. list_inside (length l.numbers) (get_or l.starts i 0) (get_or l.lengths i 0) (none_below (list_out l) n b.1 i h);
     }
 
--- what the lists' loop says, where there is one for each position
+-- what the search over the lists says, where there is one for each position
 pub lists-told : (n : ℕ) (l : Lists) {b : Bool} → length l.starts ≡ n → length l.lengths ≡ n → b ≡ any (list_out l) (up_to n) → b ≡ wrong_lists n l
 unfolding wrong_lists
 lists-told n l s t e = rw (eq-eqb (length l.starts) n s, eq-eqb (length l.lengths) n t) e

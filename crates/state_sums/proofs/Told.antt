@@ -7,46 +7,46 @@ use native.Mathlib.Decide.{dec_le}
 use native.Mathlib.Nat.{lt_of_not-le, not-suc-le-zero}
 use native.Mathlib.Omega.{arith}
 use lib.ListN.{length, get_or}
-use borrow.Author.Tests.{eq-eqb, ne_eqb, eqb-false}
+use borrow.Author.Tests.{eqb-false}
 use Rattle.lists.specs.Build.{tabulate}
 use Rattle.lists.proofs.Build.{length-tabulate, get_or-tabulate}
 use Rattle.lists.proofs.Tests.{neither}
-use Rattle.reply.specs.First.{Check, first_of, ◌if◌, ◌or_else◌}
-use Rattle.reply.specs.Figures.{Figures, given, refused_with, figures_of}
+use Rattle.reply.specs.First.{Check, first_of, ◌if◌, ◌or_else◌, bare, nowhere, refused_if}
+use Rattle.reply.specs.Figures.{Figures, given, figures_of}
 use Rattle.reply.specs.declared.Refusal.{Refusal}
-use Rattle.reply.specs.declared.Refusal.TheVariants.{BareScaffold, WeightOut}
-use Rattle.reply.specs.declared.Place.{Place}
-use Rattle.reply.specs.declared.Place.TheVariants.{Nowhere}
-use Rattle.reply.specs.declared.Reply.{Reply}
+use Rattle.reply.specs.declared.Refused.{Refused}
+use Rattle.reply.specs.declared.Refusal.TheVariants.{WeightOut}
 use Rattle.reply.proofs.First.{none-holds, reply-append}
 use Rattle.reply.proofs.Figures.{refused-by, number-admitted}
 use Rattle.fractions.specs.declared.Weight.{Weight}
 use Rattle.model.specs.Model as Model
 use Rattle.ensemble.specs.Layout.{OptionRows}
 use Rattle.design.specs.Design.{Design, positions, strands, blocked_at, scaffold_glue, friends_to, friends_of, model_of}
-use Rattle.design.specs.Checks.{TablesPass, sizes_out, design_checks}
+use Rattle.design.specs.Checks.{Admitted, TablesPass, sizes_out, design_checks}
 use Rattle.design.proofs.Sizes.{sized}
 use Rattle.design.proofs.Cells.{null-nowhere}
 use Rattle.design.proofs.Optioned.{friends-few}
-use Rattle.design.proofs.Replies.{Passed, passed, tables-of}
+use Rattle.design.proofs.Replies.{passed, bare-false, tables-of}
 use Rattle.partition.specs.Sum.{zero_weight}
 use Rattle.partition.specs.Constraint.{list_at, lists_of}
 use Rattle.partition.specs.Weights.{Weights, weights_out}
 use Rattle.partition.specs.Summed.{free_figure, constrained_figure}
 use Rattle.partition.specs.Laws.{Sums}
-use Rattle.partition.proofs.Sums.{sums-of-models}
+use Rattle.partition.specs.inner.Used.{InUse}
+use Rattle.partition.proofs.Sums.{in_use, sums-of-models}
+use Rattle.partition_sums.specs.Layout.{Listed, options_in, friends_in}
+use Rattle.partition_sums.proofs.Options.{friends-in, options-in}
 use Rattle.state_sums.specs.Sizes.{Lists, wrong_cells, wrong_lists}
-use Rattle.state_sums.specs.Answers.{own_sum_checks, free_checks, constrained_checks, constraint_of, free_answer, constrained_answer, FreeShown, ConstrainedShown}
+use Rattle.state_sums.specs.Answers.{own_sum_checks, free_checks, constrained_checks, constraint_of, free_answer, constrained_answer, sum_figures, FreeShown, ConstrainedShown}
 use Rattle.state_sums.proofs.Lent.{lists-listed}
+use Rattle.state_sums.specs.inner.Weighed.{weighed_free, weighed_constrained}
+use Rattle.std.specs.Prelude.{None, Result, Ok, Err, IsErrAnd}
+use Rattle.std.proofs.lemmas.Result.{err_from_is_err_and}
+use Rattle.reply.specs.Number.{Reply}
 
 pub positive : (n : ℕ) → (n ≡ 0 → ⊥) → 0 < n
 positive zero f = absurd (f refl)
 positive (suc n) f = omega arith
-
--- the options have a row for each position
-pub placed : (d : Design) {rows counts : List ℕ} → OptionRows (model_of d) rows counts → length counts ≡ positions d
-unfolding model_of
-placed d o = o.positions ∙ length-tabulate (positions d) (friends_of d)
 
 -- ---- the reply
 
@@ -65,38 +65,41 @@ same_size : (a b s : Bool) → (s ≡ false → a ≡ b) → (a || s) ≡ (b || 
 same_size a b true h = or-true a b true refl
 same_size a b false h = ap (λ (t : Bool). t || false) (h refl)
 
-module _ (d : Design) (w : Weights) (size : Bool) (figure : Weight) {a : Bool} {reply : Reply} (same : sizes_out d ≡ false → a ≡ size) (r : reply ≡ first_of (design_checks a d [] [])) where
-  design-replied : {s : Reply} → reply ≡ s → first_of (design_checks size d [] []) ≡ s
-  design-replied e = rw (← same_size a size (sizes_out d) same) (sym r ∙ e)
+-- a refusal of the design's checks is the answer
+module _ (d : Design) (w : Weights) (size : Bool) (figure : Weight) {a : Bool} {e : Refused} (same : sizes_out d ≡ false → a ≡ size) (r : first_of (design_checks a d [] []) ≡ Err e) where
+  design-replied : first_of (design_checks size d [] []) ≡ Err e
+  design-replied = rw (← same_size a size (sizes_out d) same) r
 
-  pub sum-refused : {x : Refusal} {p : Place} → reply ≡ Reply.Refused x p → refused_with zero_weight x p ≡ figures_of (first_of (design_checks size d [] (own_sum_checks d w))) zero_weight figure
-  sum-refused e = refused-by zero_weight figure (after-design size d (own_sum_checks d w) (design-replied e))
+  pub sum-refused : (told : Result Weight Refused) → IsErrAnd told (λ (x : Refused). x ≡ e) → sum_figures told ≡ figures_of (first_of (design_checks size d [] (own_sum_checks d w))) zero_weight figure
+  sum-refused told h = let p = err_from_is_err_and told h in rw (p.1, p.2) (refused-by zero_weight figure (after-design size d (own_sum_checks d w) design-replied))
 
-  pub sum-passed : reply ≡ Reply.Admitted → Passed size d [] []
-  sum-passed e = passed size d [] [] (design-replied e)
+-- ---- the check of the weights, over the options that are lent
 
-  own-replied : reply ≡ Reply.Admitted → first_of (design_checks size d [] (own_sum_checks d w)) ≡ first_of (own_sum_checks d w)
-  own-replied e = after-design size d (own_sum_checks d w) (design-replied e)
+bare-true : (holds : Bool) {x y : Refusal} → ◌≡◌ {A = Result Unit Refusal} (Err y) (bare (refused_if holds x None (Ok tt))) → (holds ≡ true) × (y ≡ x)
+bare-true true told = (refl, cc)
+bare-true false told = cc
 
-  pub sum-bare : reply ≡ Reply.Admitted → positions d ≡ 0 → refused_with zero_weight BareScaffold Nowhere ≡ figures_of (first_of (design_checks size d [] (own_sum_checks d w))) zero_weight figure
-  sum-bare e none = refused-by zero_weight figure (own-replied e ∙ bare (eq-eqb _ _ none))
-    where
-      bare : {b : Bool} → b ≡ true → first_of (BareScaffold if b ∷ WeightOut if weights_out (model_of d).friends w ∷ []) ≡ Reply.Refused BareScaffold Nowhere
-      bare h = rw h refl
+module _ (d : Design) (w : Weights) (figure : Weight) {rows counts : List ℕ} {out : Bool} (options : OptionRows (model_of d) rows counts) (looked : out ≡ weights_out (friends_in rows counts) w) where
+  weights-told : out ≡ weights_out (model_of d).friends w
+  weights-told = looked ∙ ap (λ (friends : List (List ℕ)). weights_out friends w) (friends-in options)
 
-  pub sum-weighed : {f : Figures Weight} → reply ≡ Reply.Admitted → (positions d ≡ 0 → ⊥) → f ≡ figures_of (first_of (WeightOut if weights_out (model_of d).friends w ∷ [])) zero_weight figure
-      → f ≡ figures_of (first_of (design_checks size d [] (own_sum_checks d w))) zero_weight figure
-  sum-weighed e some h = h ∙ ap (λ (t : Reply). figures_of t zero_weight figure) (sym (own-replied e ∙ weighed (ne_eqb _ _ some)))
-    where
-      weighed : {b : Bool} → b ≡ false → first_of (BareScaffold if b ∷ WeightOut if weights_out (model_of d).friends w ∷ []) ≡ first_of (WeightOut if weights_out (model_of d).friends w ∷ [])
-      weighed h = rw h refl
+  -- a refusal of it is the answer
+  pub weighed-refused : {x : Refusal} → ◌≡◌ {A = Result Unit Refusal} (Err x) (bare (refused_if out WeightOut None (Ok tt))) → (told : Result Weight Refused) → IsErrAnd told (λ (e : Refused). e ≡ nowhere x)
+      → sum_figures told ≡ figures_of (first_of (WeightOut if weights_out (model_of d).friends w ∷ [])) zero_weight figure
+  weighed-refused e told h =
+      let b = bare-true out e in
+      let p = err_from_is_err_and told h in
+      rw (p.1, p.2, b.1, sym weights-told ∙ b.0) refl
 
-module _ (d : Design) (w : Weights) (figure : Weight) where
-  pub weighed-refused : weights_out (model_of d).friends w ≡ true → refused_with zero_weight WeightOut Nowhere ≡ figures_of (first_of (WeightOut if weights_out (model_of d).friends w ∷ [])) zero_weight figure
-  weighed-refused e = rw e refl
+  module _ (e : ◌≡◌ {A = Result Unit Refusal} (Ok tt) (bare (refused_if out WeightOut None (Ok tt)))) where
+    none-out : weights_out (model_of d).friends w ≡ false
+    none-out = sym weights-told ∙ bare-false out WeightOut e
 
-  pub weighed-given : {sum : Weight} → weights_out (model_of d).friends w ≡ false → sum ≡ figure → given sum ≡ figures_of (first_of (WeightOut if weights_out (model_of d).friends w ∷ [])) zero_weight figure
-  weighed-given e f = rw e (ap given f)
+    pub weighed-used : InUse w 0 (options_in rows counts)
+    weighed-used = subst (InUse w 0) (sym (options-in options)) (in_use w (model_of d).friends none-out)
+
+    pub weighed-given : {sum : Weight} → sum ≡ figure → given sum ≡ figures_of (first_of (WeightOut if weights_out (model_of d).friends w ∷ [])) zero_weight figure
+    weighed-given f = rw none-out (ap given f)
 
 -- ---- the figure
 
@@ -130,35 +133,49 @@ model-positions : (d : Design) → Model.positions (model_of d) ≡ positions d
 unfolding model_of
 model-positions d = length-tabulate (positions d) (friends_of d)
 
--- of a call that no check refuses, the figures of the pass are document 02's sums
-sums-right : (d : Design) (w : Weights) (size : Bool) → first_of (design_checks size d [] (own_sum_checks d w)) ≡ Reply.Admitted → Sums (model_of d) w
-sums-right d w size e =
-    let p = passed size d [] (own_sum_checks d w) e in
-    let own = none-holds (own_sum_checks d w) p.last in
+-- the figures of the pass over an admitted design of one position or more are document 02's sums
+sums-right : (d : Design) (w : Weights) → Admitted d → 0 < positions d → weights_out (model_of d).friends w ≡ false → Sums (model_of d) w
+sums-right d w a some none =
     let n = model-positions d in
-    let some : 0 < positions d = positive (positions d) (eqb-false (positions d) 0 own.0) in
-    sums-of-models (model_of d) w (rw n some) (rw n (sized d p.design.sizes).short) (few-friends d (tables-of d p.design)) own.1.0
-
-pub free-shown : (d : Design) (w : Weights) → FreeShown d w (free_answer d w)
-free-shown d w number =
-    let e = number-admitted (first_of (free_checks d w)) zero_weight (free_figure (model_of d) w) number in
-    rw e (sums-right d w (wrong_cells (positions d) w) e).free
+    sums-of-models (model_of d) w (rw n some) (rw n (sized d a.sizes).short) (few-friends d (tables-of d a)) none
 
 length-lists : (l : Lists) → length (constraint_of l) ≡ length l.starts
 unfolding lists_of
 length-lists l = length-tabulate (length l.starts) (list_at l.numbers l.starts l.lengths)
 
+-- what an admitted call is given is document 02's sum
+module _ (d : Design) (w : Weights) (r : Reply) (sums : r ≡ Ok tt → Sums (model_of d) w) where
+  free-given : FreeShown d w (figures_of r zero_weight (free_figure (model_of d) w))
+  free-given number = let e = number-admitted r zero_weight (free_figure (model_of d) w) number in rw e (sums e).free
+
+  constrained-given : (l : Lists) → (r ≡ Ok tt → Listed (positions d) l.numbers l.starts l.lengths) → ConstrainedShown d w l (figures_of r zero_weight (constrained_figure (model_of d) w (constraint_of l)))
+  constrained-given l listed number =
+      let e = number-admitted r zero_weight (constrained_figure (model_of d) w (constraint_of l)) number in
+      rw e ((sums e).constrained (constraint_of l) (length-lists l ∙ (listed e).starting ∙ sym (model-positions d)))
+
+-- of every design, all weights and all lists
+passed-sums : (d : Design) (w : Weights) (size : Bool) → first_of (design_checks size d [] (own_sum_checks d w)) ≡ Ok tt → Sums (model_of d) w
+passed-sums d w size e =
+    let p = passed size d [] (own_sum_checks d w) e in
+    let own = none-holds (own_sum_checks d w) p.last in
+    sums-right d w p.design (positive (positions d) (eqb-false (positions d) 0 own.0)) own.1.0
+
+pub free-shown : (d : Design) (w : Weights) → FreeShown d w (free_answer d w)
+free-shown d w = free-given d w (first_of (free_checks d w)) (passed-sums d w (wrong_cells (positions d) w))
+
 pub constrained-shown : (d : Design) (w : Weights) (l : Lists) → ConstrainedShown d w l (constrained_answer d w l)
-constrained-shown d w l number =
-    let e = number-admitted (first_of (constrained_checks d w l)) zero_weight (constrained_figure (model_of d) w (constraint_of l)) number in
-    let p = passed (wrong_cells (positions d) w || wrong_lists (positions d) l) d [] (own_sum_checks d w) e in
-    let listed = lists-listed (positions d) l (neither (wrong_cells (positions d) w) (wrong_lists (positions d) l) p.size).1 in
-    rw e ((sums-right d w (wrong_cells (positions d) w || wrong_lists (positions d) l) e).constrained (constraint_of l) (length-lists l ∙ listed.starting ∙ sym (model-positions d)))
+constrained-shown d w l =
+    let size = wrong_cells (positions d) w || wrong_lists (positions d) l in
+    constrained-given d w (first_of (constrained_checks d w l)) (passed-sums d w size) l
+    (λ e. lists-listed (positions d) l (neither (wrong_cells (positions d) w) (wrong_lists (positions d) l) (passed size d [] (own_sum_checks d w) e).size).1)
 
--- ---- both that a call ensures
+-- what is left to answer of an admitted design of one position or more
+module _ (d : Design) (w : Weights) (a : Admitted d) (some : 0 < positions d) where
+  weighed-sums : first_of (WeightOut if weights_out (model_of d).friends w ∷ []) ≡ Ok tt → Sums (model_of d) w
+  weighed-sums e = sums-right d w a some (none-holds (WeightOut if weights_out (model_of d).friends w ∷ []) e).0
 
-pub free-both : (d : Design) (w : Weights) {f : Figures Weight} → f ≡ free_answer d w → (f ≡ free_answer d w) × FreeShown d w f
-free-both d w e = (e, subst (FreeShown d w) (sym e) (free-shown d w))
+  pub free-weighed : {f : Figures Weight} → f ≡ weighed_free d w → FreeShown d w f
+  free-weighed e = subst (FreeShown d w) (sym e) (free-given d w (first_of (WeightOut if weights_out (model_of d).friends w ∷ [])) weighed-sums)
 
-pub constrained-both : (d : Design) (w : Weights) (l : Lists) {f : Figures Weight} → f ≡ constrained_answer d w l → (f ≡ constrained_answer d w l) × ConstrainedShown d w l f
-constrained-both d w l e = (e, subst (ConstrainedShown d w l) (sym e) (constrained-shown d w l))
+  pub constrained-weighed : (l : Lists) {f : Figures Weight} → Listed (positions d) l.numbers l.starts l.lengths → f ≡ weighed_constrained d w l → ConstrainedShown d w l f
+  constrained-weighed l listed e = subst (ConstrainedShown d w l) (sym e) (constrained-given d w (first_of (WeightOut if weights_out (model_of d).friends w ∷ [])) weighed-sums l (λ _. listed))

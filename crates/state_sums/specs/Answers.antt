@@ -1,9 +1,9 @@
 -- What the sums answer of a design, of the weights lent and of a constraint: document 02's number and figure. The sums themselves are in
 -- partition/specs: Sum.antt what they are, Constraint.antt what a constraint allows, Weights.antt which weights are looked at.
-use Rattle.std.specs.Prelude.{◌≡◌, ◌||◌, List, [], ◌∷◌, ℕ, eqb}
+use Rattle.std.specs.Prelude.{◌≡◌, ◌||◌, List, [], ◌∷◌, ℕ, eqb, Result}
 use Rattle.reply.specs.Number.{answered}
 use Rattle.reply.specs.First.{Check, first_of, ◌if◌}
-use Rattle.reply.specs.Figures.{Figures, given, refused_with, figures_of}
+use Rattle.reply.specs.Figures.{Figures, figures_of, result_figures}
 use Rattle.reply.specs.declared.Refusal.TheVariants.{BareScaffold, WeightOut}
 use Rattle.fractions.specs.declared.Weight.{Weight}
 use Rattle.design.specs.Design.{Design, positions, model_of}
@@ -12,7 +12,7 @@ use Rattle.partition.specs.Sum.{zero_weight, FreeSum, ConstrainedSum}
 use Rattle.partition.specs.Constraint.{lists_of}
 use Rattle.partition.specs.Weights.{Weights, place_worth, pair_worth, weights_out}
 use Rattle.partition.specs.Summed.{free_figure, constrained_figure}
-use Rattle.state_sums.specs.declared.SumAnswer.{SumAnswer}
+use Rattle.reply.specs.declared.Refused.{Refused}
 use Rattle.state_sums.specs.Sizes.{Lists, wrong_cells, wrong_lists}
 
 -- ---- the checks
@@ -44,9 +44,8 @@ abbrev pub constrained_answer : Design → Weights → Lists → Figures Weight
 constrained_answer d w l = figures_of (first_of (constrained_checks d w l)) zero_weight (constrained_figure (model_of d) w (constraint_of l))
 
 -- the number and figure of an answer of the code
-abbrev pub sum_figures : SumAnswer → Figures Weight
-sum_figures (SumAnswer.Sum sum) = given sum
-sum_figures (SumAnswer.Refused refusal place) = refused_with zero_weight refusal place
+abbrev pub sum_figures : Result Weight Refused → Figures Weight
+sum_figures = result_figures zero_weight (λ sum. sum)
 
 -- ---- what the request asks of them
 

@@ -1,16 +1,9 @@
 // Whether what is lent beside a design has the design's sizes.
-ghost use Rattle.std.specs.Prelude.{◌≡◌, ◌||◌, ◌≤◌};
+ghost use Rattle.std.specs.Prelude.{◌≡◌, ◌≤◌};
 ghost use Rattle.partition_sums.specs.Layout.{lent_weights};
 ghost use Rattle.state_sums.specs.Sizes.{wrong_cells, lent_lists, list_outside, wrong_lists};
 
 use reply::limits::{POSITIONS, STRANDS};
-
-// Whether one of two conditions holds. As a function of its own it gives the proofs an equation.
-pub(crate) fn either(a: bool, b: bool) -> bool
-    ensures { result ≡ (a || b) }
-{
-    a || b
-}
 
 // Whether there is not just one weight for each position and strand, and for each left and right strand. Where a design has more positions or strands
 // than a design can have, its own sizes decide, and no product is formed.
@@ -24,37 +17,23 @@ pub(crate) fn wrong_cells(
 ) -> bool
     ensures { positions ≤ 128 → strands ≤ 64 → result ≡ wrong_cells positions (lent_weights strands place_digits.entry place_powers.entry pair_digits.entry pair_powers.entry) }
 {
-    if POSITIONS < positions {
-        return true;
-    }
-    if STRANDS < strands {
-        return true;
-    }
-    let places = positions * strands;
-    let pairs = strands * strands;
-    if place_digits.len() != places {
-        return true;
-    }
-    if place_powers.len() != places {
-        return true;
-    }
-    if pair_digits.len() != pairs {
-        return true;
-    }
-    pair_powers.len() != pairs
+    POSITIONS < positions
+        || STRANDS < strands
+        || place_digits.len() != positions * strands
+        || place_powers.len() != positions * strands
+        || pair_digits.len() != strands * strands
+        || pair_powers.len() != strands * strands
 }
 
 // Whether a list leaves the numbers that are lent, so many of them.
 fn list_outside(many: usize, start: usize, length: usize) -> bool
     ensures { result ≡ list_outside many start length }
 {
-    if many < start {
-        return true;
-    }
-    many - start < length
+    many < start || many - start < length
 }
 
 // Whether there is not just one list for each position, or one leaves the numbers.
+#[tactic(auto, unfolding(crate::specs::Sizes::wrong_lists))]
 pub(crate) fn wrong_lists(
     positions: usize,
     numbers: &[u8],
@@ -63,18 +42,7 @@ pub(crate) fn wrong_lists(
 ) -> bool
     ensures { result ≡ wrong_lists positions (lent_lists numbers.entry starts.entry lengths.entry) }
 {
-    if starts.len() != positions {
-        return true;
-    }
-    if lengths.len() != positions {
-        return true;
-    }
-    let mut i = 0;
-    while i < positions {
-        if list_outside(numbers.len(), starts[i], lengths[i]) {
-            return true;
-        }
-        i += 1;
-    }
-    false
+    starts.len() != positions
+        || lengths.len() != positions
+        || (0..positions).any(|i| list_outside(numbers.len(), starts[i], lengths[i]))
 }

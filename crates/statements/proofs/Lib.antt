@@ -1,7 +1,5 @@
 pub mod Bytes
-pub mod Laying
 pub mod Fitting
-pub mod Answers
+pub mod Lines
 pub mod Reading
-pub mod Sized
 pub mod Theorems

@@ -12,68 +12,20 @@
 --     penalty NUMBER NUMBER
 --
 -- A GLUE may be `-`, which stands for none; a NAME may not.
-use Rattle.std.specs.Prelude.{Bool, cond, ◌&&◌, ◌||◌, List, [], ◌∷◌, ℕ, ◌+◌, ◌-◌, ◌<◌, eqb, ltb, get_or}
+use Rattle.std.specs.Prelude.{Bool, true, false, List, [], ◌∷◌, ℕ, ◌<◌, Option, slice_get}
+use Rattle.std.specs.List.{find}
+use Rattle.std.specs.Option.{option_map}
 use Rattle.statements.specs.Words.{spells}
+use Rattle.statements.specs.declared.grammar.Kind.{Kind}
+use Rattle.statements.specs.declared.grammar.Kind.TheVariants.{Kelvin, Ambient, Strand, Quencher, Reporter, Position, EnergyGiven, EnergySequence, PairGiven, PairSequence, Penalty, Blocked}
 use Rattle.statements.specs.declared.grammar.Item.{Item}
-use Rattle.statements.specs.declared.grammar.Item.TheVariants.{Number, Name, Glue, Bases, DgOrSeq, Ds, End}
-
--- ---- kinds of rows: a row for each statement, and for `scaffold` and `blocked` one for each position
-
--- `kelvin`
-abbrev pub kelvin : ℕ
-kelvin = 0
-
--- `ambient`
-abbrev pub ambient : ℕ
-ambient = 1
-
--- `strand`
-abbrev pub strand : ℕ
-strand = 2
-
--- `quencher`
-abbrev pub quencher : ℕ
-quencher = 3
-
--- `reporter`
-abbrev pub reporter : ℕ
-reporter = 4
-
--- a position of `scaffold`
-abbrev pub position : ℕ
-position = 5
-
--- `energy` with dg and ds
-abbrev pub energy_given : ℕ
-energy_given = 6
-
--- `energy` with seq
-abbrev pub energy_sequence : ℕ
-energy_sequence = 7
-
--- `pair` with dg and ds
-abbrev pub pair_given : ℕ
-pair_given = 8
-
--- `pair` with seq
-abbrev pub pair_sequence : ℕ
-pair_sequence = 9
-
--- `penalty`
-abbrev pub penalty : ℕ
-penalty = 10
-
--- a position of `blocked`
-abbrev pub blocked : ℕ
-blocked = 11
-
--- no kind: the first word is no keyword
-abbrev pub unknown : ℕ
-unknown = 12
+use Rattle.statements.specs.declared.grammar.Item.TheVariants.{Number, Name, Glue, Bases, DgOrSeq, Ds}
 
 -- the kind is a position's, open or blocked
-abbrev pub is_position : ℕ → Bool
-is_position kind = eqb kind position || eqb kind blocked
+abbrev pub is_position : Kind → Bool
+is_position Position = true
+is_position Blocked = true
+is_position kind = false
 
 -- ---- the words with a meaning, byte by byte
 
@@ -135,97 +87,52 @@ dash_bytes = 45 ∷ []
 
 -- ---- the first word
 
--- the kind of a statement with this first word. `energy` and `pair` are of the kind with numbers, until `seq` is met.
-unfoldable pub kind_of : List ℕ → ℕ
-kind_of word =
-    cond (spells word kelvin_bytes) kelvin
-    (cond (spells word ambient_bytes) ambient
-    (cond (spells word strand_bytes) strand
-    (cond (spells word quencher_bytes) quencher
-    (cond (spells word reporter_bytes) reporter
-    (cond (spells word scaffold_bytes) position
-    (cond (spells word energy_bytes) energy_given
-    (cond (spells word pair_bytes) pair_given
-    (cond (spells word penalty_bytes) penalty
-    (cond (spells word blocked_bytes) blocked unknown)))))))))
+-- the words that begin a statement, each with its kind. `energy` and `pair` are of the kind with numbers, until `seq` is met.
+abbrev pub keywords : List (List ℕ × Kind)
+keywords =
+    (kelvin_bytes, Kelvin)
+    ∷ (ambient_bytes, Ambient)
+    ∷ (strand_bytes, Strand)
+    ∷ (quencher_bytes, Quencher)
+    ∷ (reporter_bytes, Reporter)
+    ∷ (scaffold_bytes, Position)
+    ∷ (energy_bytes, EnergyGiven)
+    ∷ (pair_bytes, PairGiven)
+    ∷ (penalty_bytes, Penalty)
+    ∷ (blocked_bytes, Blocked)
+    ∷ []
+
+-- the kind of a statement with this first word
+unfoldable pub kind_of : List ℕ → Option Kind
+kind_of word = option_map (λ (entry : List ℕ × Kind). entry.1) (find (λ (entry : List ℕ × Kind). spells word entry.0) keywords)
 
 -- ---- the words after it
 
--- What each word has to be, as a number to which the slot of the row is added that the word fills. A row has the word slots 0 to 3 and the
--- number slots 0 to 2.
-abbrev pub end : ℕ
-end = 0
+-- What each word has to be, with the slot of the row that it fills: a row has the word slots 0 to 3 and the number slots 0 to 2. `dg` or `seq`
+-- decides between the two kinds of `energy` and of `pair`, which are alike up to there.
+unfoldable pub items_of : Kind → List Item
+items_of Kelvin = Number 0 ∷ []
+items_of Ambient = Number 0 ∷ Number 1 ∷ Number 2 ∷ []
+items_of Strand = Name 0 ∷ Glue 1 ∷ Glue 2 ∷ Glue 3 ∷ Number 0 ∷ []
+items_of Quencher = Glue 0 ∷ Number 0 ∷ []
+items_of Reporter = Glue 0 ∷ Number 0 ∷ []
+items_of Position = Glue 0 ∷ []
+items_of EnergyGiven = Name 0 ∷ DgOrSeq ∷ Number 0 ∷ Ds ∷ Number 1 ∷ []
+items_of EnergySequence = Name 0 ∷ DgOrSeq ∷ Bases 1 ∷ []
+items_of PairGiven = Name 0 ∷ Name 1 ∷ DgOrSeq ∷ Number 0 ∷ Ds ∷ Number 1 ∷ []
+items_of PairSequence = Name 0 ∷ Name 1 ∷ DgOrSeq ∷ Bases 2 ∷ []
+items_of Penalty = Number 0 ∷ Number 1 ∷ []
+items_of Blocked = Glue 0 ∷ []
 
--- a number, for one of the number slots
-abbrev pub number : ℕ → ℕ
-number slot = 1 + slot
-
--- a name, for one of the word slots
-abbrev pub name : ℕ → ℕ
-name slot = 4 + slot
-
--- a name or `-`, for one of the word slots
-abbrev pub glue : ℕ → ℕ
-glue slot = 8 + slot
-
--- the bases of a sequence, for one of the word slots
-abbrev pub bases : ℕ → ℕ
-bases slot = 12 + slot
-
--- the word `dg` or `seq`
-abbrev pub dg_or_seq : ℕ
-dg_or_seq = 16
-
--- the word `ds`
-abbrev pub ds : ℕ
-ds = 17
-
--- kind by kind. `dg` or `seq` decides between the two kinds of `energy` and of `pair`, which are alike up to there.
-unfoldable pub shapes : List (List ℕ)
-shapes =
-    -- kelvin
-    (number 0 ∷ end ∷ end ∷ end ∷ end ∷ end ∷ [])
-    -- ambient
-    ∷ (number 0 ∷ number 1 ∷ number 2 ∷ end ∷ end ∷ end ∷ [])
-    -- strand
-    ∷ (name 0 ∷ glue 1 ∷ glue 2 ∷ glue 3 ∷ number 0 ∷ end ∷ [])
-    -- quencher
-    ∷ (glue 0 ∷ number 0 ∷ end ∷ end ∷ end ∷ end ∷ [])
-    -- reporter
-    ∷ (glue 0 ∷ number 0 ∷ end ∷ end ∷ end ∷ end ∷ [])
-    -- scaffold, a position
-    ∷ (glue 0 ∷ end ∷ end ∷ end ∷ end ∷ end ∷ [])
-    -- energy with dg and ds
-    ∷ (name 0 ∷ dg_or_seq ∷ number 0 ∷ ds ∷ number 1 ∷ end ∷ [])
-    -- energy with seq
-    ∷ (name 0 ∷ dg_or_seq ∷ bases 1 ∷ end ∷ end ∷ end ∷ [])
-    -- pair with dg and ds
-    ∷ (name 0 ∷ name 1 ∷ dg_or_seq ∷ number 0 ∷ ds ∷ number 1 ∷ [])
-    -- pair with seq
-    ∷ (name 0 ∷ name 1 ∷ dg_or_seq ∷ bases 2 ∷ end ∷ end ∷ [])
-    -- penalty
-    ∷ (number 0 ∷ number 1 ∷ end ∷ end ∷ end ∷ end ∷ [])
-    -- blocked, a position
-    ∷ (glue 0 ∷ end ∷ end ∷ end ∷ end ∷ end ∷ [])
-    ∷ []
-
--- what such a number stands for
-unfoldable pub decoded : ℕ → Item
-decoded code =
-    cond (eqb code end) End
-    (cond (ltb code (name 0)) (Number (code - number 0))
-    (cond (ltb code (glue 0)) (Name (code - name 0))
-    (cond (ltb code (bases 0)) (Glue (code - glue 0))
-    (cond (ltb code dg_or_seq) (Bases (code - bases 0))
-    (cond (eqb code dg_or_seq) DgOrSeq Ds)))))
-
--- what the word at a place after the keyword has to be; after the sixth there is none
-unfoldable pub item_of : ℕ → ℕ → Item
-item_of kind place = cond (ltb kind unknown && ltb place 6) (decoded (get_or (get_or shapes kind []) place end)) End
+-- what the word at a place after the keyword has to be; after the last item there is none
+unfoldable pub item_of : Kind → ℕ → Option Item
+item_of kind place = slice_get (items_of kind) place
 
 -- the kind with a sequence for its numbers
-unfoldable pub sequence_kind : ℕ → ℕ
-sequence_kind kind = cond (eqb kind energy_given) energy_sequence (cond (eqb kind pair_given) pair_sequence kind)
+unfoldable pub sequence_kind : Kind → Kind
+sequence_kind EnergyGiven = EnergySequence
+sequence_kind PairGiven = PairSequence
+sequence_kind kind = kind
 
 -- the slot is one of a row's
 abbrev pub InRow : Item → Type 0
@@ -235,4 +142,3 @@ InRow (Glue slot) = slot < 4
 InRow (Bases slot) = slot < 4
 InRow DgOrSeq = Unit
 InRow Ds = Unit
-InRow End = Unit

@@ -1,8 +1,8 @@
 -- Lines and words of a text, which is a list of bytes. Lines end at byte 10. Blanks are space, tab and carriage return. A word that begins
 -- with `#` begins a comment up to the line's end; a `#` further inside a word, and any other byte, is a byte of words like any letter.
-use Rattle.std.specs.Prelude.{Bool, cond, ◌||◌, List, [], ◌∷◌, ◌≡◌, ℕ, ◌+◌, ◌-◌, ◌≤◌, ◌<◌, eqb, ltb, length, take, drop}
+use Rattle.std.specs.Prelude.{Bool, false, cond, ◌||◌, List, [], ◌∷◌, ◌≡◌, ℕ, ◌+◌, ◌-◌, ◌≤◌, ◌<◌, eqb, ltb, length, get_or, take, drop}
 use Rattle.std.proofs.Math.Option.{Option, none, some}
-use Rattle.sdc_common.specs.Names.{same_name}
+use Rattle.std.specs.Str.{bytes_eq}
 use Rattle.statements.specs.declared.words.Word.{Word}
 
 -- the byte that ends a line
@@ -68,7 +68,7 @@ spelled line word = take word.size (drop word.start line)
 
 -- the same bytes
 abbrev pub spells : List ℕ → List ℕ → Bool
-spells word keyword = same_name word keyword
+spells word keyword = bytes_eq word keyword
 
 -- ---- what reading word by word goes by
 
@@ -76,9 +76,16 @@ spells word keyword = same_name word keyword
 abbrev pub Inside : List ℕ → Word → Type 0
 Inside line word = word.start + word.size ≤ length line
 
--- the first word from a place on; a size of 0 where there is none
-pub record Next (line : List ℕ) (at : ℕ) (word : Word) : Type 0 where
+-- the first byte from a place on that is no blank
+pub record IsNextByte (line : List ℕ) (at : ℕ) (start : ℕ) : Type 0 where
+  pub on : at ≤ start
+  pub inside : start < length line
+  pub same : words_in line at ≡ words_in line start
+  pub other : is_blank (get_or line start 0) ≡ false
+
+-- the first word from a place on
+pub record IsNext (line : List ℕ) (at : ℕ) (word : Word) : Type 0 where
   pub on : at ≤ word.start
-  pub inside : 0 < word.size → Inside line word
-  pub last : word.size ≡ 0 → words_in line at ≡ []
-  pub more : 0 < word.size → words_in line at ≡ word ∷ words_in line (word.start + word.size)
+  pub some : 0 < word.size
+  pub inside : Inside line word
+  pub more : words_in line at ≡ word ∷ words_in line (word.start + word.size)

@@ -1,4 +1,4 @@
-// The reader of design files: the statements of a text, as rows in lent slices.
+// The reader of design files: the statements of a text, as rows in a lent slice.
 #![tactic(auto)]
 
 pub mod grammar;
@@ -6,69 +6,33 @@ mod rows;
 pub mod statement;
 pub mod words;
 
-ghost use Rattle.std.specs.Prelude.{◌≡◌, ◌*◌};
-ghost use Rattle.statements.specs.Layout.{room_of, unequal_lengths};
-ghost use Rattle.statements.specs.Rows.{read_answer, room_after};
+ghost use Rattle.std.specs.Prelude.{◌≡◌, length};
+ghost use Rattle.statements.specs.Rows.{read_answer, rows_after};
 
-use statement::Reason;
-use words::Word;
+use statement::{Fault, Row};
 
 // The longest text: 1 MiB.
 const LONGEST: usize = 1048576;
 
-// What reading a text answers.
-#[derive(Clone, Copy)]
-pub enum ReadAnswer {
-    // The number of rows; they stand first in the lent slices.
-    Rows(usize),
-    // The number of the first line that can't be read, from 1, the word at fault, and why.
-    Unreadable(usize, Word, Reason),
+// Why a text can't be read.
+#[derive(Clone, Copy, PartialEq, Eq)]
+pub enum ReadFault {
+    // The number of the first line that can't be read, from 1, and what is wrong with it.
+    Unreadable(usize, Fault),
     // The number of the first line whose rows there is no room for.
     TooManyRows(usize),
     TooLong,
-    // The lent slices are not for the same number of rows.
-    UnequalRoom,
 }
 
-// Whether the slices are not for the same number of rows. Quotients come first, since the products could wrap.
-fn unequal(kinds: usize, lines: usize, words: usize, numbers: usize) -> bool
-    ensures { result ≡ unequal_lengths kinds lines words numbers }
+// Reads a text into rows, which stand first in the lent slice, and answers how many there are.
+pub fn read(text: &[u8], rows: &mut [Row]) -> Result<usize, ReadFault>
+    ensures value { result ≡ read_answer text.now (length rows.old) }
+    ensures rows_after { rows.new ≡ rows_after text.now rows.old }
 {
-    if lines != kinds {
-        return true;
-    }
-    if words / 8 != kinds {
-        return true;
-    }
-    if words != 8 * kinds {
-        return true;
-    }
-    if numbers / 3 != kinds {
-        return true;
-    }
-    numbers != 3 * kinds
-}
-
-// Reads a text into rows: of n rows the kinds and lines are n, the words 8n, the numbers 3n.
-pub fn read(
-    text: &[u8],
-    kinds: &mut [u8],
-    lines: &mut [usize],
-    words: &mut [usize],
-    numbers: &mut [f64],
-) -> ReadAnswer
-    ensures value { result ≡ read_answer text.now (room_of kinds.old lines.old words.old numbers.old) }
-    ensures numbers_after { room_of kinds.new lines.new words.new numbers.new ≡ room_after text.now (room_of kinds.old lines.old words.old numbers.old) }
-{
-    if unequal(kinds.len(), lines.len(), words.len(), numbers.len()) {
-        return ReadAnswer::UnequalRoom;
-    }
     if LONGEST < text.len() {
-        return ReadAnswer::TooLong;
+        return Err(ReadFault::TooLong);
     }
-    let answer = rows::check(text, kinds.len());
-    if let ReadAnswer::Rows(_) = answer {
-        rows::lay(text, kinds, lines, words, numbers);
-    }
-    answer
+    let count = rows::check(text, rows.len())?;
+    rows::lay(text, rows);
+    Ok(count)
 }

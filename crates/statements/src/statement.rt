@@ -1,16 +1,16 @@
 // The statement of a line.
 ghost use Rattle.std.specs.Prelude.{◌≡◌, ◌<◌, ◌+◌};
+ghost use Rattle.std.specs.Option.{ForSome};
 ghost use Rattle.statements.specs.Words.{Inside, words_in};
 ghost use Rattle.statements.specs.Grammar.{InRow};
-ghost use Rattle.statements.specs.Statement.{blank, without, put, number_put, accepted, closed, goes_on, fit, statement_of};
+ghost use Rattle.statements.specs.Statement.{reason_of, blank, put, glue_of, accepted, closed, fit, statement_of};
 
-use crate::grammar::{Item, UNKNOWN, is_position, item_at, kind_of, sequence_kind};
+use crate::grammar::{Item, Kind};
 use crate::words::{Word, bytes, next_word};
-use decimals::{NumberAnswer, read_number};
-use sdc_common::names::same_bytes;
+use decimals::{NumberFault, read_number};
 
 // Why a line can't be read.
-#[derive(Clone, Copy)]
+#[derive(Clone, Copy, PartialEq, Eq)]
 pub enum Reason {
     NoSuchStatement,
     TooFewWords,
@@ -26,191 +26,164 @@ pub enum Reason {
     NotAName,
 }
 
-// What a line turned out to be.
-#[derive(Clone, Copy)]
-pub enum Outcome {
-    // A line without words.
-    Nothing,
-    // One row.
-    Whole,
-    // A row of this kind for each word from a place on.
-    Positions(u8, usize),
-    Fault(Word, Reason),
+impl From<NumberFault> for Reason {
+    ghost from_gives = { λ fault reason. reason ≡ reason_of fault };
+
+    fn from(fault: NumberFault) -> Self {
+        match fault {
+            NumberFault::NotANumber => Reason::NotANumber,
+            NumberFault::TooManyDigits => Reason::TooManyDigits,
+            NumberFault::OutOfReach => Reason::OutOfReach,
+        }
+    }
 }
 
-// What a line holds. The kind, and the slots of the row, count where the outcome is `Whole`.
+// The word at which a line can't be read, and why.
+#[derive(Clone, Copy, PartialEq, Eq)]
+pub struct Fault {
+    pub word: Word,
+    pub reason: Reason,
+}
+
+// A row. A word that is absent, or that the kind does not have, has the size 0; a number that the kind does not have is 0.0.
 #[derive(Clone, Copy)]
-pub struct Statement {
-    pub outcome: Outcome,
-    pub kind: u8,
-    // A start and a size for each of four slots.
-    pub words: [usize; 8],
+pub struct Row {
+    pub kind: Kind,
+    // The number of its line, from 1.
+    pub line: usize,
+    pub words: [Word; 4],
     pub numbers: [f64; 3],
 }
 
-impl Statement {
-    // A row of a kind, with nothing in its slots.
-    pub(crate) fn blank(kind: u8) -> Self
-        ensures { result ≡ blank kind }
-    {
-        Statement {
-            outcome: Outcome::Whole,
-            kind,
-            words: [0; 8],
-            numbers: [0.0; 3],
-        }
-    }
+// What a line holds.
+#[derive(Clone, Copy)]
+pub enum Statement {
+    // A line without words.
+    Nothing,
+    OneRow(Row),
+    // A row of this kind for each word from a place on.
+    Positions(Kind, usize),
+}
 
-    // No row.
-    fn without(outcome: Outcome) -> Self
-        ensures { result ≡ without outcome }
+// A glue as it is kept: of `-` no bytes are.
+pub(crate) fn glue_of(bytes: &[u8], word: Word) -> Word
+    ensures { result ≡ glue_of bytes.now word }
+{
+    match bytes {
+        b"-" => Word { size: 0, ..word },
+        _ => word,
+    }
+}
+
+impl Row {
+    // A row of a kind in a line, with nothing in its slots.
+    pub fn blank(kind: Kind, line: usize) -> Self
+        ensures { result ≡ blank kind line }
     {
-        Statement {
-            outcome,
-            kind: 0,
-            words: [0; 8],
+        Row {
+            kind,
+            line,
+            words: [Word { start: 0, size: 0 }; 4],
             numbers: [0.0; 3],
         }
     }
 
     // The row with a word in a slot.
-    fn put(mut self, slot: usize, start: usize, size: usize) -> Self
+    #[tactic(auto, unfolding(crate::specs::Statement::put))]
+    pub(crate) fn put(mut self, slot: usize, word: Word) -> Self
         requires { slot < 4 }
-        ensures { result ≡ put slot start size self }
+        ensures { result ≡ put slot word self }
     {
-        self.words[2 * slot] = start;
-        self.words[2 * slot + 1] = size;
+        self.words[slot] = word;
         self
     }
 
-    // The row with a number in a slot, if the word was one.
-    fn put_number(mut self, slot: usize, number: NumberAnswer, word: Word) -> Self
-        requires { slot < 3 }
-        ensures { result ≡ number_put number slot word self }
-    {
-        match number {
-            NumberAnswer::Number(x) => {
-                self.numbers[slot] = x;
-                self
-            }
-            NumberAnswer::NotANumber => Statement::without(Outcome::Fault(
-                word,
-                Reason::NotANumber,
-            )),
-            NumberAnswer::TooManyDigits => {
-                Statement::without(Outcome::Fault(word, Reason::TooManyDigits))
-            }
-            NumberAnswer::OutOfReach => Statement::without(Outcome::Fault(
-                word,
-                Reason::OutOfReach,
-            )),
-        }
-    }
-
     // The row after one word more, which has to be an item.
-    pub(crate) fn accept(self, bytes: &[u8], item: Item, word: Word) -> Self
-        requires { InRow item }
+    #[tactic(auto, unfolding(crate::specs::Statement::accepted, crate::specs::Statement::number_put, crate::specs::Statement::put_number))]
+    fn accept(mut self, bytes: &[u8], item: Option<Item>, word: Word) -> Result<Self, Fault>
+        requires { ForSome item InRow }
         ensures { result ≡ accepted bytes.now item word self }
     {
+        let fault = |reason| Err(Fault { word, reason });
+        let Some(item) = item else {
+            return fault(Reason::TooManyWords);
+        };
         match item {
-            Item::Number(slot) => self.put_number(slot, read_number(bytes), word),
-            Item::Name(slot) => {
-                if same_bytes(bytes, b"-") {
-                    return Statement::without(Outcome::Fault(word, Reason::NotAName));
+            Item::Number(slot) => match read_number(bytes) {
+                Ok(x) => {
+                    self.numbers[slot] = x;
+                    Ok(self)
                 }
-                self.put(slot, word.start, word.size)
-            }
-            Item::Glue(slot) => {
-                if same_bytes(bytes, b"-") {
-                    return self.put(slot, word.start, 0);
-                }
-                self.put(slot, word.start, word.size)
-            }
-            Item::Bases(slot) => self.put(slot, word.start, word.size),
-            Item::DgOrSeq => self.dg_or_seq(bytes, word),
-            Item::Ds => {
-                if same_bytes(bytes, b"ds") {
-                    return self;
-                }
-                Statement::without(Outcome::Fault(word, Reason::NotDs))
-            }
-            Item::End => Statement::without(Outcome::Fault(word, Reason::TooManyWords)),
+                Err(why) => fault(why.into()),
+            },
+            Item::Name(slot) => match bytes {
+                b"-" => fault(Reason::NotAName),
+                _ => Ok(self.put(slot, word)),
+            },
+            Item::Glue(slot) => Ok(self.put(slot, glue_of(bytes, word))),
+            Item::Bases(slot) => Ok(self.put(slot, word)),
+            Item::DgOrSeq => match bytes {
+                b"dg" => Ok(self),
+                b"seq" => Ok(Row {
+                    kind: self.kind.with_sequence(),
+                    ..self
+                }),
+                _ => fault(Reason::NeitherDgNorSeq),
+            },
+            Item::Ds => match bytes {
+                b"ds" => Ok(self),
+                _ => fault(Reason::NotDs),
+            },
         }
     }
 
-    // At `seq`, the kind with numbers becomes the kind with a sequence.
-    fn dg_or_seq(mut self, bytes: &[u8], word: Word) -> Self
-        ensures { result ≡ accepted bytes.now Item.DgOrSeq word self }
-    {
-        if same_bytes(bytes, b"dg") {
-            return self;
-        }
-        if same_bytes(bytes, b"seq") {
-            self.kind = sequence_kind(self.kind);
-            return self;
-        }
-        Statement::without(Outcome::Fault(word, Reason::NeitherDgNorSeq))
-    }
-
-    // The row where the words have come to their end.
-    fn close(self, item: Item, key: Word) -> Self
+    // The row where the words have come to their end. Of too few words the keyword tells.
+    #[tactic(auto, unfolding(crate::specs::Statement::closed))]
+    fn close(self, item: Option<Item>, key: Word) -> Result<Self, Fault>
         ensures { result ≡ closed item key self }
     {
         match item {
-            Item::End => self,
-            _ => Statement::without(Outcome::Fault(key, Reason::TooFewWords)),
+            None => Ok(self),
+            Some(_) => Err(Fault {
+                word: key,
+                reason: Reason::TooFewWords,
+            }),
         }
-    }
-}
-
-// Whether a row goes on: no fault has been met.
-fn goes_on(outcome: Outcome) -> bool
-    ensures { result ≡ goes_on outcome }
-{
-    match outcome {
-        Outcome::Whole => true,
-        _ => false,
     }
 }
 
 // The row of the words after the keyword.
-fn fit(line: &[u8], key: Word, kind: u8) -> Statement
+fn fit(line: &[u8], key: Word, kind: Kind, number: usize) -> Result<Row, Fault>
     requires { Inside line.now key }
-    ensures { result ≡ fit line.now key 0 (blank kind) (words_in line.now (key.start + key.size)) }
+    ensures { result ≡ fit line.now key 0 (blank kind number) (words_in line.now (key.start + key.size)) }
 {
-    let mut row = Statement::blank(kind);
-    let mut at = key.start + key.size;
+    let mut row = Row::blank(kind, number);
+    let mut at = key.end();
     let mut place = 0;
-    loop {
-        let item = item_at(row.kind, place);
-        let word = next_word(line, at);
-        if word.size == 0 {
-            return row.close(item, key);
-        }
-        row = row.accept(bytes(line, word), item, word);
-        let outcome = row.outcome;
-        if !goes_on(outcome) {
-            return row;
-        }
-        at = word.start + word.size;
+    while let Some(word) = next_word(line, at) {
+        row = row.accept(bytes(line, word), row.kind.item_at(place), word)?;
+        at = word.end();
         place += 1;
     }
+    row.close(row.kind.item_at(place), key)
 }
 
-// The statement of the line that begins at a place, in the text up to its end.
-pub(crate) fn statement_of(line: &[u8], at: usize) -> Statement
-    ensures { result ≡ statement_of line.now at }
+// The statement of the line that begins at a place, in the text up to its end. Its rows are of the line with this number.
+pub(crate) fn statement_of(line: &[u8], at: usize, number: usize) -> Result<Statement, Fault>
+    ensures { result ≡ statement_of line.now at number }
 {
-    let key = next_word(line, at);
-    if key.size == 0 {
-        return Statement::without(Outcome::Nothing);
+    let Some(key) = next_word(line, at) else {
+        return Ok(Statement::Nothing);
+    };
+    let Some(kind) = Kind::of(bytes(line, key)) else {
+        return Err(Fault {
+            word: key,
+            reason: Reason::NoSuchStatement,
+        });
+    };
+    if kind.is_position() {
+        return Ok(Statement::Positions(kind, key.end()));
     }
-    let kind = kind_of(bytes(line, key));
-    if kind == UNKNOWN {
-        return Statement::without(Outcome::Fault(key, Reason::NoSuchStatement));
-    }
-    if is_position(kind) {
-        return Statement::without(Outcome::Positions(kind, key.start + key.size));
-    }
-    fit(line, key, kind)
+    let row = fit(line, key, kind, number)?;
+    Ok(Statement::OneRow(row))
 }

@@ -1,13 +1,23 @@
 // Lines and words of a text. A line is handed on as the text up to its end, so that places count from the text's first byte.
-ghost use Rattle.std.specs.Prelude.{◌≡◌, false, ◌∷◌, ◌+◌, ◌-◌, ◌≤◌, ◌<◌, length, get_or, drop};
+ghost use Rattle.std.specs.Prelude.{◌≡◌, ◌∷◌, [], ◌+◌, ◌-◌, ◌^◌, ◌≤◌, ◌<◌, length, drop, MatchOption};
 ghost use Rattle.std.proofs.Math.Option.{some};
-ghost use Rattle.statements.specs.Words.{is_blank, scan, words_in, Next, Inside, spelled, line_of, lines_from};
+ghost use Rattle.statements.specs.Words.{is_blank, scan, words_in, Inside, IsNext, IsNextByte, spelled, line_of, lines_from};
 
-// A word by its place in the text. Words have a byte at least: a size of 0 stands for no word.
-#[derive(Clone, Copy)]
+// A word by its place in the text. In a row a size of 0 stands for no word.
+#[derive(Clone, Copy, PartialEq, Eq, Default)]
 pub struct Word {
     pub start: usize,
     pub size: usize,
+}
+
+impl Word {
+    // Where the bytes after the word begin.
+    pub(crate) fn end(self) -> usize
+        requires { self.start + self.size < 2 ^ 64 }
+        ensures { result ≡ self.start + self.size }
+    {
+        self.start + self.size
+    }
 }
 
 // The end of the line that begins at a place: the next newline, or the text's end.
@@ -15,38 +25,31 @@ pub(crate) fn line_end(text: &[u8], at: usize) -> usize
     requires { at < length text.now }
     ensures { (at ≤ result) × (result ≤ length text.now) × (lines_from at at (drop at text.now) ≡ line_of at result ∷ lines_from (result + 1) (result + 1) (drop (result + 1) text.now)) }
 {
-    let mut end = at;
-    while end < text.len() {
+    for end in at..text.len() {
         if text[end] == b'\n' {
             return end;
         }
-        end += 1;
     }
-    end
+    text.len()
 }
 
 // Space, tab and carriage return.
 pub fn is_blank(byte: u8) -> bool
     ensures { result ≡ is_blank byte }
 {
-    match byte {
-        b'\t' | b'\r' | b' ' => true,
-        _ => false,
-    }
+    matches!(byte, b'\t' | b'\r' | b' ')
 }
 
-// The first place, from `at` on, with a byte that is no blank, or one past the line's bytes.
-fn after_blanks(line: &[u8], at: usize) -> usize
-    ensures { (at ≤ result) × (words_in line.now at ≡ words_in line.now result) × (result < length line.now → is_blank (get_or line.now result 0) ≡ false) }
+// The first place, from `at` on, with a byte that is no blank.
+fn after_blanks(line: &[u8], at: usize) -> Option<usize>
+    ensures { MatchOption result (words_in line.now at ≡ []) (IsNextByte line.now at) }
 {
-    let mut i = at;
-    while i < line.len() {
+    for i in at..line.len() {
         if !is_blank(line[i]) {
-            return i;
+            return Some(i);
         }
-        i += 1;
     }
-    i
+    None
 }
 
 // The end of the word that begins at `start`: the next blank, or the line's end.
@@ -54,32 +57,24 @@ fn word_end(line: &[u8], start: usize) -> usize
     requires { start < length line.now }
     ensures { (start < result) × (result ≤ length line.now) × (scan (some start) (start + 1) (drop (start + 1) line.now) ≡ record { start = start; size = result - start } ∷ words_in line.now result) }
 {
-    let mut i = start + 1;
-    while i < line.len() {
+    for i in start + 1..line.len() {
         if is_blank(line[i]) {
             return i;
         }
-        i += 1;
     }
-    i
+    line.len()
 }
 
-// The first word from `at` on, or a size of 0.
-pub(crate) fn next_word(line: &[u8], at: usize) -> Word
-    ensures { Next line.now at result }
+// The first word from `at` on.
+pub(crate) fn next_word(line: &[u8], at: usize) -> Option<Word>
+    ensures { MatchOption result (words_in line.now at ≡ []) (IsNext line.now at) }
 {
-    let start = after_blanks(line, at);
-    if line.len() <= start {
-        return Word { start, size: 0 };
-    }
+    let start = after_blanks(line, at)?;
     if line[start] == b'#' {
-        return Word { start, size: 0 };
+        return None;
     }
-    let end = word_end(line, start);
-    Word {
-        start,
-        size: end - start,
-    }
+    let size = word_end(line, start) - start;
+    Some(Word { start, size })
 }
 
 // The bytes of a word.
@@ -87,17 +82,5 @@ pub(crate) fn bytes(line: &[u8], word: Word) -> &[u8]
     requires { Inside line.now word }
     ensures { result.now ≡ spelled line.now word }
 {
-    let start = word.start;
-    let end = start + word.size;
-    &line[start..end]
-}
-
-// A place among places, 0 past the last.
-pub fn place_at(places: &[usize], i: usize) -> usize
-    ensures { result ≡ get_or places.now i 0 }
-{
-    if i < places.len() {
-        return places[i];
-    }
-    0
+    &line[word.start..word.end()]
 }

@@ -1,5 +1,5 @@
 -- The ambient helper of document 01: RT = (1.98720425864083 / 1000.0) × T, and both excesses T − 310.15.
-use Rattle.std.specs.Prelude.{not, List, [], ◌∷◌, ℕ, Float}
+use Rattle.std.specs.Prelude.{not, List, [], ◌∷◌, ℕ, Float, Result, Ok, Err}
 use Rattle.std.specs.Float.{binary64}
 use Rattle.std.specs.Float.Ieee.{mul, div, sub}
 use Rattle.doubles.specs.Decimal.{nearest, plus, zero}
@@ -7,8 +7,8 @@ use Rattle.doubles.specs.Range.{in_range}
 use Rattle.reply.specs.Number.{number_of, answered}
 use Rattle.reply.specs.First.{Check, ◌if◌, first_of, answer}
 use Rattle.reply.specs.declared.Refusal.TheVariants.{OutOfRange}
-use Rattle.units.specs.declared.AmbientAnswer.{AmbientAnswer}
-use Rattle.units.specs.declared.AmbientAnswer.TheVariants.{Given, Refused}
+use Rattle.reply.specs.declared.Refusal.{Refusal}
+use Rattle.units.specs.declared.Ambient.{Ambient}
 
 -- document 01's number and figures of an answer
 pub record Figures : Type 0 where
@@ -22,10 +22,10 @@ abbrev pub refused : ℕ → Figures
 refused number = record { number = number; rt = zero; strand_excess = zero; scaffold_excess = zero }
 
 -- an answer of the code as its number and figures
-abbrev pub ambient_figures : AmbientAnswer → Figures
-ambient_figures (Given a) =
+abbrev pub ambient_figures : Result Ambient Refusal → Figures
+ambient_figures (Ok a) =
     record { number = answered; rt = a.rt.0; strand_excess = a.strand_excess.0; scaffold_excess = a.scaffold_excess.0 }
-ambient_figures (Refused refusal) = refused (number_of refusal)
+ambient_figures (Err refusal) = refused (number_of refusal)
 
 -- the gas constant, in kcal/mol/K
 unfoldable pub gas_constant : Float

@@ -6,40 +6,152 @@ ghost use Rattle.std.specs.Float.Ieee as Ieee;
 ghost use Rattle.std.specs.Float.{binary64};
 ghost use Rattle.units.specs.Ambient.{ambient_figures, ambient_at};
 
-use reply::Refusal;
+use reply::{Refusal, refused_if};
+use std::ops::{Add, Div, Mul, Sub};
 
 // A temperature, or a difference of two.
-#[derive(Clone, Copy)]
+#[derive(Clone, Copy, PartialEq, Debug)]
 pub struct Kelvin(pub f64);
 
 // An energy: dG, or RT.
-#[derive(Clone, Copy)]
+#[derive(Clone, Copy, PartialEq, Debug)]
 pub struct KcalPerMol(pub f64);
 
 // An entropy: dS, or the gas constant.
-#[derive(Clone, Copy)]
+#[derive(Clone, Copy, PartialEq, Debug)]
 pub struct KcalPerMolKelvin(pub f64);
 
+// The sum of two temperatures.
+impl Add for Kelvin {
+    type Output = Kelvin;
+
+    ghost add_gives = { λ x y z. z.0 ≡ Ieee.add binary64 x.0 y.0 };
+
+    fn add(self, rhs: Kelvin) -> Kelvin {
+        Kelvin(self.0 + rhs.0)
+    }
+}
+
+// Their difference: an excess.
+impl Sub for Kelvin {
+    type Output = Kelvin;
+
+    ghost sub_gives = { λ x y z. z.0 ≡ Ieee.sub binary64 x.0 y.0 };
+
+    fn sub(self, rhs: Kelvin) -> Kelvin {
+        Kelvin(self.0 - rhs.0)
+    }
+}
+
+// A temperature times an entropy: an energy.
+impl Mul<KcalPerMolKelvin> for Kelvin {
+    type Output = KcalPerMol;
+
+    ghost mul_gives = { λ x y z. z.0 ≡ Ieee.mul binary64 x.0 y.0 };
+
+    fn mul(self, rhs: KcalPerMolKelvin) -> KcalPerMol {
+        KcalPerMol(self.0 * rhs.0)
+    }
+}
+
+// The sum of two energies.
+impl Add for KcalPerMol {
+    type Output = KcalPerMol;
+
+    ghost add_gives = { λ x y z. z.0 ≡ Ieee.add binary64 x.0 y.0 };
+
+    fn add(self, rhs: KcalPerMol) -> KcalPerMol {
+        KcalPerMol(self.0 + rhs.0)
+    }
+}
+
+// Their difference.
+impl Sub for KcalPerMol {
+    type Output = KcalPerMol;
+
+    ghost sub_gives = { λ x y z. z.0 ≡ Ieee.sub binary64 x.0 y.0 };
+
+    fn sub(self, rhs: KcalPerMol) -> KcalPerMol {
+        KcalPerMol(self.0 - rhs.0)
+    }
+}
+
+// A plain number of them.
+impl Mul<KcalPerMol> for f64 {
+    type Output = KcalPerMol;
+
+    ghost mul_gives = { λ x y z. z.0 ≡ Ieee.mul binary64 x y.0 };
+
+    fn mul(self, rhs: KcalPerMol) -> KcalPerMol {
+        KcalPerMol(self * rhs.0)
+    }
+}
+
+// How many of the other it is.
+impl Div for KcalPerMol {
+    type Output = f64;
+
+    ghost div_gives = { λ x y z. z ≡ Ieee.div binary64 x.0 y.0 };
+
+    fn div(self, rhs: KcalPerMol) -> f64 {
+        self.0 / rhs.0
+    }
+}
+
+// The sum of two entropies.
+impl Add for KcalPerMolKelvin {
+    type Output = KcalPerMolKelvin;
+
+    ghost add_gives = { λ x y z. z.0 ≡ Ieee.add binary64 x.0 y.0 };
+
+    fn add(self, rhs: KcalPerMolKelvin) -> KcalPerMolKelvin {
+        KcalPerMolKelvin(self.0 + rhs.0)
+    }
+}
+
+// Their difference.
+impl Sub for KcalPerMolKelvin {
+    type Output = KcalPerMolKelvin;
+
+    ghost sub_gives = { λ x y z. z.0 ≡ Ieee.sub binary64 x.0 y.0 };
+
+    fn sub(self, rhs: KcalPerMolKelvin) -> KcalPerMolKelvin {
+        KcalPerMolKelvin(self.0 - rhs.0)
+    }
+}
+
+// An entropy times a temperature: an energy.
+impl Mul<Kelvin> for KcalPerMolKelvin {
+    type Output = KcalPerMol;
+
+    ghost mul_gives = { λ x y z. z.0 ≡ Ieee.mul binary64 x.0 y.0 };
+
+    fn mul(self, rhs: Kelvin) -> KcalPerMol {
+        KcalPerMol(self.0 * rhs.0)
+    }
+}
+
+// The operators by name, for callers that chain them.
 impl Kelvin {
     // The sum of two temperatures.
     pub fn add(self, other: Kelvin) -> Kelvin
         ensures { result.0 ≡ Ieee.add binary64 self.0 other.0 }
     {
-        Kelvin(self.0 + other.0)
+        self + other
     }
 
     // The difference of two temperatures: an excess.
     pub fn sub(self, other: Kelvin) -> Kelvin
         ensures { result.0 ≡ Ieee.sub binary64 self.0 other.0 }
     {
-        Kelvin(self.0 - other.0)
+        self - other
     }
 
     // A temperature times an entropy: an energy.
     pub fn times(self, entropy: KcalPerMolKelvin) -> KcalPerMol
         ensures { result.0 ≡ Ieee.mul binary64 self.0 entropy.0 }
     {
-        KcalPerMol(self.0 * entropy.0)
+        self * entropy
     }
 }
 
@@ -48,28 +160,28 @@ impl KcalPerMol {
     pub fn add(self, other: KcalPerMol) -> KcalPerMol
         ensures { result.0 ≡ Ieee.add binary64 self.0 other.0 }
     {
-        KcalPerMol(self.0 + other.0)
+        self + other
     }
 
     // The difference of two energies.
     pub fn sub(self, other: KcalPerMol) -> KcalPerMol
         ensures { result.0 ≡ Ieee.sub binary64 self.0 other.0 }
     {
-        KcalPerMol(self.0 - other.0)
+        self - other
     }
 
     // A plain number of them: a sum of bonds, for RT.
     pub fn scale(self, by: f64) -> KcalPerMol
         ensures { result.0 ≡ Ieee.mul binary64 by self.0 }
     {
-        KcalPerMol(by * self.0)
+        by * self
     }
 
     // How many of the other it is: a plain number.
     pub fn over(self, other: KcalPerMol) -> f64
         ensures { result ≡ Ieee.div binary64 self.0 other.0 }
     {
-        self.0 / other.0
+        self / other
     }
 }
 
@@ -78,21 +190,21 @@ impl KcalPerMolKelvin {
     pub fn add(self, other: KcalPerMolKelvin) -> KcalPerMolKelvin
         ensures { result.0 ≡ Ieee.add binary64 self.0 other.0 }
     {
-        KcalPerMolKelvin(self.0 + other.0)
+        self + other
     }
 
     // The difference of two entropies.
     pub fn sub(self, other: KcalPerMolKelvin) -> KcalPerMolKelvin
         ensures { result.0 ≡ Ieee.sub binary64 self.0 other.0 }
     {
-        KcalPerMolKelvin(self.0 - other.0)
+        self - other
     }
 
     // An entropy times a temperature: an energy.
     pub fn times(self, temperature: Kelvin) -> KcalPerMol
         ensures { result.0 ≡ Ieee.mul binary64 self.0 temperature.0 }
     {
-        KcalPerMol(self.0 * temperature.0)
+        self * temperature
     }
 }
 
@@ -109,30 +221,22 @@ const LOWEST_KELVIN: f64 = 200.0;
 const HIGHEST_KELVIN: f64 = 500.0;
 
 // Document 01's ambient, in which a design is judged: RT, and the excess over 37 °C between strands and between strand and scaffold.
-#[derive(Clone, Copy)]
+#[derive(Clone, Copy, PartialEq, Debug)]
 pub struct Ambient {
     pub rt: KcalPerMol,
     pub strand_excess: Kelvin,
     pub scaffold_excess: Kelvin,
 }
 
-// An ambient, or why there is none.
-#[derive(Clone, Copy)]
-pub enum AmbientAnswer {
-    Given(Ambient),
-    Refused(Refusal),
-}
-
 // The ambient at a temperature, with one excess for both.
-pub fn ambient_at(temperature: Kelvin) -> AmbientAnswer
+pub fn ambient_at(temperature: Kelvin) -> Result<Ambient, Refusal>
     ensures { ambient_figures result ≡ ambient_at temperature.0 }
 {
-    if !doubles::in_range(LOWEST_KELVIN, HIGHEST_KELVIN, temperature.0) {
-        return AmbientAnswer::Refused(Refusal::OutOfRange);
-    }
-    let excess = temperature.sub(T37C);
-    AmbientAnswer::Given(Ambient {
-        rt: R_VAL.times(temperature),
+    let known = doubles::in_range(LOWEST_KELVIN, HIGHEST_KELVIN, temperature.0);
+    refused_if(Refusal::OutOfRange, !known)?;
+    let excess = temperature - T37C;
+    Ok(Ambient {
+        rt: R_VAL * temperature,
         strand_excess: excess,
         scaffold_excess: excess,
     })

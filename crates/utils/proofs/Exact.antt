@@ -22,7 +22,6 @@ use Rattle.doubles.proofs.Sums.{weaken}
 use Rattle.doubles.proofs.Near.{total, round-near, sum_near}
 use Rattle.doubles.proofs.Sums.{sum-append}
 use Rattle.reply.specs.First.{first_of}
-use Rattle.reply.specs.declared.Reply.TheVariants.{Admitted}
 use Rattle.utils.specs.Bases.{Base, bases}
 use Rattle.utils.specs.Paper.{stack_of, find, table1, initiation_dg, initiation_ds, terminal_dg, terminal_ds, symmetry_dg, symmetry_ds, kilo}
 use Rattle.utils.specs.Figures.{stack_dg, stack_ds, entropy_of, start_dg, start_ds, printed_start_ds, end_dg, end_ds, symmetric_dg, symmetric_ds}
@@ -30,6 +29,7 @@ use Rattle.utils.specs.Single.{Neighbours, neighbours, stack_sum, sequence_check
 use Rattle.utils.specs.Terms.{is_a_or_t, first_base, last_base, self_complementary, terms_after, published_dg, published_ds, published_dna_dg_ds}
 use Rattle.utils.specs.Exact.{above, below, together, dg_of, ds_of, old_dg, old_ds, paper_dg, paper_ds, NearSum, count, weak_ends, WholeDuplexes}
 use Rattle.utils.proofs.Small.{nearest-within, halves, tested}
+use Rattle.std.specs.Prelude.{Ok}
 use Rattle.utils.proofs.Finite.{few-neighbours, sequence-short, one-energy, sums-finite, energy-of, entropy-of}
 
 -- ---- arithmetic
@@ -219,7 +219,7 @@ module _ (places : ℕ) (f : Neighbours → Decimal) (fit : (n : Neighbours) →
       let size : length (map f (neighbours s) ++ ts) ≤ 259 = simp (length-append, length-map) (omega (arith, few-neighbours s)) in
       rw all (near-sum places (map f (neighbours s) ++ ts) (each_append (Fit places) (map f (neighbours s)) ts stacks each) size)
 
-module _ (s : List ℕ) (admitted : first_of (sequence_checks s) ≡ Admitted) where
+module _ (s : List ℕ) (admitted : first_of (sequence_checks s) ≡ Ok tt) where
   p : Bool
   p = is_a_or_t (first_base (bases s))
 

@@ -21,10 +21,8 @@ use Rattle.doubles.proofs.Sums.{weaken, add-within, sub_within}
 use Rattle.doubles.proofs.Products.{mul-within}
 use Rattle.doubles.proofs.Bounds.{zero-within, sum-within, in-range-within}
 use Rattle.reply.specs.First.{Check, ◌if◌, first_of, answer}
-use Rattle.reply.specs.Number.{number_of}
+use Rattle.reply.specs.Number.{number_of, Reply}
 use Rattle.reply.specs.declared.Refusal.TheVariants.{WrongSize, NotABase, TooShort, UnequalLengths, NoSuchLoop, OutOfRange}
-use Rattle.reply.specs.declared.Reply.{Reply}
-use Rattle.reply.specs.declared.Reply.TheVariants.{Admitted, Refused}
 use Rattle.reply.proofs.First.{passes}
 use Rattle.utils.specs.Answers.{DgDsFigures, refused_dg_ds, DgFigures, refused_dg}
 use Rattle.utils.specs.Bases.{Base, bases, not_a_base}
@@ -37,6 +35,7 @@ use Rattle.utils.specs.declared.tables.LoopKind.TheVariants.{Internal}
 use Rattle.utils.proofs.Neighbours.{bases-length}
 use Rattle.utils.proofs.ThirtySeconds.{Parts, add_parts, weaken-parts, parts_within, zero-parts}
 use Rattle.utils.proofs.Small.{stack-energy, stack-entropy, start-energy, start-entropy, mismatch-energy}
+use Rattle.std.specs.Prelude.{Ok, Err}
 use Rattle.utils.proofs.LoopEnergy.{admitted-ends, loop-low, loop-short}
 
 -- sums this small have room
@@ -167,28 +166,28 @@ sums-finite =
 -- ---- answers
 
 -- what holds of a refusal, and of what is given where all checks are passed, holds of the answer
-of-answer : {X : Type 0} (P : X → Type 0) (reply : Reply) (refused : ℕ → X) (given : X) → ((number : ℕ) → P (refused number)) → (reply ≡ Admitted → P given) → P (answer reply refused given)
-of-answer P Admitted refused given none some = some refl
-of-answer P (Refused refusal place) refused given none some = none (number_of refusal)
+of-answer : {X : Type 0} (P : X → Type 0) (reply : Reply) (refused : ℕ → X) (given : X) → ((number : ℕ) → P (refused number)) → (reply ≡ Ok tt → P given) → P (answer reply refused given)
+of-answer P (Ok u) refused given none some = some refl
+of-answer P (Err e) refused given none some = none (number_of e.refusal)
 
 -- of checks one after the other all are passed
-both-passed : (cs ds : List Check) → first_of (cs ++ ds) ≡ Admitted → (first_of cs ≡ Admitted) × (first_of ds ≡ Admitted)
+both-passed : (cs ds : List Check) → first_of (cs ++ ds) ≡ Ok tt → (first_of cs ≡ Ok tt) × (first_of ds ≡ Ok tt)
 both-passed [] ds e = (refl, e)
 both-passed (c ∷ cs) ds e =
     let p = passes c (cs ++ ds) e in
     let r = both-passed cs ds p.1 in
     (rw p.0 r.0, r.1)
 
-pub sequence-short : (s : List ℕ) → first_of (sequence_checks s) ≡ Admitted → length (bases s) ≤ 256
+pub sequence-short : (s : List ℕ) → first_of (sequence_checks s) ≡ Ok tt → length (bases s) ≤ 256
 sequence-short s e = rw (bases-length s) (ltb-false 256 (length s) (passes (WrongSize if too_long s) (NotABase if any not_a_base s ∷ TooShort if too_short s ∷ []) e).0)
 
-pair-short : (a b : List ℕ) → first_of (pair_checks a b) ≡ Admitted → length (bases a) ≤ 256
+pair-short : (a b : List ℕ) → first_of (pair_checks a b) ≡ Ok tt → length (bases a) ≤ 256
 pair-short a b e =
     let rest = NotABase if (any not_a_base a || any not_a_base b) ∷ UnequalLengths if not (eqb (length a) (length b)) ∷ NoSuchLoop if lacks_loop a b ∷ [] in
     let short = (passes (WrongSize if (too_long a || too_long b)) rest e).0 in
     rw (bases-length a) (ltb-false 256 (length a) (neither (too_long a) (too_long b) short).0)
 
-excess-within : (x : Float) → T (fits binary64 x) → first_of (excess_checks x) ≡ Admitted → Within binary64 1024 x
+excess-within : (x : Float) → T (fits binary64 x) → first_of (excess_checks x) ≡ Ok tt → Within binary64 1024 x
 unfolding excess_in_range
 excess-within x t e = in-range-within 1024 (lit≤ tt) x t (in-range (excess_in_range x) (passes (OutOfRange if not (excess_in_range x)) [] e).0)
   where
@@ -210,14 +209,14 @@ strength-within most h excess dg ds e p q =
 none_within : (most : ℕ) → Within binary64 most Decimal.zero
 none_within most = weaken most (omega arith) zero-within
 
-sequence-strength-within : (s : List ℕ) (x : Float) → T (fits binary64 x) → first_of (sequence_checks s ++ excess_checks x) ≡ Admitted
+sequence-strength-within : (s : List ℕ) (x : Float) → T (fits binary64 x) → first_of (sequence_checks s ++ excess_checks x) ≡ Ok tt
     → Within binary64 8959 (strength_at x (stack_sum stack_dg (bases s)) (stack_sum stack_ds (bases s)))
 sequence-strength-within s x t e =
     let p = both-passed (sequence_checks s) (excess_checks x) e in
     let h = sequence-short s p.0 in
     strength-within 765 (lit≤ tt) x _ _ (excess-within x t p.1) (one-energy (bases s) h) (one-entropy (bases s) h)
 
-pair-strength-within : (a b : List ℕ) (x : Float) → T (fits binary64 x) → first_of (pair_checks a b ++ excess_checks x) ≡ Admitted
+pair-strength-within : (a b : List ℕ) (x : Float) → T (fits binary64 x) → first_of (pair_checks a b ++ excess_checks x) ≡ Ok tt
     → Within binary64 9214 (strength_at x (pair_sums (bases a) (bases b)).dg (pair_sums (bases a) (bases b)).ds)
 pair-strength-within a b x t e =
     let p = both-passed (pair_checks a b) (excess_checks x) e in
@@ -225,13 +224,13 @@ pair-strength-within a b x t e =
     strength-within 1020 (lit≤ tt) x _ _ (excess-within x t p.1) (pair-energy (bases a) (bases b) h) (pair-kept (bases a) (bases b) h).entropy
 
 -- a figure of an answer
-pub energy-of : (most : ℕ) (checks : List Check) (given : DgDsFigures) → (first_of checks ≡ Admitted → Within binary64 most given.dg) → Within binary64 most (answer (first_of checks) refused_dg_ds given).dg
+pub energy-of : (most : ℕ) (checks : List Check) (given : DgDsFigures) → (first_of checks ≡ Ok tt → Within binary64 most given.dg) → Within binary64 most (answer (first_of checks) refused_dg_ds given).dg
 energy-of most checks given = of-answer (λ (r : DgDsFigures). Within binary64 most r.dg) (first_of checks) refused_dg_ds given (λ n. none_within most)
 
-pub entropy-of : (most : ℕ) (checks : List Check) (given : DgDsFigures) → (first_of checks ≡ Admitted → Within binary64 most given.ds) → Within binary64 most (answer (first_of checks) refused_dg_ds given).ds
+pub entropy-of : (most : ℕ) (checks : List Check) (given : DgDsFigures) → (first_of checks ≡ Ok tt → Within binary64 most given.ds) → Within binary64 most (answer (first_of checks) refused_dg_ds given).ds
 entropy-of most checks given = of-answer (λ (r : DgDsFigures). Within binary64 most r.ds) (first_of checks) refused_dg_ds given (λ n. none_within most)
 
-strength-of : (most : ℕ) (checks : List Check) (given : DgFigures) → (first_of checks ≡ Admitted → Within binary64 most given.dg) → Within binary64 most (answer (first_of checks) refused_dg given).dg
+strength-of : (most : ℕ) (checks : List Check) (given : DgFigures) → (first_of checks ≡ Ok tt → Within binary64 most given.dg) → Within binary64 most (answer (first_of checks) refused_dg given).dg
 strength-of most checks given = of-answer (λ (r : DgFigures). Within binary64 most r.dg) (first_of checks) refused_dg given (λ n. none_within most)
 
 pub answers-finite : AnswersFinite

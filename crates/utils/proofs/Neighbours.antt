@@ -1,12 +1,11 @@
 -- The sum over a sequence's neighbours, taken up after the first i places. Assumes nothing.
 use mathlib.Core.Path.{◌≡◌, refl, ap, sym, ◌∙◌}
 use mathlib.Core.List.{List, [], ◌∷◌, map}
-use Prim.Native.Nat.{ℕ, zero, suc, ◌+◌, ◌-◌, ◌<◌, ◌≤◌}
+use Prim.Native.Nat.{ℕ, suc, ◌<◌, ◌≤◌}
 use native.Mathlib.Nat.{le_of_suc-le-suc, not-suc-le-zero}
 use native.Mathlib.Omega.{arith}
-use native.Mathlib.Numerals.{add-one, sub-one}
 use lib.Ieee.{Float, binary64, add}
-use lib.ListN.{length, get_or, drop, length-map, get_or-map}
+use lib.ListN.{length, get_or, drop, take, length-map, get_or-map}
 use lib.Seq.{drop-cons}
 use Rattle.doubles.specs.Sum.{sum_from}
 use Rattle.utils.specs.Bases.{Base, base_of, bases}
@@ -27,30 +26,30 @@ bases-cons s i h =
     let k : i < length (bases s) = rw (bases-length s) h in
     drop-cons (bases s) i (base_of 0) k ∙ ap (λ (b : Base). b ∷ drop (suc i) (bases s)) (base-at s i)
 
--- the sum of what is left when the code is at place i, of which the place before is still wanted
-unfoldable pub sum_at : (Base → Base → Float) → Float → List ℕ → ℕ → Float
-sum_at f sum s i = sum_from sum (map (at_neighbours f) (neighbours (drop (i - 1) (bases s))))
+-- a pair of neighbours is the first two places of what is left
+pub first-two : (rest pair : List ℕ) (size : ℕ) → size ≡ 2 → size ≤ length rest → pair ≡ take size rest
+    → (2 ≤ length rest) × (get_or pair 0 0 ≡ get_or rest 0 0) × (get_or pair 1 0 ≡ get_or rest 1 0)
+first-two [] pair size e h p = absurd (omega (arith, e))
+first-two (x ∷ []) pair size e h p = absurd (omega (arith, e))
+first-two (x ∷ y ∷ rest) pair size e h p = rw (p, e) (lit≤-two rest, refl, refl)
+  where
+    lit≤-two : (s : List ℕ) → 2 ≤ suc (suc (length s))
+    lit≤-two s = omega arith
 
-sum_more : (f : Base → Base → Float) (sum : Float) (s : List ℕ) (i : ℕ) → 1 ≤ i → i < length s
-    → sum_at f sum s i ≡ sum_at f (add binary64 sum (f (base_of (get_or s (i - 1) 0)) (base_of (get_or s i 0)))) s (i + 1)
-unfolding sum_at sum_from neighbours
-sum_more f sum s zero l h = absurd (not-suc-le-zero l)
-sum_more f sum s (suc i) l h =
-    let k : i < length s = omega arith in
-    simp (add-one, sub-one) (rw (bases-cons s i k, bases-cons s (suc i) h))
+-- the sum of what is left, out of that so far
+unfoldable pub sum_rest : (Base → Base → Float) → Float → List ℕ → Float
+sum_rest f sum rest = sum_from sum (map (at_neighbours f) (neighbours (bases rest)))
 
--- the loop's step: a sum that is to be carried on from place i is to be carried on from the next, with one stack more
-pub carry-on : (f : Base → Base → Float) (sum : Float) (s : List ℕ) (i : ℕ) {total next : Float} → 1 ≤ i → i < length s → total ≡ sum_at f sum s i
-    → next ≡ add binary64 sum (f (base_of (get_or s (i - 1) 0)) (base_of (get_or s i 0))) → total ≡ sum_at f next s (i + 1)
-carry-on f sum s i l h e n = e ∙ sum_more f sum s i l h ∙ ap (λ (x : Float). sum_at f x s (i + 1)) (sym n)
+-- the loop's step: a sum that is to be carried on over what is left is to be carried on over what is left after one place, with one stack more
+pub carry-on : (f : Base → Base → Float) (sum : Float) (rest : List ℕ) {total next : Float} → 2 ≤ length rest → total ≡ sum_rest f sum rest
+    → next ≡ add binary64 sum (f (base_of (get_or rest 0 0)) (base_of (get_or rest 1 0))) → total ≡ sum_rest f next (drop 1 rest)
+unfolding sum_rest sum_from neighbours bases
+carry-on f sum [] h e n = absurd (not-suc-le-zero h)
+carry-on f sum (x ∷ []) h e n = absurd (not-suc-le-zero (le_of_suc-le-suc h))
+carry-on f sum (x ∷ y ∷ rest) h e n = e ∙ ap (λ (z : Float). sum_rest f z (y ∷ rest)) (sym n)
 
-sum-none : (f : Base → Base → Float) (sum : Float) (s : List Base) → length s ≤ 1 → sum_from sum (map (at_neighbours f) (neighbours s)) ≡ sum
-unfolding sum_from neighbours
-sum-none f sum [] h = refl
-sum-none f sum (a ∷ []) h = refl
-sum-none f sum (a ∷ b ∷ s) h = absurd (not-suc-le-zero (le_of_suc-le-suc h))
-
-pub sum_done : (f : Base → Base → Float) (sum : Float) (s : List ℕ) (i : ℕ) → length s ≤ i → sum_at f sum s i ≡ sum
-unfolding sum_at
-sum_done f sum s i h =
-    sum-none f sum (drop (i - 1) (bases s)) (rw (lib.ListN.length-drop (i - 1) (bases s), bases-length s) (omega arith))
+pub sum-done : (f : Base → Base → Float) (sum : Float) (rest : List ℕ) → length rest < 2 → sum_rest f sum rest ≡ sum
+unfolding sum_rest sum_from neighbours bases
+sum-done f sum [] h = refl
+sum-done f sum (x ∷ []) h = refl
+sum-done f sum (x ∷ y ∷ rest) h = absurd (omega arith)

@@ -8,7 +8,6 @@ use Rattle.lists.proofs.Tests.{both, and_both}
 use Rattle.doubles.specs.Decimal.{nearest}
 use Rattle.doubles.specs.Sum.{sum_from}
 use Rattle.reply.specs.First.{first_of}
-use Rattle.reply.specs.declared.Reply.TheVariants.{Admitted}
 use Rattle.utils.specs.Answers.{given_dg_ds}
 use Rattle.utils.specs.Bases.{Base, bases, index_of, same}
 use Rattle.utils.specs.Paper.{initiation_dg, initiation_ds, terminal_dg, terminal_ds, symmetry_dg, symmetry_ds, kilo}
@@ -17,6 +16,7 @@ use Rattle.utils.specs.Single.{stack_sum, sequence_checks}
 use Rattle.utils.specs.Terms.{is_a_or_t, first_base, last_base, reverse_complement, same_bases, self_complementary, terms_after, published_dg, published_ds, published_dna_dg_ds}
 use Rattle.utils.specs.Published.{PublishedTerms}
 use Rattle.utils.proofs.Letters.{numbered, numbered-index}
+use Rattle.std.specs.Prelude.{Ok}
 use Rattle.utils.proofs.Exact.{terms, terms-mapped}
 
 one-base : (a b : Base) → same a b ≡ true → a ≡ b
@@ -46,7 +46,7 @@ unsymmetric : (s : List Base) → self_complementary s ≡ false → reverse_com
 unfolding self_complementary
 unsymmetric s e same = false≢true (sym e ∙ ap (λ t. same_bases t s) same ∙ itself s)
 
-answer : (s : List ℕ) → first_of (sequence_checks s) ≡ Admitted
+answer : (s : List ℕ) → first_of (sequence_checks s) ≡ Ok tt
     → published_dna_dg_ds s ≡ given_dg_ds (published_dg (bases s)) (published_ds (bases s))
 unfolding published_dna_dg_ds
 answer s e = rw e

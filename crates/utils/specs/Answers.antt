@@ -1,11 +1,10 @@
 -- Document 01's number and figures of each answer. A refusal carries no other figure.
-use Rattle.std.specs.Prelude.{ℕ, Float}
+use Rattle.std.specs.Prelude.{ℕ, Float, Result, Ok, Err}
 use Rattle.doubles.specs.Decimal.{zero}
 use Rattle.reply.specs.Number.{number_of, answered}
-use Rattle.utils.specs.declared.DgDsAnswer.{DgDsAnswer}
-use Rattle.utils.specs.declared.DgDsAnswer.TheVariants as dgds
-use Rattle.utils.specs.declared.DgAnswer.{DgAnswer}
-use Rattle.utils.specs.declared.DgAnswer.TheVariants as dg
+use Rattle.reply.specs.declared.Refusal.{Refusal}
+use Rattle.units.specs.declared.KcalPerMol.{KcalPerMol}
+use Rattle.utils.specs.declared.DgDs.{DgDs}
 
 -- of one or two sequences
 pub record DgDsFigures : Type 0 where
@@ -22,9 +21,9 @@ abbrev pub given_dg_ds : Float → Float → DgDsFigures
 given_dg_ds dg ds = record { number = answered; dg = dg; ds = ds }
 
 -- an answer of the code as its number and figures
-abbrev pub dg_ds_figures : DgDsAnswer → DgDsFigures
-dg_ds_figures (dgds.Given dg ds) = given_dg_ds (dg).0 ds.0
-dg_ds_figures (dgds.Refused refusal) = refused_dg_ds (number_of refusal)
+abbrev pub dg_ds_figures : Result DgDs Refusal → DgDsFigures
+dg_ds_figures (Ok sums) = given_dg_ds sums.dg.0 sums.ds.0
+dg_ds_figures (Err refusal) = refused_dg_ds (number_of refusal)
 
 -- of a loop or a strength
 pub record DgFigures : Type 0 where
@@ -40,6 +39,6 @@ abbrev pub given_dg : Float → DgFigures
 given_dg dg = record { number = answered; dg = dg }
 
 -- an answer of the code as its number and figures
-abbrev pub dg_figures : DgAnswer → DgFigures
-dg_figures (dg.Given dg) = given_dg (dg).0
-dg_figures (dg.Refused refusal) = refused_dg (number_of refusal)
+abbrev pub dg_figures : Result KcalPerMol Refusal → DgFigures
+dg_figures (Ok dg) = given_dg dg.0
+dg_figures (Err refusal) = refused_dg (number_of refusal)

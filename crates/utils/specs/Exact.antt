@@ -1,12 +1,11 @@
 -- Whole duplexes without rounding: the decimals of a sequence added as whole numbers, and how near the answers of both modes lie to that.
-use Rattle.std.specs.Prelude.{◌≡◌, Bool, cond, List, [], ◌∷◌, ◌++◌, map, ℕ, ◌+◌, ◌*◌, ◌^◌, Float}
+use Rattle.std.specs.Prelude.{◌≡◌, Bool, cond, List, [], ◌∷◌, ◌++◌, map, ℕ, ◌+◌, ◌*◌, ◌^◌, Float, Ok}
 use Rattle.std.specs.Float.{binary64}
 use Rattle.doubles.specs.Decimal.{Decimal, plus}
 use Rattle.doubles.specs.Order.{over_part, under_part}
 use Rattle.doubles.specs.Size.{Within}
 use Rattle.doubles.specs.Near.{two_to_minus, NearFraction}
 use Rattle.reply.specs.First.{first_of}
-use Rattle.reply.specs.declared.Reply.TheVariants.{Admitted}
 use Rattle.utils.specs.Bases.{Base, bases}
 use Rattle.utils.specs.Paper.{stack_of, initiation_dg, initiation_ds, terminal_dg, terminal_ds, symmetry_dg, symmetry_ds, kilo}
 use Rattle.utils.specs.Figures.{entropy_of}
@@ -61,10 +60,10 @@ weak_ends s = count (is_a_or_t (first_base s)) + count (is_a_or_t (last_base s))
 -- for every sequence of 2 to 256 bases
 pub record WholeDuplexes : Type 0 where
   -- dG within 2⁻³⁴ kcal/mol of the exact sum in hundredths, dS within 2⁻³⁴ kcal/mol/K of that in ten-thousandths
-  pub old_energy : (s : List ℕ) → first_of (sequence_checks s) ≡ Admitted → NearSum 34 2 (string_dna_dg_ds s).dg (old_dg (bases s))
-  pub old_entropy : (s : List ℕ) → first_of (sequence_checks s) ≡ Admitted → NearSum 34 4 (string_dna_dg_ds s).ds (old_ds (bases s))
-  pub paper_energy : (s : List ℕ) → first_of (sequence_checks s) ≡ Admitted → NearSum 34 2 (published_dna_dg_ds s).dg (paper_dg (bases s))
-  pub paper_entropy : (s : List ℕ) → first_of (sequence_checks s) ≡ Admitted → NearSum 34 4 (published_dna_dg_ds s).ds (paper_ds (bases s))
+  pub old_energy : (s : List ℕ) → first_of (sequence_checks s) ≡ Ok tt → NearSum 34 2 (string_dna_dg_ds s).dg (old_dg (bases s))
+  pub old_entropy : (s : List ℕ) → first_of (sequence_checks s) ≡ Ok tt → NearSum 34 4 (string_dna_dg_ds s).ds (old_ds (bases s))
+  pub paper_energy : (s : List ℕ) → first_of (sequence_checks s) ≡ Ok tt → NearSum 34 2 (published_dna_dg_ds s).dg (paper_dg (bases s))
+  pub paper_entropy : (s : List ℕ) → first_of (sequence_checks s) ≡ Ok tt → NearSum 34 4 (published_dna_dg_ds s).ds (paper_ds (bases s))
   -- the published answers, to whatever is sent, are finite; a refusal has 0.0
   pub paper_finite : (s : List ℕ) → Within binary64 773 (published_dna_dg_ds s).dg × Within binary64 12 (published_dna_dg_ds s).ds
   -- the exact energies of the modes part by 0.05 for each A-as-T end and 0.43 for a self-complementary sequence

@@ -1,13 +1,12 @@
 -- The energies beside the paper. That the code's arrays hold these doubles is proved in the contracts of src/tables.rt; here stands what the
 -- doubles of Figures.antt, defined as those nearest to the decimals of Paper.antt, leave to be asked: that the decimals cover every window once,
 -- where the entropies part from the paper's, and that dG, dH and dS agree with each other.
-use Rattle.std.specs.Prelude.{◌≡◌, Bool, true, false, not, ◌&&◌, ◌||◌, List, map, ℕ, ◌+◌, ◌-◌, ◌*◌, ◌^◌, ◌<◌, leb, get_or, length}
+use Rattle.std.specs.Prelude.{◌≡◌, Bool, true, false, not, ◌&&◌, ◌||◌, List, map, ℕ, ◌+◌, ◌-◌, ◌*◌, ◌^◌, ◌<◌, leb, get_or, length, Ok}
 use Rattle.std.specs.Float.Ieee.{neg}
 use Rattle.lists.specs.Build.{keep}
 use Rattle.doubles.specs.Decimal.{Decimal, minus, nearest}
 use Rattle.doubles.specs.Sum.{sum_from}
 use Rattle.reply.specs.First.{first_of}
-use Rattle.reply.specs.declared.Reply.TheVariants.{Admitted}
 use Rattle.utils.specs.Answers.{given_dg_ds}
 use Rattle.utils.specs.Bases.{Base, bases, complement, complementary, same}
 use Rattle.utils.specs.Paper.{Stack, table1, is_for, absent, stack_of, kilo, initiation_dg, initiation_ds, terminal_dg, terminal_ds, symmetry_dg, symmetry_ds, mismatch_of, table4, no_loop, loop_figure}
@@ -77,7 +76,7 @@ pub record PublishedTerms : Type 0 where
   pub symmetric : (s : List Base) → self_complementary s ≡ true → reverse_complement s ≡ s
   pub unsymmetric : (s : List Base) → self_complementary s ≡ false → reverse_complement s ≡ s → ⊥
   -- the answer is the pairs' sum followed by the paper's terms
-  pub answer : (s : List ℕ) → first_of (sequence_checks s) ≡ Admitted
+  pub answer : (s : List ℕ) → first_of (sequence_checks s) ≡ Ok tt
       → published_dna_dg_ds s
       ≡ given_dg_ds (sum_from (stack_sum stack_dg (bases s)) (map nearest (terms_after initiation_dg terminal_dg symmetry_dg (bases s))))
       (sum_from (stack_sum stack_ds (bases s)) (map nearest (terms_after (kilo initiation_ds) (kilo terminal_ds) (kilo symmetry_ds) (bases s))))

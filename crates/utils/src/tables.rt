@@ -1,30 +1,55 @@
 // The constant tables, and the energies that are read off them.
 ghost use Rattle.std.specs.Prelude.{◌≡◌, ◌^◌, ◌<◌, ◌≤◌, get_or};
 ghost use Rattle.utils.specs.Paper.{no_loop, loop_figure};
-ghost use Rattle.utils.specs.Figures.{stack_dg, stack_ds, penalty, mismatch_dg, loop_rows, entry_up_to, loop_entry, between_units, loop_energy};
+ghost use Rattle.utils.specs.Figures.{stack_dg, stack_ds, penalty, mismatch_dg, loop_rows, entry_up_to, loop_entry, admitted_length, between_units, loop_energy};
 ghost use Rattle.utils.specs.inner.Tables.{by_two, by_three, StackAt, hundredths, kind_index};
+ghost use Rattle.utils.specs.inner.Code.{KindAt};
 
-use crate::bases::{DnaNucleotideBase, good_match};
+use crate::DgDs;
+use crate::bases::{DnaNucleotideBase, Window, good_match};
 use logarithm::{ln_whole, mul_units};
+use reply::Refusal;
 use units::{KcalPerMol, KcalPerMolKelvin};
 
 // Stacks of two pairs, 5' to 3': a row for the first base, in the order A, T, G, C.
-pub(crate) const NEIGHBOUR_DG: [[f64; 4]; 4] = [
-    [-1.0, -0.88, -1.28, -1.44],
-    [-0.58, -1.0, -1.45, -1.30],
-    [-1.30, -1.44, -1.84, -2.24],
-    [-1.45, -1.28, -2.17, -1.84],
-];
+#[derive(Clone, Copy)]
+pub(crate) struct Stacks {
+    energies: [[f64; 4]; 4],
+    entropies: [[f64; 4]; 4],
+    ghost figures: { (energies ≡ by_two stack_dg) × (entropies ≡ by_two stack_ds) },
+}
 
-// Their entropies, in the same order.
-pub(crate) const NEIGHBOUR_DS: [[f64; 4]; 4] = [
-    [-0.0213, -0.0204, -0.0210, -0.0224],
-    [-0.0213, -0.0213, -0.0227, -0.0222],
-    [-0.0222, -0.0224, -0.0199, -0.0244],
-    [-0.0227, -0.0210, -0.0272, -0.0199],
-];
+// A loop takes a copy first: the const would be written out again at each window.
+pub(crate) const STACKS: Stacks = Stacks {
+    energies: [
+        [-1.0, -0.88, -1.28, -1.44],
+        [-0.58, -1.0, -1.45, -1.30],
+        [-1.30, -1.44, -1.84, -2.24],
+        [-1.45, -1.28, -2.17, -1.84],
+    ],
+    entropies: [
+        [-0.0213, -0.0204, -0.0210, -0.0224],
+        [-0.0213, -0.0213, -0.0227, -0.0222],
+        [-0.0222, -0.0224, -0.0199, -0.0244],
+        [-0.0227, -0.0210, -0.0272, -0.0199],
+    ],
+};
+
+impl Stacks {
+    // The stack of two neighbours, 5' to 3', by their numbers.
+    pub(crate) fn at(&self, i: usize, j: usize) -> DgDs
+        requires { (i < 4) × (j < 4) }
+        ensures { StackAt i j result.dg.0 result.ds.0 }
+    {
+        DgDs {
+            dg: KcalPerMol(self.energies[i][j]),
+            ds: KcalPerMolKelvin(self.entropies[i][j]),
+        }
+    }
+}
 
 // Mismatches 5'-PX-3' over 3'-P*Y-5', at [P][X][Y], in hundredths of kcal/mol; 0 where X and Y pair.
+// Lent as it is, and not in a struct as the stacks: three levels of arrays in a struct get no proof yet.
 pub(crate) const PENALTY_TABLE: [[[i16; 4]; 4]; 4] = [
     [
         [61, 0, 14, 88],
@@ -62,44 +87,53 @@ const LOOP_TABLE: [[i16; 15]; 3] = [
 // The lengths that LOOP_TABLE has.
 const LENGTHS: [usize; 15] = [3, 4, 5, 6, 7, 8, 9, 10, 12, 14, 16, 18, 20, 25, 30];
 
+// The shortest loop, and the longest.
+const SHORTEST_LOOP: usize = 3;
+
+const LONGEST_LOOP: usize = 254;
+
 // R × 310.15 × 2.44 with R in kcal/mol/K, in units of 2^-53.
 const GAIN: u64 = 13545464151244108;
 
 // The kinds of loop, in the order of LOOP_TABLE's rows.
-#[derive(Clone, Copy)]
+#[derive(Clone, Copy, PartialEq, Eq)]
 pub(crate) enum LoopKind {
     Internal,
     Bulge,
     HairPin,
 }
 
-// dG and dS of some windows.
-#[derive(Clone, Copy)]
-pub(crate) struct DgDs(pub(crate) KcalPerMol, pub(crate) KcalPerMolKelvin);
-
 impl LoopKind {
     // The row of the kind in LOOP_TABLE.
     pub(crate) fn index(self) -> usize
         ensures { (result ≡ kind_index self) × (result < 3) }
     {
-        match self {
-            LoopKind::Internal => 0,
-            LoopKind::Bulge => 1,
-            LoopKind::HairPin => 2,
+        self as usize
+    }
+}
+
+// A kind by its number.
+impl TryFrom<u32> for LoopKind {
+    type Error = Refusal;
+
+    ghost try_from_gives = { λ number kind. KindAt number kind };
+
+    #[tactic(auto, unfolding(crate::specs::Loops::kind_of))]
+    fn try_from(number: u32) -> Result<LoopKind, Refusal> {
+        match number {
+            0 => Ok(LoopKind::Internal),
+            1 => Ok(LoopKind::Bulge),
+            2 => Ok(LoopKind::HairPin),
+            _ => Err(Refusal::NoSuchLoop),
         }
     }
 }
 
-// The stack of two neighbours, 5' to 3', by their numbers. A loop lends the tables: a const would be written out again at each window.
-pub(crate) fn dg_ds(energies: &[[f64; 4]; 4], entropies: &[[f64; 4]; 4], i: usize, j: usize) -> DgDs
-    requires energies_value { (energies.now ≡ by_two stack_dg) × (entropies.now ≡ by_two stack_ds) }
-    requires i_bound { (i < 4) × (j < 4) }
-    ensures { StackAt i j result.0.0 result.1.0 }
+// Whether a loop of this length has an energy.
+pub(crate) fn loop_admitted(length: usize) -> bool
+    ensures { result ≡ admitted_length length }
 {
-    DgDs(
-        KcalPerMol(energies[i][j]),
-        KcalPerMolKelvin(entropies[i][j]),
-    )
+    SHORTEST_LOOP <= length && length <= LONGEST_LOOP
 }
 
 // The energy of a mismatch: x over y, next to the pair of `prior`. One division gives the double nearest to the decimal.
@@ -121,19 +155,16 @@ pub(crate) fn calc_penalty(
 // The energy of a bad window: of the mismatch, read from whichever strand has the pair first.
 pub(crate) fn calculate_single_mismatch_penalty(
     penalties: &[[[i16; 4]; 4]; 4],
-    a1: DnaNucleotideBase,
-    a2: DnaNucleotideBase,
-    b1: DnaNucleotideBase,
-    b2: DnaNucleotideBase,
+    window: Window,
 ) -> KcalPerMol
     requires { penalties.now ≡ by_three hundredths }
-    ensures { result.0 ≡ mismatch_dg a1 a2 b1 b2 }
+    ensures { result.0 ≡ mismatch_dg window.a1 window.a2 window.b1 window.b2 }
 {
-    if good_match(a1, b1) {
-        return calc_penalty(penalties, a1, a2, b2);
+    if good_match(window.a1, window.b1) {
+        return calc_penalty(penalties, window.a1, window.a2, window.b2);
     }
-    if good_match(a2, b2) {
-        return calc_penalty(penalties, b2, b1, a1);
+    if good_match(window.a2, window.b2) {
+        return calc_penalty(penalties, window.b2, window.b1, window.a1);
     }
     KcalPerMol(0.0)
 }
@@ -143,14 +174,12 @@ fn entry_up_to(length: usize) -> usize
     requires { 3 ≤ length }
     ensures { (result < 15) × (get_or loop_rows result no_loop ≡ entry_up_to length) }
 {
-    let mut at = 0;
-    while at < 14 {
+    for at in 0..14 {
         if length < LENGTHS[at + 1] {
             return at;
         }
-        at += 1;
     }
-    at
+    14
 }
 
 // The energy of an entry, by its kind and the place of its length. One division gives the double nearest to the decimal.

@@ -1,76 +1,38 @@
--- `state_energy_over` meets its contract. Assumes nothing.
+-- The state energy is RT times the sum over the places, out of the lent cells. Assumes nothing.
 use mathlib.Core.Path.{◌≡◌, refl, sym, ap, ◌∙◌}
-use mathlib.Core.Bool.{not}
-use native.Mathlib.Omega.{arith}
-use lib.Dec.{eqb}
-use lib.ListN.{length}
-use lib.Ieee.{Float, binary64, mul}
-use borrow.Author.Tests.{eqb-true, not-false}
+use Rattle.std.specs.Prelude.{Ok}
+use Rattle.std.proofs.lemmas.Result.{err_from_is_err_and}
 use Rattle.doubles.specs.Decimal.{zero}
 use Rattle.model.specs.Energy.{state_energy}
 use Rattle.reply.specs.First.{first_of}
 use Rattle.reply.specs.Figures.{given}
 use Rattle.reply.proofs.Figures.{answered-by, refused-by}
-use Rattle.design.specs.Design.{Design, lent, positions, model_of}
+use Rattle.design.specs.Design.{model_of}
 use Rattle.design.specs.Checks.{own_energy_checks, energy_checks}
-use Rattle.design.proofs.Sizes.{sized}
 use Rattle.bond_tables.specs.Tables.{model_over}
-use Rattle.bond_tables.proofs.Over.{over-told, passed_over}
+use Rattle.bond_tables.specs.Answers.{energy_over_checks}
+use Rattle.bond_tables.proofs.Over.{told-by}
 use Rattle.bond_tables.proofs.state_energy_over.Goals as goal
 
-pub fill_terms_over-requires : goal.fill_terms_over-requires
-fill_terms_over-requires c =
-    let a = c.args in
-    let d : Design = lent a.scaffold a.marks a.glues a.dg a.ds a.potentials a.ambient in
-    let t = a.strand_bonds.now in
-    let u = a.scaffold_bonds.now in
-    let s = a.configuration.now in
-    let p = passed_over (not (eqb (length s) (positions d))) d t u (own_energy_checks d s) (sym (over-told c.bonds_reply-bonds.result (first_of (energy_checks d s)) c.or.ensures c.energy_reply-design.ensures (c.bonds_reply-bonds.ensures a.ambient (own_energy_checks d s))) ∙ c.in-Admitted.is) in
-    let z = sized d p.design.sizes in
-    let same : length s ≡ positions d = eqb-true _ _ (not-false _ p.size) in
-    let short = z.short in
-    record {
-      potentials_len_bound = z.few;
-      configuration_len_bound = omega arith;
-      configuration_in_bounds = omega arith;
-      configuration_in_bounds_2 = omega arith;
-      configuration_in_bounds_3 = omega arith;
-    }
+pub returns-in_err-bonds_reply : goal.returns-in_err-bonds_reply
+returns-in_err-bonds_reply c =
+    let d = c.args.design.now in
+    let t = c.args.tables.now.strand_bonds.now in
+    let u = c.args.tables.now.scaffold_bonds.now in
+    let s = c.args.configuration.now in
+    let p = err_from_is_err_and c.from_residual.result c.from_residual.ensures.1 in
+    let own = rw c.positions.ensures at (c.bonds_reply.ensures.value (own_energy_checks d s)) in
+    rw (p.1, p.2) (refused-by zero (state_energy (model_over d t u) s) (told-by c.bonds_reply.result _ (first_of (energy_checks d s)) (first_of (energy_over_checks d t u s)) own c.in_err-bonds_reply.was))
 
-pub state_sum-sumg-requires : goal.state_sum-sumg-requires
-state_sum-sumg-requires c =
-    let a = c.args in
-    let d : Design = lent a.scaffold a.marks a.glues a.dg a.ds a.potentials a.ambient in
-    let t = a.strand_bonds.now in
-    let u = a.scaffold_bonds.now in
-    let s = a.configuration.now in
-    let p = passed_over (not (eqb (length s) (positions d))) d t u (own_energy_checks d s) (sym (over-told c.bonds_reply-bonds.result (first_of (energy_checks d s)) c.or.ensures c.energy_reply-design.ensures (c.bonds_reply-bonds.ensures a.ambient (own_energy_checks d s))) ∙ c.in-Admitted.is) in
-    let z = sized d p.design.sizes in
-    let same : length s ≡ positions d = eqb-true _ _ (not-false _ p.size) in
-    let short = z.short in
-    record {
-      configuration_in_bounds = omega arith;
-      configuration_in_bounds_2 = omega arith;
-      configuration_in_bounds_3 = omega arith;
-    }
-
-pub returns-in-Refused : goal.returns-in-Refused
-returns-in-Refused c =
-    let a = c.args in
-    let d : Design = lent a.scaffold a.marks a.glues a.dg a.ds a.potentials a.ambient in
-    let t = a.strand_bonds.now in
-    let u = a.scaffold_bonds.now in
-    let s = a.configuration.now in
-    refused-by zero (state_energy (model_over d t u) s) (sym (over-told c.bonds_reply-bonds.result (first_of (energy_checks d s)) c.or.ensures c.energy_reply-design.ensures (c.bonds_reply-bonds.ensures a.ambient (own_energy_checks d s))) ∙ c.in-Refused.is)
-
-pub returns-in-Admitted : goal.returns-in-Admitted
+pub returns : goal.returns
 unfolding state_energy model_over model_of
-returns-in-Admitted c =
-    let a = c.args in
-    let d : Design = lent a.scaffold a.marks a.glues a.dg a.ds a.potentials a.ambient in
-    let t = a.strand_bonds.now in
-    let u = a.scaffold_bonds.now in
-    let s = a.configuration.now in
-    let sum = c.state_sum-sumg.ensures (model_over d t u) (c.fill_terms_over.ensures d refl) in
-    let energy : c.scale.result.0 ≡ state_energy (model_over d t u) s = c.scale.ensures ∙ ap (λ (x : Float). mul binary64 x a.ambient.rt.0) sum in
-    ap given energy ∙ answered-by zero (state_energy (model_over d t u) s) (sym (over-told c.bonds_reply-bonds.result (first_of (energy_checks d s)) c.or.ensures c.energy_reply-design.ensures (c.bonds_reply-bonds.ensures a.ambient (own_energy_checks d s))) ∙ c.in-Admitted.is)
+returns c =
+    let d = c.args.design.now in
+    let t = c.args.tables.now.strand_bonds.now in
+    let u = c.args.tables.now.scaffold_bonds.now in
+    let s = c.args.configuration.now in
+    let own = rw c.positions.ensures at (c.bonds_reply.ensures.value (own_energy_checks d s)) in
+    let reply = told-by c.bonds_reply.result (Ok tt) (first_of (energy_checks d s)) (first_of (energy_over_checks d t u s)) own c.in_ok-bonds_reply.was in
+    let sum = c.state_sum-sumg.ensures (model_over d t u) c.fill_terms_over.ensures in
+    let energy : c.scale.result.0 ≡ state_energy (model_over d t u) s = rw (c.scale.ensures, c.rt.ensures, sum) refl in
+    ap given energy ∙ answered-by zero (state_energy (model_over d t u) s) (reply ∙ sym c.energy_reply.ensures.value ∙ c.in_ok-energy_reply.was)

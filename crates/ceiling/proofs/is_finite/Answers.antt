@@ -1,13 +1,14 @@
--- The test of a finite number meets its contract. Assumes nothing.
-use mathlib.Core.Path.{refl}
-use lib.Ieee.{div, of_bits, neg}
-use Rattle.ceiling.proofs.Replies.{inside-ends, outside-end}
+use mathlib.Core.Path.{◌≡◌, refl, ◌∙◌}
+use lib.Ieee.{Float, nan, inf, fin}
+use Rattle.std.specs.Float.{float_is_finite}
+use Rattle.ceiling.specs.Ceiling.{finite}
 use Rattle.ceiling.proofs.is_finite.Goals as goal
 
-pub returns-then-beyond-x : goal.returns-then-beyond-x
-unfolding div of_bits neg
-returns-then-beyond-x c = inside-ends c.args.x refl refl c.if-beyond-x.true
+same : (x : Float) → float_is_finite x ≡ finite x
+unfolding float_is_finite
+same nan = refl
+same (inf negative) = refl
+same (fin negative digits exponent) = refl
 
-pub returns-else-beyond-x : goal.returns-else-beyond-x
-unfolding div of_bits neg
-returns-else-beyond-x c = outside-end c.args.x refl c.if-beyond-x.false
+pub returns : goal.returns
+returns c = c.is_finite.ensures.value ∙ same c.args.x

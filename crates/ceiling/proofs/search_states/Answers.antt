@@ -1,46 +1,21 @@
 -- The filling of bonds and the search over them meet their contract. Assumes nothing.
 use mathlib.Core.Logic.{inl}
-use mathlib.Core.Path.{◌≡◌, refl}
-use native.Mathlib.Omega.{arith}
-use native.Mathlib.Nat.{mul-le-mul}
-use lib.Ieee.{of_bits}
-use lib.ListN.{length}
-use Rattle.design.specs.Design.{Design, design, model_of}
+use mathlib.Core.Path.{◌≡◌, ap}
+use Rattle.doubles.specs.Decimal.{zero}
+use Rattle.design.specs.Design.{Design, model_of}
+use Rattle.prepared.specs.declared.sums.Begun.{Begun}
+use Rattle.ceiling.specs.inner.Passing.{UnderFrom}
 use Rattle.ceiling.proofs.Whole.{found-under}
 use Rattle.ceiling.proofs.search_states.Goals as goal
 
-pub fill_bonds-requires : goal.fill_bonds-requires
-fill_bonds-requires c =
-    let few = c.requires.searchable.few in
-    let square = mul-le-mul few few in
-    let area = mul-le-mul c.requires.searchable.short few in
-    record {
-      searchable = c.requires.searchable;
-      potentials_nonzero = c.requires.potentials_nonzero;
-      potentials_in_bounds = omega arith;
-      potentials_in_bounds_2 = omega arith;
-    }
-
-pub under_from-requires : goal.under_from-requires
-under_from-requires c =
-    let few = c.requires.searchable.few in
-    let square = mul-le-mul few few in
-    let area = mul-le-mul c.requires.searchable.short few in
-    let strand-cells : length c.fill_bonds.new.strand_bonds ≡ 4096 = c.fill_bonds.auto.strand_bonds in
-    let scaffold-cells : length c.fill_bonds.new.scaffold_bonds ≡ 8192 = c.fill_bonds.auto.scaffold_bonds in
-    record {
-      searchable = c.requires.searchable;
-      potentials_in_bounds = omega arith;
-      potentials_in_bounds_2 = omega arith;
-      entries_len = c.requires.entries_len;
-      position_in_bounds = omega arith;
-      strand_in_bounds = c.requires.potentials_nonzero;
-    }
-
 pub returns : goal.returns
-unfolding model_of of_bits
+unfolding model_of
 returns c =
-    λ marks admitted options.
+    λ admitted options.
     let a = c.args in
-    let d : Design = design a.scaffold.now marks a.glues.now a.dg.now a.ds.now a.potentials.now a.ambient in
-    found-under (model_of d) a.ceiling.0 (c.under_from.ensures (model_of d) options (c.fill_bonds.ensures marks admitted options) refl (inl refl))
+    let d : Design = a.design.now in
+    let potentials : c.design.inside.potentials.now ≡ d.potentials = ap (λ (d : Design). d.potentials) c.design.view_is in
+    let rt : c.design.inside.ambient.rt.0 ≡ d.ambient.rt.0 = ap (λ (d : Design). d.ambient.rt.0) c.design.view_is in
+    let found = c.under_from.ensures (model_of d) options (rw potentials (c.fill_bonds.ensures admitted options)) rt (inl (ap (λ (b : Begun). b.strand) c.nobody.ensures)) in
+    let first : UnderFrom (model_of d) a.ceiling.0 0 0 zero a.entries.now c.under_from.new.entries c.under_from.result = rw c.nobody.ensures at found in
+    found-under (model_of d) a.ceiling.0 first

@@ -1,23 +1,15 @@
 -- `decimals::read_number` meets its contract. Assumes nothing.
-use mathlib.Core.Path.{◌≡◌, sym, ap, ◌∙◌}
-use mathlib.Core.List.{List}
-use Prim.Native.Nat.{ℕ, min}
-use native.Mathlib.Omega.{arith}
-use lib.ListN.{length}
-use Rattle.decimals.specs.Digits.{numeral}
-use Rattle.decimals.proofs.Texts.{pattern-length, pattern_number, decimal-number}
+use Rattle.std.proofs.Common.{◌≡◌, ◌∙◌, sym, true, ◌-◌, length, take, drop, arith}
+use Rattle.std.proofs.lemmas.Slice.{between_to_end}
+use native.Mathlib.Nat.{min-eq_right}
+use Rattle.decimals.specs.Number.{is_pattern, number_of}
+use Rattle.decimals.proofs.Patterns.{pattern_below}
 use Rattle.decimals.proofs.read_number.Goals as goal
 
-pub past-requires : goal.past-requires
-past-requires c =
-    let n : length c.args.word.now ≡ 18 = pattern-length c.args.word.now (sym c.is_pattern.ensures ∙ c.if-is_pattern.true) in
-    omega arith
-
 pub returns-then-is_pattern : goal.returns-then-is_pattern
+unfolding number_of
 returns-then-is_pattern c =
     let word = c.args.word.now in
-    let bits = c.read_digits-bits.ensures ∙ ap (λ (digits : List ℕ). min 18446744073709551615 (numeral 16 0 digits)) c.past.ensures in
-    pattern_number word (sym c.is_pattern.ensures ∙ c.if-is_pattern.true) c.read_digits-bits.result c.double.result bits c.double.ensures
-
-pub returns : goal.returns
-returns c = c.decimal.ensures ∙ decimal-number c.args.word.now (sym c.is_pattern.ensures ∙ c.if-is_pattern.false)
+    let is : is_pattern word ≡ true = sym c.is_pattern.ensures ∙ c.if-is_pattern.true in
+    let rest : take (length word - 2) (drop 2 word) ≡ drop 2 word = between_to_end word 2 (length word) (omega arith) in
+    rw (is, c.double.ensures, c.read_digits-bits.ensures, rest, min-eq_right (pattern_below word is))

@@ -1,9 +1,6 @@
 -- `decimals::write_count` meets its contract. Assumes nothing.
-use mathlib.Core.Path.{sym, ap, ◌∙◌}
-use mathlib.Core.List.{List}
-use Prim.Native.Nat.{ℕ}
-use native.Mathlib.Omega.{arith}
-use lib.Seq.{sets}
+use Rattle.std.proofs.Common.{◌≡◌, length, take, arith}
+use Rattle.std.proofs.lemmas.List.{length-take-le}
 use Rattle.decimals.specs.Digits.{decimal_digits}
 use Rattle.decimals.proofs.Written.{decimal-is, decimal-length}
 use Rattle.decimals.proofs.Room.{no_room, room}
@@ -19,4 +16,5 @@ returns c =
     let a = c.args in
     let count = c.count_places-count in
     let fits = room (decimal_digits a.n) a.out.now count.result (decimal-length a.n _ count.ensures.0) (omega arith) in
-    (fits.0, c.put_digits.ensures ∙ ap (λ (text : List ℕ). sets a.out.now 0 text) (sym (decimal-is a.n _ count.ensures.0)) ∙ fits.1)
+    let part : length (take count.result a.out.now) ≡ count.result = length-take-le count.result a.out.now (omega arith) in
+    (fits.0, rw (c.put_digits.ensures, part, ← decimal-is a.n _ count.ensures.0) fits.1)

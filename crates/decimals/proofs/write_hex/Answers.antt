@@ -1,6 +1,6 @@
 -- `decimals::write_hex` meets its contract. Assumes nothing.
-use mathlib.Core.Path.{◌∙◌}
-use native.Mathlib.Omega.{arith}
+use Rattle.std.proofs.Common.{◌≡◌, length, take, arith}
+use Rattle.std.proofs.lemmas.List.{length-take-le}
 use Rattle.decimals.specs.Digits.{digits_in}
 use Rattle.decimals.proofs.Written.{digits-length}
 use Rattle.decimals.proofs.Room.{no_room, room}
@@ -15,4 +15,5 @@ pub returns : goal.returns
 returns c =
     let a = c.args in
     let fits = room (digits_in 16 a.digits a.n) a.out.now a.digits (digits-length 16 a.digits a.n) (omega arith) in
-    (fits.0, c.put_digits.ensures ∙ fits.1)
+    let part : length (take a.digits a.out.now) ≡ a.digits = length-take-le a.digits a.out.now (omega arith) in
+    (fits.0, rw (c.put_digits.ensures, part) fits.1)

@@ -2,36 +2,56 @@
 -- Assumes nothing.
 use mathlib.Core.Path.{◌≡◌, sym, ap, ap₂, ◌∙◌}
 use mathlib.Core.Bool.{true}
-use native.Mathlib.Omega.{arith}
-use Prim.Native.Nat.{ℕ, ◌≤◌}
 use mathlib.Core.List.{List}
-use Rattle.deck.specs.Form.{Form}
+use Prim.Native.Nat.{ℕ, ◌≤◌}
+use native.Mathlib.Omega.{arith}
 use lib.ListN.{length, take, replicate, length-take}
 use lib.Seq.{sets}
 use borrow.Author.Rules.{rules}
-use borrow.Author.Tests.{eq-eqb, ne_eqb}
+use borrow.Author.Tests.{eqb-true, not-false}
 use Rattle.lists.specs.Front.{over}
 use Rattle.lists.proofs.Front.{sets_over, take-over}
+use Rattle.reply.specs.declared.Refusal.TheVariants.{WrongSize}
+use Rattle.deck.specs.Form.{Form}
 use Rattle.deck.specs.Forms.{form_of, other_form}
 use Rattle.deck.specs.Deck.{is_deck, configuration_of, deck_of}
-use Rattle.deck.specs.Moving.{moved_words, move_figures, move_words}
+use Rattle.deck.specs.Moving.{moved_words, wrong_words, move_figures, move_words}
+use Rattle.deck.proofs.Asked.{admits, exits_nowhere}
 use Rattle.deck.proofs.Decks.{configuration-few, deck-length}
 use Rattle.deck.proofs.Faults.{no-fault, fault-at}
 use Rattle.deck.proofs.Moves.{moves-to, form-decks}
 use Rattle.deck.proofs.move_deck.Goals as goal
 
-pub returns-then-moved-ne-WORDS : goal.returns-then-moved-ne-WORDS
-unfolding move_figures move_words
-returns-then-moved-ne-WORDS c =
-    let t = ne_eqb (length c.args.moved.now) 129 c.if-moved-ne-WORDS.true in
-    record {
-      result_value = rw t;
-      moved_after = rw t;
-      moves_to = λ e. absurd (omega arith);
-    }
+pub returns-in_err-refused_if-clause-result_value : goal.returns-in_err-refused_if-clause-result_value
+unfolding move_figures
+returns-in_err-refused_if-clause-result_value c =
+    let p = exits_nowhere c.from_residual.result WrongSize (wrong_words c.args.moved.now) _ c.from_residual.ensures.1 c.in_err-refused_if.ensures in
+    rw (p.1, p.0)
+
+pub returns-in_err-refused_if-clause-moved_after : goal.returns-in_err-refused_if-clause-moved_after
+unfolding move_words
+returns-in_err-refused_if-clause-moved_after c =
+    let p = exits_nowhere c.from_residual.result WrongSize (wrong_words c.args.moved.now) _ c.from_residual.ensures.1 c.in_err-refused_if.ensures in
+    rw p.0
+
+pub returns-in-Some-clause-result_value : goal.returns-in-Some-clause-result_value
+unfolding move_figures
+returns-in-Some-clause-result_value c =
+    let a = c.args in
+    let t = admits WrongSize (wrong_words a.moved.now) c.in_ok-refused_if.ensures in
+    let f = fault-at (form_of a.from) a.words.now (sym c.in-Some.ensures) in
+    rw (t, f.0, f.1, c.bad_deck.ensures)
+
+pub returns-in-Some-clause-moved_after : goal.returns-in-Some-clause-moved_after
+unfolding move_words
+returns-in-Some-clause-moved_after c =
+    let a = c.args in
+    let t = admits WrongSize (wrong_words a.moved.now) c.in_ok-refused_if.ensures in
+    let f = fault-at (form_of a.from) a.words.now (sym c.in-Some.ensures) in
+    rw (t, f.0)
 
 pub unpack-count-requires : goal.unpack-count-requires
-unpack-count-requires c = (no-fault (form_of c.args.from) c.args.words.now (sym c.fault.ensures ∙ c.in-Nowhere.is), search rules)
+unpack-count-requires c = (no-fault (form_of c.args.from) c.args.words.now (sym c.in_default.ensures), search rules)
 
 -- what was read is the configuration
 configuration : (form : Form) (words entries : List ℕ) (count : ℕ) → is_deck form words ≡ true
@@ -46,25 +66,34 @@ few-read : (form : Form) (words : List ℕ) (n : ℕ) → is_deck form words ≡
 few-read form words n v e = let few = configuration-few form words v in omega arith
 
 pub slice_bounds-entries-end : goal.slice_bounds-entries-end
-slice_bounds-entries-end c = omega (arith, few-read (form_of c.args.from) c.args.words.now c.unpack-count.result (no-fault (form_of c.args.from) c.args.words.now (sym c.fault.ensures ∙ c.in-Nowhere.is)) c.unpack-count.ensures.0, c.unpack-count.auto.entries)
+slice_bounds-entries-end c =
+    let v = no-fault (form_of c.args.from) c.args.words.now (sym c.in_default.ensures) in
+    omega (arith, few-read (form_of c.args.from) c.args.words.now c.unpack-count.result v c.unpack-count.ensures.0, c.unpack-count.auto.entries)
 
 pub slice_bounds-pack-end : goal.slice_bounds-pack-end
-slice_bounds-pack-end c = simp length-take (omega (arith, few-read (form_of c.args.from) c.args.words.now c.unpack-count.result (no-fault (form_of c.args.from) c.args.words.now (sym c.fault.ensures ∙ c.in-Nowhere.is)) c.unpack-count.ensures.0, c.unpack-count.auto.entries))
+slice_bounds-pack-end c =
+    let v = no-fault (form_of c.args.from) c.args.words.now (sym c.in_default.ensures) in
+    simp length-take (omega (arith, few-read (form_of c.args.from) c.args.words.now c.unpack-count.result v c.unpack-count.ensures.0, c.unpack-count.auto.entries))
 
 pub pack-requires : goal.pack-requires
-pack-requires c = (simp length-take (omega (arith, few-read (form_of c.args.from) c.args.words.now c.unpack-count.result (no-fault (form_of c.args.from) c.args.words.now (sym c.fault.ensures ∙ c.in-Nowhere.is)) c.unpack-count.ensures.0)), search rules)
+pack-requires c =
+    let v = no-fault (form_of c.args.from) c.args.words.now (sym c.in_default.ensures) in (
+      simp length-take (omega (arith, few-read (form_of c.args.from) c.args.words.now c.unpack-count.result v c.unpack-count.ensures.0)),
+      eqb-true (length c.args.moved.now) 129 (not-false _ (admits WrongSize (wrong_words c.args.moved.now) c.in_ok-refused_if.ensures)),
+    )
 
-pub returns-in-Nowhere : goal.returns-in-Nowhere
+pub returns : goal.returns
 unfolding move_figures move_words
-returns-in-Nowhere c =
+returns c =
     let a = c.args in
-    let t = eq-eqb (length a.moved.now) 129 c.if-moved-ne-WORDS.false in
-    let v = no-fault (form_of c.args.from) c.args.words.now (sym c.fault.ensures ∙ c.in-Nowhere.is) in
-    let p = c.pack.ensures in
     let from = form_of a.from in
     let to = form_of (other_form a.from) in
     let words = a.words.now in
     let moved = a.moved.now in
+    let t = admits WrongSize (wrong_words moved) c.in_ok-refused_if.ensures in
+    let lent = eqb-true (length moved) 129 (not-false _ t) in
+    let v = no-fault from words (sym c.in_default.ensures) in
+    let p = c.pack.ensures in
     let deck = ap₂ deck_of (ap form_of c.other.ensures) (configuration from words c.unpack-count.new.entries c.unpack-count.result v c.unpack-count.ensures) in
     let count : c.pack.result ≡ length (moved_words from to words) = p.0 ∙ ap length deck in
     let few = configuration-few from words v in
@@ -77,16 +106,4 @@ returns-in-Nowhere c =
       result_value = rw (t, v, count);
       moved_after = rw (t, v) written;
       moves_to = λ e. rw result (moves-to from to (form-decks a.from) (form-decks (other_form a.from)) words v);
-    }
-
-pub returns-in-At : goal.returns-in-At
-unfolding move_figures move_words
-returns-in-At c =
-    let a = c.args in
-    let t = eq-eqb (length a.moved.now) 129 c.if-moved-ne-WORDS.false in
-    let f = fault-at (form_of a.from) a.words.now (sym c.fault.ensures ∙ c.in-At.is) in
-    record {
-      result_value = rw (t, f.0, f.1);
-      moved_after = rw (t, f.0);
-      moves_to = λ e. absurd (omega arith);
     }

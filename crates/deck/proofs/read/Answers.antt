@@ -2,36 +2,41 @@
 use mathlib.Core.Path.{sym, ◌∙◌}
 use native.Mathlib.Omega.{arith}
 use lib.ListN.{length}
-use borrow.Author.Tests.{eq-eqb, ne_eqb}
+use borrow.Author.Tests.{eqb-true, not-false}
 use Rattle.lists.proofs.Front.{sets_over}
+use Rattle.reply.specs.declared.Refusal.TheVariants.{WrongSize}
 use Rattle.deck.specs.Forms.{form_of}
 use Rattle.deck.specs.Deck.{configuration_of}
-use Rattle.deck.specs.Reading.{read_figures, read_entries}
+use Rattle.deck.specs.Reading.{wrong_entries, read_figures, read_entries}
+use Rattle.deck.proofs.Asked.{admits, exits_nowhere}
 use Rattle.deck.proofs.Decks.{configuration-few}
 use Rattle.deck.proofs.Faults.{no-fault, fault-at}
 use Rattle.deck.proofs.read.Goals as goal
 
-pub returns-then-entries-ne-POSITIONS : goal.returns-then-entries-ne-POSITIONS
+pub returns-in_err-refused_if : goal.returns-in_err-refused_if
 unfolding read_figures read_entries
-returns-then-entries-ne-POSITIONS c = let t = ne_eqb (length c.args.entries.now) 128 c.if-entries-ne-POSITIONS.true in (rw t, rw t)
+returns-in_err-refused_if c =
+    let p = exits_nowhere c.from_residual.result WrongSize (wrong_entries c.args.entries.now) _ c.from_residual.ensures.1 c.in_err-refused_if.ensures in
+    (rw (p.1, p.0), rw p.0)
 
 pub unpack-requires : goal.unpack-requires
-unpack-requires c = (no-fault (form_of c.args.form) c.args.words.now (sym c.fault.ensures ∙ c.in-Nowhere.is), c.if-entries-ne-POSITIONS.false)
+unpack-requires c = (no-fault (form_of c.args.form) c.args.words.now (sym c.in-None.ensures), eqb-true (length c.args.entries.now) 128 (not-false _ (admits WrongSize (wrong_entries c.args.entries.now) c.in_ok-refused_if.ensures)))
 
-pub returns-in-Nowhere : goal.returns-in-Nowhere
+pub returns-in-None : goal.returns-in-None
 unfolding read_figures read_entries
-returns-in-Nowhere c =
+returns-in-None c =
     let a = c.args in
-    let t = eq-eqb (length a.entries.now) 128 c.if-entries-ne-POSITIONS.false in
-    let v = no-fault (form_of c.args.form) c.args.words.now (sym c.fault.ensures ∙ c.in-Nowhere.is) in
+    let t = admits WrongSize (wrong_entries a.entries.now) c.in_ok-refused_if.ensures in
+    let v = no-fault (form_of a.form) a.words.now (sym c.in-None.ensures) in
     let u = c.unpack.ensures in
     let few = configuration-few (form_of a.form) a.words.now v in
+    let lent = eqb-true (length a.entries.now) 128 (not-false _ t) in
     (rw (t, v, u.0), rw (t, v) (u.1 ∙ sets_over (configuration_of (form_of a.form) a.words.now) a.entries.now (omega arith)))
 
-pub returns-in-At : goal.returns-in-At
+pub returns-in-Some : goal.returns-in-Some
 unfolding read_figures read_entries
-returns-in-At c =
+returns-in-Some c =
     let a = c.args in
-    let t = eq-eqb (length a.entries.now) 128 c.if-entries-ne-POSITIONS.false in
-    let f = fault-at (form_of a.form) a.words.now (sym c.fault.ensures ∙ c.in-At.is) in
-    (rw (t, f.0, f.1), rw (t, f.0))
+    let t = admits WrongSize (wrong_entries a.entries.now) c.in_ok-refused_if.ensures in
+    let f = fault-at (form_of a.form) a.words.now (sym c.in-Some.ensures) in
+    (rw (t, f.0, f.1, c.bad_deck.ensures), rw (t, f.0))

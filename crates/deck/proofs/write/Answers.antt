@@ -1,44 +1,51 @@
--- `deck::write` meets its contract: at each return the tests that led there say which check holds. Assumes nothing.
-use mathlib.Core.Path.{◌∙◌}
+-- `deck::write` meets its contract: at each return the checks that were passed say which holds. Assumes nothing.
+use mathlib.Core.Path.{sym, ◌∙◌}
 use native.Mathlib.Omega.{arith}
+use lib.Dec.{ltb, eqb}
 use lib.ListN.{length}
-use borrow.Author.Tests.{lt-ltb, le-ltb, eq-eqb, ne_eqb}
-use Rattle.lists.proofs.Find.{any-true, any_false}
+use mathlib.Core.Bool.{not}
+use borrow.Author.Tests.{eqb-true, ltb-false, not-false}
 use Rattle.lists.proofs.Front.{sets_over}
+use Rattle.lists.proofs.Tests.{neither}
+use Rattle.reply.specs.declared.Refusal.TheVariants.{WrongSize, OutOfRange}
 use Rattle.deck.specs.Forms.{form_of}
-use Rattle.deck.specs.Deck.{deck_of, too_high}
+use Rattle.deck.specs.Deck.{deck_of}
 use Rattle.deck.specs.Writing.{write_figures, write_words}
+use Rattle.deck.proofs.Asked.{admits, exits}
 use Rattle.deck.proofs.Decks.{deck-length}
 use Rattle.deck.proofs.write.Goals as goal
 
-pub returns-then-configuration-gt-POSITIONS : goal.returns-then-configuration-gt-POSITIONS
+pub returns-in_err-refused_if : goal.returns-in_err-refused_if
 unfolding write_figures write_words
-returns-then-configuration-gt-POSITIONS c = let t = lt-ltb 128 (length c.args.configuration.now) c.if-configuration-gt-POSITIONS.true in (rw t, rw t)
+returns-in_err-refused_if c =
+    let p = exits c.from_residual.result WrongSize c.wrong_lengths.result _ c.from_residual.ensures.1 c.in_err-refused_if.ensures in
+    let t = sym c.wrong_lengths.ensures ∙ p.0 in
+    (rw (p.1, t), rw t)
 
-pub returns-then-words-ne-WORDS : goal.returns-then-words-ne-WORDS
+pub returns-in_err-refused_if-2 : goal.returns-in_err-refused_if-2
 unfolding write_figures write_words
-returns-then-words-ne-WORDS c =
-    let a = c.args in
-    let t = le-ltb 128 (length a.configuration.now) c.if-configuration-gt-POSITIONS.false in
-    let u = ne_eqb (length a.words.now) 129 c.if-words-ne-WORDS.true in
-    (rw (t, u), rw (t, u))
+returns-in_err-refused_if-2 c =
+    let from = c.from_residual-in_err-refused_if-2 in
+    let p = exits from.result OutOfRange c.some_too_high.result _ from.ensures.1 c.in_err-refused_if-2.ensures in
+    let t = sym c.wrong_lengths.ensures ∙ admits WrongSize c.wrong_lengths.result c.in_ok-refused_if.ensures in
+    let h = sym c.some_too_high.ensures ∙ p.0 in
+    (rw (p.1, t, h), rw (t, h))
 
-pub returns-then-first_too_high-configuration : goal.returns-then-first_too_high-configuration
-unfolding write_figures write_words
-returns-then-first_too_high-configuration c =
+pub pack-requires : goal.pack-requires
+pack-requires c =
     let a = c.args in
-    let t = le-ltb 128 (length a.configuration.now) c.if-configuration-gt-POSITIONS.false in
-    let u = eq-eqb (length a.words.now) 129 c.if-words-ne-WORDS.false in
-    let h = any-true too_high a.configuration.now (omega arith) in
-    (rw (t, u, h), rw (t, u, h))
+    let t = neither (ltb 128 (length a.configuration.now)) (not (eqb (length a.words.now) 129)) (sym c.wrong_lengths.ensures ∙ admits WrongSize c.wrong_lengths.result c.in_ok-refused_if.ensures) in
+    (ltb-false 128 (length a.configuration.now) t.0, eqb-true (length a.words.now) 129 (not-false _ t.1))
 
 pub returns : goal.returns
 unfolding write_figures write_words
 returns c =
     let a = c.args in
-    let t = le-ltb 128 (length a.configuration.now) c.if-configuration-gt-POSITIONS.false in
-    let u = eq-eqb (length a.words.now) 129 c.if-words-ne-WORDS.false in
-    let h = any_false too_high a.configuration.now (omega arith) in
+    let t = sym c.wrong_lengths.ensures ∙ admits WrongSize c.wrong_lengths.result c.in_ok-refused_if.ensures in
+    let h = sym c.some_too_high.ensures ∙ admits OutOfRange c.some_too_high.result c.in_ok-refused_if-2.ensures in
     let p = c.pack.ensures in
     let few = deck-length (form_of a.form) a.configuration.now in
-    (rw (t, u, h, p.0), rw (t, u, h) (p.1 ∙ sets_over (deck_of (form_of a.form) a.configuration.now) a.words.now (omega arith)))
+    let u = neither (ltb 128 (length a.configuration.now)) (not (eqb (length a.words.now) 129)) t in
+    let least = ltb-false 128 (length a.configuration.now) u.0 in
+    let lent = eqb-true (length a.words.now) 129 (not-false _ u.1) in
+    (rw (t, h, p.0), rw (t, h) (p.1 ∙ sets_over (deck_of (form_of a.form) a.configuration.now) a.words.now (omega arith)))

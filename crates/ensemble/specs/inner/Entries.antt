@@ -1,5 +1,5 @@
 -- The entries of a position as the search keeps them: its options, the energies beside these, and the left choices.
-use Rattle.std.specs.Prelude.{◌≡◌, cond, List, [], ◌∷◌, ℕ, zero, suc, ◌+◌, ◌*◌, ◌<◌, eqb, length, get_or, take, Float}
+use Rattle.std.specs.Prelude.{◌≡◌, Bool, cond, List, [], ◌∷◌, ℕ, zero, suc, ◌+◌, ◌*◌, ◌<◌, eqb, length, get_or, take, Float}
 use Rattle.std.specs.Float.{binary64, nan}
 use Rattle.std.specs.Float.Ieee.{add, sub, lt}
 use Rattle.doubles.specs.Decimal as Decimal
@@ -18,6 +18,14 @@ key_of key (_ ∷ _) x = key x
 pub record Chosen (key : ℕ → Float) (strands : List ℕ) (x : ℕ) (r : Attached) : Type 0 where
   pub strand : r.strand ≡ x
   pub energy : r.energy ≡ key_of key strands x
+
+-- what a key gives of each entry is the value of its option
+abbrev pub KeyedBy : (ℕ → Float → Float → Type 0) → List ℕ → List Float → (ℕ → Float) → Type 0
+KeyedBy gives options energies value = (k : ℕ) (r : Float) → k < length options → gives (get_or options k 0) (get_or energies k nan) r → r ≡ value (get_or options k 0)
+
+-- what a test says of two values, whether the first stays, decides between their options
+abbrev pub DecidedBy : (Float → Float → Bool → Type 0) → (ℕ → Float) → (ℕ → ℕ → ℕ) → Type 0
+DecidedBy says value better = (kept next : ℕ) (r : Bool) → says (value kept) (value next) r → better kept next ≡ cond r kept next
 
 -- each of a row is one of so many strands
 abbrev pub Known : ℕ → List ℕ → Type 0
@@ -52,8 +60,6 @@ Low row = (k : ℕ) → get_or row k 0 < 64
 
 -- two rows have so the left choices of the first k friends, and every choice in them is a strand number
 pub record Attachments (bond : ℕ → ℕ → Float) (left : List ℕ) (energies : List Float) (friends : List ℕ) (k : ℕ) (best : List Float) (choice : List ℕ) : Type 0 where
-  pub wide : length best ≡ 64
-  pub sized : length choice ≡ 64
   pub low : Low choice
   pub chosen : (j : ℕ) → j < k → AttachedAt bond left energies best choice (get_or friends j 0)
 

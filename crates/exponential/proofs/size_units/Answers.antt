@@ -5,7 +5,7 @@ use native.Mathlib.Omega.{arith}
 use lib.Pow.{pow_pos}
 use lib.Ieee.{Float, binary64, to_bits}
 use borrow.Author.Rules.{rules}
-use Rattle.exponential.proofs.Cut.{inside, finite-not-nan, sized, exponent-most, cut-none, cut-part, cut-whole}
+use Rattle.exponential.proofs.Cut.{inside, sized, exponent-most, cut-none, cut-part, cut-whole}
 use Rattle.exponential.proofs.size_units.Goals as goal
 
 abbrev field : Float → ℕ
@@ -16,9 +16,6 @@ digits x = to_bits binary64 x % 2 ^ 63 % 2 ^ 52
 
 few : (x : Float) → digits x < 2 ^ 52
 few x = mod-lt (to_bits binary64 x % 2 ^ 63) (pow_pos 52)
-
-pub float_to_bits-a : goal.float_to_bits-a
-float_to_bits-a c = finite-not-nan c.args.x (inside c.args.x c.requires).0
 
 pub returns-then-exponent-lt977 : goal.returns-then-exponent-lt977
 returns-then-exponent-lt977 c = cut-none c.args.x (digits c.args.x) (inside c.args.x c.requires).1 (few c.args.x) (field c.args.x) (sized c.args.x (search rules) (inside c.args.x c.requires).0) c.if-exponent-lt977.true

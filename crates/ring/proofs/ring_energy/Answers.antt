@@ -1,87 +1,29 @@
--- `ring_energy` meets its contract. Assumes nothing.
-use mathlib.Core.Path.{sym, ap, ◌∙◌}
-use native.Mathlib.Omega.{arith}
-use lib.Ieee.{Float, binary64, mul}
+-- The ring energy is RT times the sum over the places and the closing bond. Assumes nothing.
+use mathlib.Core.Path.{◌≡◌, refl, sym, ap, ◌∙◌}
+use Prim.Native.Nat.{◌≤◌}
+use lib.Dec.{ltb}
+use borrow.Author.Tests.{ltb-false}
+use Rattle.reply.specs.declared.Refusal.TheVariants.{NotARing}
+use Rattle.design.proofs.Replies.{bare-false}
 use Rattle.doubles.specs.Decimal.{zero}
 use Rattle.reply.specs.Figures.{given}
-use Rattle.reply.proofs.Figures.{answered-by, refused-by}
+use Rattle.reply.proofs.Figures.{answered-by}
+use Rattle.reply.proofs.First.{reply-append}
 use Rattle.model.specs.Ring.{ring_energy}
-use Rattle.design.specs.Design.{Design, lent, model_of}
-use Rattle.design.specs.Checks.{own_energy_checks}
-use Rattle.ring.proofs.Replies.{energy-joined, ring-passed}
+use Rattle.design.specs.Design.{positions, model_of}
+use Rattle.design.specs.Checks.{energy_checks}
+use Rattle.ring.specs.Answers.{own_ring_checks}
+use Rattle.ring.proofs.Replies.{ring-passes}
 use Rattle.ring.proofs.ring_energy.Goals as goal
 
-pub fill_terms-requires : goal.fill_terms-requires
-fill_terms-requires c =
-    let d : Design = lent c.args.scaffold c.args.marks c.args.glues c.args.dg c.args.ds c.args.potentials c.args.ambient in
-    let e = c.args.configuration.now in
-    let w = ring-passed d e (own_energy_checks d e) (sym (energy-joined d e c.or.ensures c.energy_reply-chain.ensures c.refused_if-short.ensures) ∙ c.in-Admitted.is) in
-    let ring = w.ring in
-    let places = w.places in
-    let short = w.short in
-    record {
-      configuration_in_bounds = omega arith;
-      configuration_in_bounds_2 = omega arith;
-      configuration_in_bounds_3 = omega arith;
-    }
-
-pub bounds-configuration-0 : goal.bounds-configuration-0
-bounds-configuration-0 c =
-    let d : Design = lent c.args.scaffold c.args.marks c.args.glues c.args.dg c.args.ds c.args.potentials c.args.ambient in
-    let e = c.args.configuration.now in
-    let w = ring-passed d e (own_energy_checks d e) (sym (energy-joined d e c.or.ensures c.energy_reply-chain.ensures c.refused_if-short.ensures) ∙ c.in-Admitted.is) in
-    let ring = w.ring in
-    let places = w.places in
-    let short = w.short in
-    omega arith
-
-pub overflow_sub-last : goal.overflow_sub-last
-overflow_sub-last c =
-    let d : Design = lent c.args.scaffold c.args.marks c.args.glues c.args.dg c.args.ds c.args.potentials c.args.ambient in
-    let e = c.args.configuration.now in
-    let w = ring-passed d e (own_energy_checks d e) (sym (energy-joined d e c.or.ensures c.energy_reply-chain.ensures c.refused_if-short.ensures) ∙ c.in-Admitted.is) in
-    let ring = w.ring in
-    let places = w.places in
-    let short = w.short in
-    omega arith
-
-pub bounds-configuration-configuration : goal.bounds-configuration-configuration
-bounds-configuration-configuration c =
-    let d : Design = lent c.args.scaffold c.args.marks c.args.glues c.args.dg c.args.ds c.args.potentials c.args.ambient in
-    let e = c.args.configuration.now in
-    let w = ring-passed d e (own_energy_checks d e) (sym (energy-joined d e c.or.ensures c.energy_reply-chain.ensures c.refused_if-short.ensures) ∙ c.in-Admitted.is) in
-    let ring = w.ring in
-    let places = w.places in
-    let short = w.short in
-    omega arith
-
-pub ring_sum-sum-requires : goal.ring_sum-sum-requires
-ring_sum-sum-requires c =
-    let d : Design = lent c.args.scaffold c.args.marks c.args.glues c.args.dg c.args.ds c.args.potentials c.args.ambient in
-    let e = c.args.configuration.now in
-    let w = ring-passed d e (own_energy_checks d e) (sym (energy-joined d e c.or.ensures c.energy_reply-chain.ensures c.refused_if-short.ensures) ∙ c.in-Admitted.is) in
-    let ring = w.ring in
-    let places = w.places in
-    let short = w.short in
-    record {
-      configuration_nonzero = omega arith;
-      configuration_in_bounds = omega arith;
-      configuration_in_bounds_2 = omega arith;
-      configuration_in_bounds_3 = omega arith;
-    }
-
-pub returns-in-Refused : goal.returns-in-Refused
-returns-in-Refused c =
-    let d : Design = lent c.args.scaffold c.args.marks c.args.glues c.args.dg c.args.ds c.args.potentials c.args.ambient in
-    let e = c.args.configuration.now in
-    refused-by zero (ring_energy (model_of d) e) (sym (energy-joined d e c.or.ensures c.energy_reply-chain.ensures c.refused_if-short.ensures) ∙ c.in-Refused.is)
-
-pub returns-in-Admitted : goal.returns-in-Admitted
+pub returns : goal.returns
 unfolding ring_energy model_of
-returns-in-Admitted c =
-    let d : Design = lent c.args.scaffold c.args.marks c.args.glues c.args.dg c.args.ds c.args.potentials c.args.ambient in
-    let e = c.args.configuration.now in
-    let admitted = sym (energy-joined d e c.or.ensures c.energy_reply-chain.ensures c.refused_if-short.ensures) ∙ c.in-Admitted.is in
-    let terms = c.fill_terms.ensures d.marks in
-    let sum = c.ring_sum-sum.ensures (model_of d) terms (λ _ _. c.strand_bond-closing.ensures) in
-    ap given (c.scale.ensures ∙ ap (λ (x : Float). mul binary64 x c.args.ambient.rt.0) sum) ∙ answered-by zero (ring_energy (model_of d) e) admitted
+returns c =
+    let d = c.args.design.now in
+    let s = c.args.configuration.now in
+    let chain = sym c.energy_reply.ensures.value ∙ c.in_ok-energy_reply.was in
+    let ring : 3 ≤ positions d = ltb-false (positions d) 3 (bare-false (ltb (positions d) 3) NotARing (rw c.positions.ensures at c.in_ok-refused_if.ensures)) in
+    let admitted = reply-append (energy_checks d s) (own_ring_checks d) chain ∙ ring-passes d ring in
+    let sum = c.ring_sum-sum.ensures (model_of d) c.fill_terms.ensures (λ _ _. c.strand_bond-closing.ensures) in
+    let energy : c.scale.result.0 ≡ ring_energy (model_of d) s = rw (c.scale.ensures, c.rt.ensures, sum) refl in
+    ap given energy ∙ answered-by zero (ring_energy (model_of d) s) admitted

@@ -1,56 +1,60 @@
 -- `sdc_common::name_numbers` meets its contract: both lists of names are fit, and the table holds the bases of the strands. Assumes nothing.
-use borrow.Author.Rules.{rules}
-use mathlib.Core.Path.{◌≡◌, sym, ◌∙◌}
-use mathlib.Core.Bool.{true, false}
+use mathlib.Core.Path.{◌≡◌, ap, sym, ◌∙◌}
+use mathlib.Core.Bool.{false}
 use Prim.Native.Nat.{◌*◌}
 use native.Mathlib.Omega.{arith}
 use lib.ListN.{length}
+use Rattle.reply.specs.declared.Refusal.TheVariants.{WrongSize}
 use Rattle.sdc_common.specs.Lent.{names_of, unfit_names}
-use Rattle.sdc_common.specs.Calls.{unfit_strands, name_numbers, numbers_after}
+use Rattle.sdc_common.specs.Calls.{unfit_strands, given_numbers, name_numbers, numbers_after}
+use Rattle.sdc_common.proofs.Asked.{admits, refused, exits}
 use Rattle.sdc_common.proofs.Given.{numbers-given}
 use Rattle.sdc_common.proofs.Fit.{rows-many, fit-names, few-strands, fit-glues}
 use Rattle.sdc_common.proofs.name_numbers.Goals as goal
 
-pub returns-then-unfit_strands : goal.returns-then-unfit_strands
-unfolding name_numbers numbers_after
-returns-then-unfit_strands c =
-    let a = c.args in
-    let bad : unfit_strands a.users a.text.now (names_of a.strands.now) ≡ true = sym c.unfit_strands.ensures ∙ c.if-unfit_strands.true in
-    record {
-      result_value = simp bad;
-      numbers_after = simp bad;
-    }
+pub returns-in_err-refused_if-clause-result_value : goal.returns-in_err-refused_if-clause-result_value
+unfolding name_numbers
+returns-in_err-refused_if-clause-result_value c =
+    let q = exits c.from_residual.result WrongSize c.unfit_strands.result _ c.from_residual.ensures.1 c.in_err-refused_if.ensures in
+    rw (q.1, ← c.unfit_strands.ensures, q.0)
 
-pub returns-then-unfit_names : goal.returns-then-unfit_names
-unfolding name_numbers numbers_after
-returns-then-unfit_names c =
-    let a = c.args in
-    let fit : unfit_strands a.users a.text.now (names_of a.strands.now) ≡ false = sym c.unfit_strands.ensures ∙ c.if-unfit_strands.false in
-    let bad : unfit_names (length a.numbers.now) a.text.now (names_of a.names.now) ≡ true = sym c.unfit_names.ensures ∙ c.if-unfit_names.true in
-    record {
-      result_value = simp (fit, bad);
-      numbers_after = simp (fit, bad);
-    }
+pub returns-in_err-refused_if-clause-numbers_after : goal.returns-in_err-refused_if-clause-numbers_after
+unfolding numbers_after
+returns-in_err-refused_if-clause-numbers_after c =
+    let q = refused WrongSize c.unfit_strands.result _ c.in_err-refused_if.ensures in
+    rw (← c.unfit_strands.ensures, q.0)
 
-pub base_names-count-requires : goal.base_names-count-requires
-base_names-count-requires c =
+pub returns-in_err-refused_if-2-clause-result_value : goal.returns-in_err-refused_if-2-clause-result_value
+unfolding name_numbers
+returns-in_err-refused_if-2-clause-result_value c =
+    let q = exits c.from_residual-in_err-refused_if-2.result WrongSize c.unfit_names.result _ c.from_residual-in_err-refused_if-2.ensures.1 c.in_err-refused_if-2.ensures in
+    let fit = admits WrongSize c.unfit_strands.result c.in_ok-refused_if.ensures in
+    rw (q.1, ← c.unfit_strands.ensures, fit, ← c.unfit_names.ensures, q.0)
+
+pub returns-in_err-refused_if-2-clause-numbers_after : goal.returns-in_err-refused_if-2-clause-numbers_after
+unfolding numbers_after
+returns-in_err-refused_if-2-clause-numbers_after c =
+    let q = refused WrongSize c.unfit_names.result _ c.in_err-refused_if-2.ensures in
+    let fit = admits WrongSize c.unfit_strands.result c.in_ok-refused_if.ensures in
+    rw (← c.unfit_strands.ensures, fit, ← c.unfit_names.ensures, q.0)
+
+pub new-bases-requires : goal.new-bases-requires
+new-bases-requires c =
     let a = c.args in
     let strands = names_of a.strands.now in
-    let fit : unfit_strands a.users a.text.now strands ≡ false = sym c.unfit_strands.ensures ∙ c.if-unfit_strands.false in
+    let fit : unfit_strands a.users a.text.now strands ≡ false = sym c.unfit_strands.ensures ∙ admits WrongSize _ c.in_ok-refused_if.ensures in
     let few = few-strands a.users a.text.now strands fit in
     let glues = fit-glues a.users a.text.now strands fit in
     record {
       fit_names = fit-names (3 * a.users) a.text.now a.strands.now glues;
       names_len_bound = omega (arith, rows-many (3 * a.users) a.text.now a.strands.now glues);
-      heads_len = search rules;
     }
 
 pub fill_numbers-requires : goal.fill_numbers-requires
 fill_numbers-requires c =
     let a = c.args in
-    let fit : unfit_names (length a.numbers.now) a.text.now (names_of a.names.now) ≡ false = sym c.unfit_names.ensures ∙ c.if-unfit_names.false in
+    let fit : unfit_names (length a.numbers.now) a.text.now (names_of a.names.now) ≡ false = sym c.unfit_names.ensures ∙ admits WrongSize _ c.in_ok-refused_if-2.ensures in
     record {
-      table = c.base_names-count.ensures.table;
       fit_names = fit-names (length a.numbers.now) a.text.now a.names.now fit;
       numbers_len = sym (rows-many (length a.numbers.now) a.text.now a.names.now fit);
     }
@@ -58,11 +62,9 @@ fill_numbers-requires c =
 pub returns : goal.returns
 returns c =
     let all = let a = c.args in
-    let strands = names_of a.strands.now in
-    let names = names_of a.names.now in
-    let fit : unfit_strands a.users a.text.now strands ≡ false = sym c.unfit_strands.ensures ∙ c.if-unfit_strands.false in
-    let good : unfit_names (length a.numbers.now) a.text.now names ≡ false = sym c.unfit_names.ensures ∙ c.if-unfit_names.false in
-    numbers-given a.users a.text.now strands _ _ c.base_names-count.result fit c.base_names-count.ensures.result_after names a.numbers.now _ good c.fill_numbers.ensures in record {
-      result_value = all.0;
+    let fit = sym c.unfit_strands.ensures ∙ admits WrongSize _ c.in_ok-refused_if.ensures in
+    let good = sym c.unfit_names.ensures ∙ admits WrongSize _ c.in_ok-refused_if-2.ensures in
+    numbers-given a.users a.text.now (names_of a.strands.now) c.new-bases.result fit c.new-bases.ensures (names_of a.names.now) a.numbers.now _ good c.fill_numbers.ensures in record {
+      result_value = ap given_numbers c.len.ensures ∙ all.0;
       numbers_after = all.1;
     }

@@ -1,32 +1,23 @@
 -- `sdc_common::self_and_inverse` meets its contract: the part of the text is the name as spelled. Assumes nothing.
-use mathlib.Core.Path.{◌≡◌, sym, ◌∙◌}
-use mathlib.Core.Bool.{true}
-use native.Mathlib.Omega.{arith}
-use Rattle.sdc_common.specs.Lent.{unfit_name}
+use mathlib.Core.Path.{sym, ◌∙◌}
+use Rattle.reply.specs.declared.Refusal.TheVariants.{WrongSize}
 use Rattle.sdc_common.specs.Calls.{self_and_inverse}
-use Rattle.sdc_common.proofs.Held.{fits, named}
+use Rattle.sdc_common.proofs.Asked.{admits, exits}
+use Rattle.sdc_common.proofs.Held.{named, stars-within}
 use Rattle.sdc_common.proofs.self_and_inverse.Goals as goal
 
-pub returns-then-unfit_name : goal.returns-then-unfit_name
+pub returns-in_err-refused_if : goal.returns-in_err-refused_if
 unfolding self_and_inverse
-returns-then-unfit_name c =
-    let a = c.args in
-    let bad : unfit_name a.text.now a.start a.length ≡ true = sym c.unfit_name.ensures ∙ c.if-unfit_name.true in
-    rw bad
+returns-in_err-refused_if c =
+    let q = exits c.from_residual.result WrongSize c.unfit_name.result _ c.from_residual.ensures.1 c.in_err-refused_if.ensures in
+    rw (q.1, ← c.unfit_name.ensures, q.0)
 
-pub overflow_add-end : goal.overflow_add-end
-overflow_add-end c =
+pub overflow_sub-result : goal.overflow_sub-result
+overflow_sub-result c =
     let a = c.args in
-    let h = fits a.text.now a.start a.length (sym c.unfit_name.ensures ∙ c.if-unfit_name.false) in
-    omega (arith, h)
-
-pub slice_bounds-base_length-end : goal.slice_bounds-base_length-end
-slice_bounds-base_length-end c =
-    let a = c.args in
-    let h = fits a.text.now a.start a.length (sym c.unfit_name.ensures ∙ c.if-unfit_name.false) in
-    omega (arith, h)
+    stars-within a.text.now a.start a.length c.stars_of-stars.result (sym c.unfit_name.ensures ∙ admits WrongSize _ c.in_ok-refused_if.ensures) c.stars_of-stars.ensures
 
 pub returns : goal.returns
 returns c =
     let a = c.args in
-    named a.text.now a.start a.length c.base_length-base.result (sym c.unfit_name.ensures ∙ c.if-unfit_name.false) c.base_length-base.ensures.0
+    named a.text.now a.start a.length c.stars_of-stars.result (sym c.unfit_name.ensures ∙ admits WrongSize _ c.in_ok-refused_if.ensures) c.stars_of-stars.ensures

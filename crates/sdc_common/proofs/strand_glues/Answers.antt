@@ -1,63 +1,66 @@
 -- `sdc_common::strand_glues` meets its contract: the names are fit, and at most 31 bases have numbers that fit a byte. Assumes nothing.
-use borrow.Author.Rules.{rules}
 use mathlib.Core.Path.{◌≡◌, sym, ◌∙◌}
-use mathlib.Core.Bool.{true, false}
-use Prim.Native.Nat.{◌*◌}
+use mathlib.Core.Bool.{false, not}
+use Prim.Native.Nat.{◌*◌, ◌≤◌}
 use native.Mathlib.Omega.{arith}
-use borrow.Author.Tests.{ne_eqb}
+use lib.Dec.{eqb, ltb}
+use lib.ListN.{length}
+use borrow.Author.Tests.{eqb-true, not-false, ltb-true, ltb-false}
+use Rattle.reply.specs.declared.Refusal.TheVariants.{WrongSize, TooManyGlues}
 use Rattle.sdc_common.specs.Lent.{names_of}
 use Rattle.sdc_common.specs.Calls.{unfit_strands, strand_glues, glues_after}
+use Rattle.sdc_common.proofs.Asked.{admits, refused, exits}
 use Rattle.sdc_common.proofs.Given.{glues-many, glues-given}
 use Rattle.sdc_common.proofs.Fit.{rows-many, fit-names, few-strands, fit-glues}
 use Rattle.sdc_common.proofs.strand_glues.Goals as goal
 
-pub returns-then-unfit_strands : goal.returns-then-unfit_strands
-unfolding strand_glues glues_after
-returns-then-unfit_strands c =
-    let a = c.args in
-    let bad : unfit_strands a.users a.text.now (names_of a.strands.now) ≡ true = sym c.unfit_strands.ensures ∙ c.if-unfit_strands.true in
-    record {
-      result_value = simp bad;
-      glues_after = simp bad;
-    }
+pub returns-in_err-refused_if-clause-result_value : goal.returns-in_err-refused_if-clause-result_value
+unfolding strand_glues
+returns-in_err-refused_if-clause-result_value c =
+    let q = exits c.from_residual.result WrongSize c.unfit_strands.result _ c.from_residual.ensures.1 c.in_err-refused_if.ensures in
+    rw (q.1, ← c.unfit_strands.ensures, q.0)
 
-pub overflow_mul-users : goal.overflow_mul-users
-overflow_mul-users c =
-    let a = c.args in
-    let fit : unfit_strands a.users a.text.now (names_of a.strands.now) ≡ false = sym c.unfit_strands.ensures ∙ c.if-unfit_strands.false in
-    omega (arith, few-strands a.users a.text.now (names_of a.strands.now) fit)
+pub returns-in_err-refused_if-clause-glues_after : goal.returns-in_err-refused_if-clause-glues_after
+unfolding glues_after
+returns-in_err-refused_if-clause-glues_after c =
+    let q = refused WrongSize c.unfit_strands.result _ c.in_err-refused_if.ensures in
+    rw (← c.unfit_strands.ensures, q.0)
 
-pub returns-then-glues-users : goal.returns-then-glues-users
-unfolding strand_glues glues_after
-returns-then-glues-users c =
-    let a = c.args in
-    let fit : unfit_strands a.users a.text.now (names_of a.strands.now) ≡ false = sym c.unfit_strands.ensures ∙ c.if-unfit_strands.false in
-    let other = ne_eqb _ _ c.if-glues-users.true in
-    record {
-      result_value = simp (fit, other);
-      glues_after = simp (fit, other);
-    }
+pub returns-in_err-refused_if-2-clause-result_value : goal.returns-in_err-refused_if-2-clause-result_value
+unfolding strand_glues
+returns-in_err-refused_if-2-clause-result_value c =
+    let q = exits c.from_residual-in_err-refused_if-2.result WrongSize (not (eqb (length c.args.glues.now) (3 * c.args.users))) _ c.from_residual-in_err-refused_if-2.ensures.1 c.in_err-refused_if-2.ensures in
+    let fit = admits WrongSize c.unfit_strands.result c.in_ok-refused_if.ensures in
+    rw (q.1, ← c.unfit_strands.ensures, fit, q.0)
 
-pub base_names-count-requires : goal.base_names-count-requires
-base_names-count-requires c =
+pub returns-in_err-refused_if-2-clause-glues_after : goal.returns-in_err-refused_if-2-clause-glues_after
+unfolding glues_after
+returns-in_err-refused_if-2-clause-glues_after c =
+    let q = refused WrongSize (not (eqb (length c.args.glues.now) (3 * c.args.users))) _ c.in_err-refused_if-2.ensures in
+    let fit = admits WrongSize c.unfit_strands.result c.in_ok-refused_if.ensures in
+    rw (← c.unfit_strands.ensures, fit, q.0)
+
+pub new-bases-requires : goal.new-bases-requires
+new-bases-requires c =
     let a = c.args in
     let strands = names_of a.strands.now in
-    let fit : unfit_strands a.users a.text.now strands ≡ false = sym c.unfit_strands.ensures ∙ c.if-unfit_strands.false in
+    let fit : unfit_strands a.users a.text.now strands ≡ false = sym c.unfit_strands.ensures ∙ admits WrongSize _ c.in_ok-refused_if.ensures in
     let few = few-strands a.users a.text.now strands fit in
     let glues = fit-glues a.users a.text.now strands fit in
     record {
       fit_names = fit-names (3 * a.users) a.text.now a.strands.now glues;
       names_len_bound = omega (arith, rows-many (3 * a.users) a.text.now a.strands.now glues);
-      heads_len = search rules;
     }
 
-pub returns-then-count-gt-MOST_BASES : goal.returns-then-count-gt-MOST_BASES
-returns-then-count-gt-MOST_BASES c =
-    let all = let a = c.args in
-    let strands = names_of a.strands.now in
-    let fit : unfit_strands a.users a.text.now strands ≡ false = sym c.unfit_strands.ensures ∙ c.if-unfit_strands.false in
-    glues-many a.users a.text.now strands _ _ c.base_names-count.result fit c.base_names-count.ensures.result_after a.glues.now c.if-glues-users.false c.if-count-gt-MOST_BASES.true in record {
-      result_value = all.0;
+pub returns-in_err-refused_if-3 : goal.returns-in_err-refused_if-3
+returns-in_err-refused_if-3 c =
+    let a = c.args in
+    let q = exits c.from_residual-in_err-refused_if-3.result TooManyGlues (ltb 31 c.len.result) _ c.from_residual-in_err-refused_if-3.ensures.1 c.in_err-refused_if-3.ensures in
+    let fit = sym c.unfit_strands.ensures ∙ admits WrongSize _ c.in_ok-refused_if.ensures in
+    let lent = eqb-true _ _ (not-false _ (admits WrongSize (not (eqb (length a.glues.now) (3 * a.users))) c.in_ok-refused_if-2.ensures)) in
+    let all = glues-many a.users a.text.now (names_of a.strands.now) c.new-bases.result fit c.new-bases.ensures a.glues.now lent (rw (← c.len.ensures) (ltb-true _ _ q.0)) in
+    record {
+      result_value = rw q.1 all.0;
       glues_after = all.1;
     }
 
@@ -65,21 +68,22 @@ pub fill_glues-requires : goal.fill_glues-requires
 fill_glues-requires c =
     let a = c.args in
     let strands = names_of a.strands.now in
-    let fit : unfit_strands a.users a.text.now strands ≡ false = sym c.unfit_strands.ensures ∙ c.if-unfit_strands.false in
+    let fit = sym c.unfit_strands.ensures ∙ admits WrongSize _ c.in_ok-refused_if.ensures in
     let glues = fit-glues a.users a.text.now strands fit in
+    let lent = eqb-true _ _ (not-false _ (admits WrongSize (not (eqb (length a.glues.now) (3 * a.users))) c.in_ok-refused_if-2.ensures)) in
     record {
-      table = c.base_names-count.ensures.table;
       fit_names = fit-names (3 * a.users) a.text.now a.strands.now glues;
-      glues_len = c.if-glues-users.false ∙ sym (rows-many (3 * a.users) a.text.now a.strands.now glues);
-      count_bound = c.if-count-gt-MOST_BASES.false;
+      glues_len = lent ∙ sym (rows-many (3 * a.users) a.text.now a.strands.now glues);
+      count_bound = rw (← c.len.ensures) (ltb-false _ _ (admits TooManyGlues (ltb 31 c.len.result) c.in_ok-refused_if-3.ensures));
     }
 
 pub returns : goal.returns
 returns c =
     let all = let a = c.args in
-    let strands = names_of a.strands.now in
-    let fit : unfit_strands a.users a.text.now strands ≡ false = sym c.unfit_strands.ensures ∙ c.if-unfit_strands.false in
-    glues-given a.users a.text.now strands _ _ c.base_names-count.result fit c.base_names-count.ensures.result_after a.glues.now _ c.if-glues-users.false c.if-count-gt-MOST_BASES.false c.fill_glues.ensures in record {
+    let fit = sym c.unfit_strands.ensures ∙ admits WrongSize _ c.in_ok-refused_if.ensures in
+    let lent = eqb-true _ _ (not-false _ (admits WrongSize (not (eqb (length a.glues.now) (3 * a.users))) c.in_ok-refused_if-2.ensures)) in
+    let few : length c.new-bases.result ≤ 31 = rw (← c.len.ensures) (ltb-false _ _ (admits TooManyGlues (ltb 31 c.len.result) c.in_ok-refused_if-3.ensures)) in
+    glues-given a.users a.text.now (names_of a.strands.now) c.new-bases.result fit c.new-bases.ensures a.glues.now _ lent few c.fill_glues.ensures in record {
       result_value = all.0;
       glues_after = all.1;
     }

@@ -4,33 +4,38 @@ use native.Mathlib.Nat.{pow-suc}
 use native.Mathlib.Numerals.{add-one}
 use native.Mathlib.Omega.{arith}
 use lib.ListN.{length, replicate, length-replicate}
-use borrow.Author.Tests.{eq-eqb, ne_eqb, le-leb, lt-leb}
+use borrow.Author.Tests.{leb-false}
+use Rattle.reply.specs.declared.Refusal.TheVariants.{WrongSize, RankTooHigh}
 use Rattle.short_sequences.specs.Sequences.{letters, sequence_at}
-use Rattle.short_sequences.specs.Answers.{sequence_answer, sequence_bytes}
+use Rattle.short_sequences.specs.Answers.{wrong_size, rank_too_high, sequence_answer, sequence_bytes}
 use Rattle.short_sequences.proofs.Order.{length-choice_at}
 use Rattle.short_sequences.proofs.Lengths.{at-shortest, at-longer, longer-inside, not-longest}
+use Rattle.short_sequences.proofs.Told.{same-error, held, not-held}
 use Rattle.short_sequences.proofs.short_sequence.Goals as goal
 
-pub returns-then-bytes-ne-BASES : goal.returns-then-bytes-ne-BASES
+pub returns-in_err-refused_if : goal.returns-in_err-refused_if
 unfolding sequence_answer sequence_bytes
-returns-then-bytes-ne-BASES c = let t = ne_eqb (length c.args.bytes.now) 8 c.if-bytes-ne-BASES.true in record {
-  result_value = rw t;
-  bytes_after = rw t;
-}
-
-pub returns-then-rank-ge-SEQUENCES : goal.returns-then-rank-ge-SEQUENCES
-unfolding sequence_answer sequence_bytes
-returns-then-rank-ge-SEQUENCES c =
-    let a = c.args in
-    let t = eq-eqb (length a.bytes.now) 8 c.if-bytes-ne-BASES.false in
-    let u = le-leb 87376 a.rank c.if-rank-ge-SEQUENCES.true in
+returns-in_err-refused_if c =
+    let size = held WrongSize (wrong_size c.args.bytes.now) c.refused_if.ensures c.in_err-refused_if.was in
     record {
-      result_value = rw (t, u);
-      bytes_after = rw (t, u);
+      result_value = rw (same-error _ c.from_residual.ensures, size.0, size.1);
+      bytes_after = rw size.0;
+    }
+
+pub returns-in_err-refused_if-2 : goal.returns-in_err-refused_if-2
+unfolding sequence_answer sequence_bytes
+returns-in_err-refused_if-2 c =
+    let size = not-held WrongSize (wrong_size c.args.bytes.now) c.refused_if.ensures c.in_ok-refused_if.was in
+    let high = held RankTooHigh (rank_too_high c.args.rank) c.refused_if-2.ensures c.in_err-refused_if-2.was in
+    record {
+      result_value = rw (same-error _ c.from_residual-in_err-refused_if-2.ensures, size, high.0, high.1);
+      bytes_after = rw (size, high.0);
     }
 
 pub loop-count-init : goal.loop-count-init
-loop-count-init c = (omega arith, refl, c.if-rank-ge-SEQUENCES.false, omega arith, refl)
+loop-count-init c =
+    let high = not-held RankTooHigh (rank_too_high c.args.rank) c.refused_if-2.ensures c.in_ok-refused_if-2.was in
+    (omega arith, refl, leb-false 87376 c.args.rank high, omega arith, refl)
 
 pub loop-count-preserved : goal.loop-count-preserved
 loop-count-preserved c =
@@ -48,12 +53,12 @@ unfolding sequence_answer sequence_bytes
 returns c =
     let l = c.loop-count in
     let a = c.args in
-    let t = eq-eqb (length a.bytes.now) 8 c.if-bytes-ne-BASES.false in
-    let u = lt-leb 87376 a.rank c.if-rank-ge-SEQUENCES.false in
+    let size = not-held WrongSize (wrong_size a.bytes.now) c.refused_if.ensures c.in_ok-refused_if.was in
+    let high = not-held RankTooHigh (rank_too_high a.rank) c.refused_if-2.ensures c.in_ok-refused_if-2.was in
     let inside : l.left < 4 ^ l.bases = rw l.invariant.1 at c.loop-count-test.false in
     let is = l.invariant.4 ∙ at-shortest l.bases l.left l.invariant.0 l.invariant.2 inside in
     let long : length (sequence_at a.rank) ≡ l.bases = ap length is ∙ length-choice_at (replicate l.bases letters) l.left ∙ length-replicate l.bases letters in
     record {
-      result_value = rw (t, u, long);
-      bytes_after = rw (t, u, is) c.write_bases.ensures;
+      result_value = rw (size, high, long);
+      bytes_after = rw (size, high, is) c.write_bases.ensures;
     }

@@ -1,11 +1,12 @@
-use mathlib.Core.Path.{◌≡◌, refl, ap, ◌∙◌}
-use mathlib.Core.List.{[], ◌∷◌}
+use mathlib.Core.Path.{◌≡◌, refl, ap, ap₂, ◌∙◌}
+use mathlib.Core.List.{List, [], ◌∷◌, ◌++◌}
 use Prim.Native.Nat.{ℕ, suc, ◌<◌, ◌+◌, ◌-◌, ◌*◌, ◌/◌, ◌%◌, ◌^◌}
 use native.Mathlib.Nat.{sub-zero, pow-succ', mul-div_cancel_left, mod-lt, div-lt_iff_lt-mul}
 use native.Mathlib.Omega.{arith}
-use lib.ListN.{get_or, replicate, set, length-set}
+use lib.ListN.{length, get_or, replicate, set, take, drop}
+use Rattle.std.proofs.lemmas.List.{length-take-le}
 use Rattle.lists.specs.Front.{over}
-use Rattle.lists.proofs.Front.{Front, front-none, front-step, front-whole}
+use Rattle.lists.proofs.Front.{Front, front-none, front-step, front-count, front-full}
 use Rattle.model.specs.States.{choice_at}
 use Rattle.short_sequences.specs.Sequences.{letters}
 use Rattle.short_sequences.proofs.Lengths.{first-letter, some-power}
@@ -34,36 +35,52 @@ module _ (bases place later left : ℕ) (inside : place < bases) (e : later ≡ 
   letters-left : choice_at (replicate (bases - place) letters) left ≡ get_or letters (left / (later / 4)) 0 ∷ choice_at (replicate (bases - (place + 1)) letters) (left % (later / 4))
   letters-left = rw (fewer, next) (first-letter (bases - (place + 1)) left)
 
-pub loop-place-init : goal.loop-place-init
-loop-place-init c = (omega arith, simp sub-zero c.requires.count_value, c.requires.rank_lt_count, refl, simp sub-zero (front-none _ _))
+pub loop-byte-init : goal.loop-byte-init
+loop-byte-init c = record {
+  share = simp sub-zero c.requires.count_value;
+  inside = c.requires.rank_lt_count;
+  front = simp sub-zero (front-none _ _);
+}
 
 pub nonzero_div-left : goal.nonzero_div-left
-nonzero_div-left c = let l = c.loop-place in omega (arith, next-some c.args.bases l.place l.later l.left c.loop-place-test.true l.invariant.1 l.invariant.2)
+nonzero_div-left c =
+    let l = c.loop-byte in
+    let size = length-take-le c.args.bases c.args.bytes.now c.requires.bases_in_bounds in
+    omega (arith, next-some c.args.bases l.byte-index l.later l.left (omega (arith, size, c.loop-byte-test.true)) l.invariant.share l.invariant.inside)
 
 pub letter-requires : goal.letter-requires
-letter-requires c = let l = c.loop-place in which c.args.bases l.place l.later l.left c.loop-place-test.true l.invariant.1 l.invariant.2
+letter-requires c =
+    let l = c.loop-byte in
+    let size = length-take-le c.args.bases c.args.bytes.now c.requires.bases_in_bounds in
+    which c.args.bases l.byte-index l.later l.left (omega (arith, size, c.loop-byte-test.true)) l.invariant.share l.invariant.inside
 
 pub nonzero_rem-left : goal.nonzero_rem-left
-nonzero_rem-left c = let l = c.loop-place in omega (arith, next-some c.args.bases l.place l.later l.left c.loop-place-test.true l.invariant.1 l.invariant.2)
+nonzero_rem-left c =
+    let l = c.loop-byte in
+    let size = length-take-le c.args.bases c.args.bytes.now c.requires.bases_in_bounds in
+    omega (arith, next-some c.args.bases l.byte-index l.later l.left (omega (arith, size, c.loop-byte-test.true)) l.invariant.share l.invariant.inside)
 
-pub loop-place-preserved : goal.loop-place-preserved
-loop-place-preserved c =
-    let l = c.loop-place in
+pub loop-byte-preserved : goal.loop-byte-preserved
+loop-byte-preserved c =
+    let l = c.loop-byte in
     let bases = c.args.bases in
-    let inside : l.place < bases = c.loop-place-test.true in
-    let room = c.requires.bases_in_bounds in (
-      omega arith,
-      next bases l.place l.later l.left inside l.invariant.1 l.invariant.2,
-      next-left bases l.place l.later l.left inside l.invariant.1 l.invariant.2,
-      length-set l.bytes l.place _ ∙ l.invariant.3,
-      front-step l.invariant.4 (letters-left bases l.place l.later l.left inside l.invariant.1 l.invariant.2) (omega arith) (ap (λ (x : ℕ). set l.bytes l.place x) c.letter.ensures) refl,
-    )
+    let size = length-take-le bases c.args.bytes.now c.requires.bases_in_bounds in
+    let inside : l.byte-index < bases = omega (arith, size, c.loop-byte-test.true) in
+    record {
+      share = next bases l.byte-index l.later l.left inside l.invariant.share l.invariant.inside;
+      inside = next-left bases l.byte-index l.later l.left inside l.invariant.share l.invariant.inside;
+      front = front-step l.invariant.front (letters-left bases l.byte-index l.later l.left inside l.invariant.share l.invariant.inside) (omega (arith, size, inside)) (ap (λ (x : ℕ). set l.byte-items l.byte-index x) c.letter.ensures) refl;
+    }
 
 pub returns : goal.returns
 unfolding choice_at over
 returns c =
-    let l = c.loop-place in
+    let l = c.loop-byte in
     let bases = c.args.bases in
-    let none : bases - l.place ≡ 0 = omega (arith, c.loop-place-test.false) in
-    let done : Front c.args.bytes.now (choice_at (replicate bases letters) c.args.rank) [] l.place l.bytes = rw none at l.invariant.4 in
-    front-whole done
+    let bytes = c.args.bytes.now in
+    let size = length-take-le bases bytes c.requires.bases_in_bounds in
+    let none : bases - l.byte-index ≡ 0 = omega (arith, size, c.loop-byte-test.false) in
+    let done : Front (take bases bytes) (choice_at (replicate bases letters) c.args.rank) [] l.byte-index l.byte-items = rw none at l.invariant.front in
+    let whole = choice_at (replicate bases letters) c.args.rank in
+    let many : bases ≡ length whole = omega (arith, size, none, front-count done, l.auto.byte-index-end) in
+    ap₂ (λ (s : List ℕ) (n : ℕ). s ++ drop n bytes) (front-full done (omega (arith, size, none))) many

@@ -1,87 +1,49 @@
--- The constrained sum meets its contract: its reply is that of the first check that holds, and its figure document 02's sum. Assumes nothing.
-use mathlib.Core.Path.{◌≡◌, ap₂, ◌∙◌}
-use mathlib.Core.Bool.{false, ◌||◌}
-use Prim.Native.Nat.{ℕ, ◌-◌}
-use native.Mathlib.Omega.{arith}
-use lib.ListN.{length, replicate, length-take}
-use Rattle.lists.proofs.Tests.{neither}
-use Rattle.design.specs.Design.{Design, lent, positions, model_of}
+-- The constrained sum's reply is that of the first check that holds, and its figure document 02's sum. Assumes nothing.
+use mathlib.Core.Path.{◌≡◌, sym, ap, ◌∙◌}
+use mathlib.Core.Bool.{Bool, false, ◌||◌}
+use lib.Dec.{eqb}
+use borrow.Author.Tests.{eqb-false}
+use Rattle.std.proofs.Common.{rules, tests}
+use Rattle.reply.specs.declared.Refusal.TheVariants.{BareScaffold}
+use Rattle.design.specs.Design.{positions, strands, model_of}
 use Rattle.design.specs.Checks.{sizes_out}
+use Rattle.design.proofs.Replies.{bare-false}
 use Rattle.design.proofs.Sizes.{sized}
-use Rattle.partition.specs.Weights.{Weights}
 use Rattle.partition.specs.Summed.{constrained_figure}
-use Rattle.state_sums.specs.Sizes.{Lists, wrong_cells, wrong_lists}
+use Rattle.partition_sums.specs.Layout.{lent_weights}
+use Rattle.state_sums.specs.Sizes.{lent_lists, wrong_cells, wrong_lists}
 use Rattle.state_sums.specs.Answers.{constraint_of}
-use Rattle.state_sums.proofs.Lent.{weights, cells-celled, lists-listed}
-use Rattle.state_sums.proofs.Told.{positive, sum-passed, sum-refused, sum-bare, sum-weighed, constrained-both}
+use Rattle.state_sums.proofs.Lent.{lists-listed}
+use Rattle.state_sums.proofs.Told.{positive, sum-refused, constrained-weighed}
 use Rattle.state_sums.proofs.constrained_sum.Goals as goal
+use Rattle.state_sums.proofs.constrained_sum.Goals.{then-wrong_weights, else-wrong_weights}
 
-pub returns-then-positions-eq0 : goal.returns-then-positions-eq0
-returns-then-positions-eq0 c =
-    let all = let a = c.args in
-    let d : Design = lent a.scaffold a.marks a.glues a.dg a.ds a.potentials a.ambient in
-    let w : Weights = weights (length a.potentials.now) a.place_digits.now a.place_powers.now a.pair_digits.now a.pair_powers.now in
-    let l : Lists = record { numbers = a.numbers.now; starts = a.starts.now; lengths = a.lengths.now } in
-    let same : sizes_out d ≡ false → c.either-own_size.result ≡ (wrong_cells (positions d) w || wrong_lists (positions d) l) = λ s. let z = sized d s in c.either-own_size.ensures ∙ ap₂ ◌||◌ (c.wrong_cells-wrong_weights.ensures z.short z.few) c.wrong_lists.ensures in
-    let r = c.design_reply.ensures in
-    constrained-both d w l (sum-bare d w (wrong_cells (positions d) w || wrong_lists (positions d) l) (constrained_figure (model_of d) w (constraint_of l)) same r c.in-Admitted.is c.if-positions-eq0.true) in record {
-      result_value = all.0;
-      constrained_shown = all.1;
-    }
-
-pub slice_bounds-counts-end : goal.slice_bounds-counts-end
-slice_bounds-counts-end c =
+pub returns-in_err-design_reply-clause-result_value : goal.returns-in_err-design_reply-clause-result_value
+returns-in_err-design_reply-clause-result_value c =
     let a = c.args in
-    let d : Design = lent a.scaffold a.marks a.glues a.dg a.ds a.potentials a.ambient in
-    let w : Weights = weights (length a.potentials.now) a.place_digits.now a.place_powers.now a.pair_digits.now a.pair_powers.now in
-    let l : Lists = record { numbers = a.numbers.now; starts = a.starts.now; lengths = a.lengths.now } in
-    let same : sizes_out d ≡ false → c.either-own_size.result ≡ (wrong_cells (positions d) w || wrong_lists (positions d) l) = λ s. let z = sized d s in c.either-own_size.ensures ∙ ap₂ ◌||◌ (c.wrong_cells-wrong_weights.ensures z.short z.few) c.wrong_lists.ensures in
-    let r = c.design_reply.ensures in
-    let short = (sized d (sum-passed d w (wrong_cells (positions d) w || wrong_lists (positions d) l) (constrained_figure (model_of d) w (constraint_of l)) same r c.in-Admitted.is).design.sizes).short in
-    omega arith
+    let d = a.design.now in
+    let w = lent_weights (strands d) a.place_digits a.place_powers a.pair_digits a.pair_powers in
+    let l = lent_lists a.numbers a.starts a.lengths in
+    let own = wrong_cells (positions d) w || wrong_lists (positions d) l in
+    let either : c.if-wrong_weights.own_size ≡ (c.wrong_cells-wrong_weights.result || wrong_lists (positions d) l) = elim c.if-wrong_weights.branch [ then-wrong_weights w ↦ search (rules, tests) | else-wrong_weights w ↦ search (rules, tests) ] in
+    let same : sizes_out d ≡ false → c.if-wrong_weights.own_size ≡ own = λ s. let z = sized d s in either ∙ ap (λ (b : Bool). b || wrong_lists (positions d) l) ((rw (c.positions-positions.ensures, c.strands.ensures) at c.wrong_cells-wrong_weights.ensures) z.short z.few) in
+    sum-refused d w own (constrained_figure (model_of d) w (constraint_of l)) same (sym c.in_err-design_reply.ensures.value) c.from_residual.result c.from_residual.ensures.1
 
-pub weighed_constrained-requires : goal.weighed_constrained-requires
-weighed_constrained-requires c =
+pub weighed_constrained-requires-clause-listed : goal.weighed_constrained-requires-clause-listed
+weighed_constrained-requires-clause-listed c =
     let a = c.args in
-    let d : Design = lent a.scaffold a.marks a.glues a.dg a.ds a.potentials a.ambient in
-    let w : Weights = weights (length a.potentials.now) a.place_digits.now a.place_powers.now a.pair_digits.now a.pair_powers.now in
-    let l : Lists = record { numbers = a.numbers.now; starts = a.starts.now; lengths = a.lengths.now } in
-    let same : sizes_out d ≡ false → c.either-own_size.result ≡ (wrong_cells (positions d) w || wrong_lists (positions d) l) = λ s. let z = sized d s in c.either-own_size.ensures ∙ ap₂ ◌||◌ (c.wrong_cells-wrong_weights.ensures z.short z.few) c.wrong_lists.ensures in
-    let r = c.design_reply.ensures in
-    let p = sum-passed d w (wrong_cells (positions d) w || wrong_lists (positions d) l) (constrained_figure (model_of d) w (constraint_of l)) same r c.in-Admitted.is in
-    let short = (sized d p.design.sizes).short in
-    let own = neither (wrong_cells (positions d) w) (wrong_lists (positions d) l) p.size in
-    record {
-      admitted = p.design;
-      celled = cells-celled (positions d) w own.0;
-      listed = lists-listed (positions d) l own.1;
-      scaffold_nonzero = positive (positions d) c.if-positions-eq0.false;
-      scaffold_in_bounds = omega arith;
-      counts_len = omega (arith, length-take (positions d - 0) (replicate {A = ℕ} 128 0));
-    }
+    let d = a.design.now in
+    let l = lent_lists a.numbers a.starts a.lengths in
+    let right : wrong_lists (positions d) l ≡ false = elim c.if-wrong_weights.branch [ then-wrong_weights w ↦ search (rules, tests) | else-wrong_weights w ↦ search (rules, tests) ] in
+    lists-listed (positions d) l right
 
-pub returns-in-Refused : goal.returns-in-Refused
-returns-in-Refused c =
-    let all = let a = c.args in
-    let d : Design = lent a.scaffold a.marks a.glues a.dg a.ds a.potentials a.ambient in
-    let w : Weights = weights (length a.potentials.now) a.place_digits.now a.place_powers.now a.pair_digits.now a.pair_powers.now in
-    let l : Lists = record { numbers = a.numbers.now; starts = a.starts.now; lengths = a.lengths.now } in
-    let same : sizes_out d ≡ false → c.either-own_size.result ≡ (wrong_cells (positions d) w || wrong_lists (positions d) l) = λ s. let z = sized d s in c.either-own_size.ensures ∙ ap₂ ◌||◌ (c.wrong_cells-wrong_weights.ensures z.short z.few) c.wrong_lists.ensures in
-    let r = c.design_reply.ensures in
-    constrained-both d w l (sum-refused d w (wrong_cells (positions d) w || wrong_lists (positions d) l) (constrained_figure (model_of d) w (constraint_of l)) same r c.in-Refused.is) in record {
-      result_value = all.0;
-      constrained_shown = all.1;
-    }
-
-pub returns-else-positions-eq0 : goal.returns-else-positions-eq0
-returns-else-positions-eq0 c =
-    let all = let a = c.args in
-    let d : Design = lent a.scaffold a.marks a.glues a.dg a.ds a.potentials a.ambient in
-    let w : Weights = weights (length a.potentials.now) a.place_digits.now a.place_powers.now a.pair_digits.now a.pair_powers.now in
-    let l : Lists = record { numbers = a.numbers.now; starts = a.starts.now; lengths = a.lengths.now } in
-    let same : sizes_out d ≡ false → c.either-own_size.result ≡ (wrong_cells (positions d) w || wrong_lists (positions d) l) = λ s. let z = sized d s in c.either-own_size.ensures ∙ ap₂ ◌||◌ (c.wrong_cells-wrong_weights.ensures z.short z.few) c.wrong_lists.ensures in
-    let r = c.design_reply.ensures in
-    constrained-both d w l (sum-weighed d w (wrong_cells (positions d) w || wrong_lists (positions d) l) (constrained_figure (model_of d) w (constraint_of l)) same r c.in-Admitted.is c.if-positions-eq0.false c.weighed_constrained.ensures) in record {
-      result_value = all.0;
-      constrained_shown = all.1;
-    }
+pub returns-clause-constrained_shown : goal.returns-clause-constrained_shown
+returns-clause-constrained_shown c =
+    let a = c.args in
+    let d = a.design.now in
+    let w = lent_weights (strands d) a.place_digits a.place_powers a.pair_digits a.pair_powers in
+    let l = lent_lists a.numbers a.starts a.lengths in
+    let right : wrong_lists (positions d) l ≡ false = elim c.if-wrong_weights.branch [ then-wrong_weights w ↦ search (rules, tests) | else-wrong_weights w ↦ search (rules, tests) ] in
+    let none = bare-false (eqb c.positions-positions.result 0) BareScaffold c.in_ok-refused_if.ensures in
+    let some = positive (positions d) (eqb-false _ _ (rw c.positions-positions.ensures at none)) in
+    constrained-weighed d w c.in_ok-design_reply.ensures.design some l (lists-listed (positions d) l right) c.weighed_constrained.ensures

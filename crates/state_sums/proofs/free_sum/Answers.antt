@@ -1,78 +1,32 @@
--- The free sum meets its contract: its reply is that of the first check that holds, and its figure document 02's sum. Assumes nothing.
-use mathlib.Core.Path.{◌≡◌}
+-- The free sum's reply is that of the first check that holds, and its figure document 02's sum. Assumes nothing.
+use mathlib.Core.Path.{◌≡◌, sym}
 use mathlib.Core.Bool.{false}
-use Prim.Native.Nat.{ℕ, ◌-◌}
-use native.Mathlib.Omega.{arith}
-use lib.ListN.{length, replicate, length-take}
-use Rattle.design.specs.Design.{Design, lent, positions, model_of}
+use lib.Dec.{eqb}
+use borrow.Author.Tests.{eqb-false}
+use Rattle.reply.specs.declared.Refusal.TheVariants.{BareScaffold}
+use Rattle.design.specs.Design.{positions, strands, model_of}
 use Rattle.design.specs.Checks.{sizes_out}
+use Rattle.design.proofs.Replies.{bare-false}
 use Rattle.design.proofs.Sizes.{sized}
-use Rattle.partition.specs.Weights.{Weights}
 use Rattle.partition.specs.Summed.{free_figure}
+use Rattle.partition_sums.specs.Layout.{lent_weights}
 use Rattle.state_sums.specs.Sizes.{wrong_cells}
-use Rattle.state_sums.proofs.Lent.{weights, cells-celled}
-use Rattle.state_sums.proofs.Told.{positive, sum-passed, sum-refused, sum-bare, sum-weighed, free-both}
+use Rattle.state_sums.proofs.Told.{positive, sum-refused, free-weighed}
 use Rattle.state_sums.proofs.free_sum.Goals as goal
 
-pub returns-then-positions-eq0 : goal.returns-then-positions-eq0
-returns-then-positions-eq0 c =
-    let all = let a = c.args in
-    let d : Design = lent a.scaffold a.marks a.glues a.dg a.ds a.potentials a.ambient in
-    let w : Weights = weights (length a.potentials.now) a.place_digits.now a.place_powers.now a.pair_digits.now a.pair_powers.now in
-    let same : sizes_out d ≡ false → c.wrong_cells-own_size.result ≡ (wrong_cells (positions d) w) = λ s. let z = sized d s in c.wrong_cells-own_size.ensures z.short z.few in
-    let r = c.design_reply.ensures in
-    free-both d w (sum-bare d w (wrong_cells (positions d) w) (free_figure (model_of d) w) same r c.in-Admitted.is c.if-positions-eq0.true) in record {
-      result_value = all.0;
-      free_shown = all.1;
-    }
-
-pub slice_bounds-counts-end : goal.slice_bounds-counts-end
-slice_bounds-counts-end c =
+pub returns-in_err-design_reply-clause-result_value : goal.returns-in_err-design_reply-clause-result_value
+returns-in_err-design_reply-clause-result_value c =
     let a = c.args in
-    let d : Design = lent a.scaffold a.marks a.glues a.dg a.ds a.potentials a.ambient in
-    let w : Weights = weights (length a.potentials.now) a.place_digits.now a.place_powers.now a.pair_digits.now a.pair_powers.now in
-    let same : sizes_out d ≡ false → c.wrong_cells-own_size.result ≡ (wrong_cells (positions d) w) = λ s. let z = sized d s in c.wrong_cells-own_size.ensures z.short z.few in
-    let r = c.design_reply.ensures in
-    let short = (sized d (sum-passed d w (wrong_cells (positions d) w) (free_figure (model_of d) w) same r c.in-Admitted.is).design.sizes).short in
-    omega arith
+    let d = a.design.now in
+    let w = lent_weights (strands d) a.place_digits a.place_powers a.pair_digits a.pair_powers in
+    let same : sizes_out d ≡ false → c.wrong_cells-own_size.result ≡ wrong_cells (positions d) w = λ s. let z = sized d s in (rw (c.positions-positions.ensures, c.strands.ensures) at c.wrong_cells-own_size.ensures) z.short z.few in
+    sum-refused d w (wrong_cells (positions d) w) (free_figure (model_of d) w) same (sym c.in_err-design_reply.ensures.value) c.from_residual.result c.from_residual.ensures.1
 
-pub weighed_free-requires : goal.weighed_free-requires
-weighed_free-requires c =
+pub returns-clause-free_shown : goal.returns-clause-free_shown
+returns-clause-free_shown c =
     let a = c.args in
-    let d : Design = lent a.scaffold a.marks a.glues a.dg a.ds a.potentials a.ambient in
-    let w : Weights = weights (length a.potentials.now) a.place_digits.now a.place_powers.now a.pair_digits.now a.pair_powers.now in
-    let same : sizes_out d ≡ false → c.wrong_cells-own_size.result ≡ (wrong_cells (positions d) w) = λ s. let z = sized d s in c.wrong_cells-own_size.ensures z.short z.few in
-    let r = c.design_reply.ensures in
-    let p = sum-passed d w (wrong_cells (positions d) w) (free_figure (model_of d) w) same r c.in-Admitted.is in
-    let short = (sized d p.design.sizes).short in
-    record {
-      admitted = p.design;
-      celled = cells-celled (positions d) w p.size;
-      scaffold_nonzero = positive (positions d) c.if-positions-eq0.false;
-      scaffold_in_bounds = omega arith;
-      counts_len = omega (arith, length-take (positions d - 0) (replicate {A = ℕ} 128 0));
-    }
-
-pub returns-in-Refused : goal.returns-in-Refused
-returns-in-Refused c =
-    let all = let a = c.args in
-    let d : Design = lent a.scaffold a.marks a.glues a.dg a.ds a.potentials a.ambient in
-    let w : Weights = weights (length a.potentials.now) a.place_digits.now a.place_powers.now a.pair_digits.now a.pair_powers.now in
-    let same : sizes_out d ≡ false → c.wrong_cells-own_size.result ≡ (wrong_cells (positions d) w) = λ s. let z = sized d s in c.wrong_cells-own_size.ensures z.short z.few in
-    let r = c.design_reply.ensures in
-    free-both d w (sum-refused d w (wrong_cells (positions d) w) (free_figure (model_of d) w) same r c.in-Refused.is) in record {
-      result_value = all.0;
-      free_shown = all.1;
-    }
-
-pub returns-else-positions-eq0 : goal.returns-else-positions-eq0
-returns-else-positions-eq0 c =
-    let all = let a = c.args in
-    let d : Design = lent a.scaffold a.marks a.glues a.dg a.ds a.potentials a.ambient in
-    let w : Weights = weights (length a.potentials.now) a.place_digits.now a.place_powers.now a.pair_digits.now a.pair_powers.now in
-    let same : sizes_out d ≡ false → c.wrong_cells-own_size.result ≡ (wrong_cells (positions d) w) = λ s. let z = sized d s in c.wrong_cells-own_size.ensures z.short z.few in
-    let r = c.design_reply.ensures in
-    free-both d w (sum-weighed d w (wrong_cells (positions d) w) (free_figure (model_of d) w) same r c.in-Admitted.is c.if-positions-eq0.false c.weighed_free.ensures) in record {
-      result_value = all.0;
-      free_shown = all.1;
-    }
+    let d = a.design.now in
+    let w = lent_weights (strands d) a.place_digits a.place_powers a.pair_digits a.pair_powers in
+    let none = bare-false (eqb c.positions-positions.result 0) BareScaffold c.in_ok-refused_if.ensures in
+    let some = positive (positions d) (eqb-false _ _ (rw c.positions-positions.ensures at none)) in
+    free-weighed d w c.in_ok-design_reply.ensures.design some c.weighed_free.ensures

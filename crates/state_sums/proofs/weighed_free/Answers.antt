@@ -1,92 +1,35 @@
 -- The free sum of an admitted design meets its contract. Assumes nothing.
-use mathlib.Core.Path.{refl, sym, ap, subst, ◌∙◌}
-use mathlib.Core.List.{List}
-use Prim.Native.Nat.{ℕ, ◌<◌}
-use native.Mathlib.Omega.{arith}
-use lib.ListN.{length}
-use Rattle.design.specs.Design.{Design, lent, model_of}
-use Rattle.design.proofs.Sizes.{sized}
+use mathlib.Core.Path.{ap, ◌∙◌}
+use Rattle.design.specs.Design.{strands, model_of}
 use Rattle.design.proofs.Replies.{tables-of}
 use Rattle.design.proofs.Cells.{null-nowhere}
-use Rattle.partition.specs.Weights.{Weights, weights_out}
 use Rattle.partition.specs.Summed.{sum_of_weights, free_figure}
-use Rattle.partition.specs.inner.Used.{InUse}
-use Rattle.partition.proofs.Sums.{in_use}
-use Rattle.partition_sums.specs.Layout.{Celled}
-use Rattle.partition_sums.proofs.Options.{friends-in, options-in}
-use Rattle.state_sums.proofs.Lent.{weights}
-use Rattle.state_sums.proofs.Told.{placed, weighed-refused, weighed-given}
+use Rattle.partition_sums.specs.Layout.{lent_weights}
+use Rattle.partition_sums.proofs.Options.{options-in}
+use Rattle.state_sums.proofs.Told.{weighed-refused, weighed-used, weighed-given}
 use Rattle.state_sums.proofs.weighed_free.Goals as goal
 
-pub overflow_cast-strands : goal.overflow_cast-strands
-overflow_cast-strands c =
-    let a = c.args in
-    let d : Design = lent a.scaffold a.marks a.glues a.dg a.ds a.potentials a.ambient in
-    let few = (sized d c.requires.admitted.sizes).few in
-    omega arith
+pub fill_options-requires-clause-null_nowhere : goal.fill_options-requires-clause-null_nowhere
+fill_options-requires-clause-null_nowhere c = null-nowhere c.args.design.now (tables-of c.args.design.now c.requires.admitted)
 
-pub fill_options-requires : goal.fill_options-requires
-fill_options-requires c =
+pub returns-in_err-refused_if : goal.returns-in_err-refused_if
+returns-in_err-refused_if c =
     let a = c.args in
-    let d : Design = lent a.scaffold a.marks a.glues a.dg a.ds a.potentials a.ambient in
-    let r = c.requires in
-    let z = sized d r.admitted.sizes in
-    record {
-      strands_nonzero = z.null;
-      strands_bound = z.few;
-      scaffold_len_bound = z.short;
-      scaffold_in_bounds = r.scaffold_in_bounds;
-      counts_len = r.counts_len;
-      null_nowhere = null-nowhere d (tables-of d r.admitted);
-    }
+    let d = a.design.now in
+    let w = lent_weights (strands d) a.place_digits a.place_powers a.pair_digits a.pair_powers in
+    weighed-refused d w (free_figure (model_of d) w) c.fill_options.ensures.option_rows (rw c.strands-strands.ensures at c.weights_out-out.ensures) c.in_err-refused_if.ensures c.from_residual.result c.from_residual.ensures.1
 
-pub weights_out-requires : goal.weights_out-requires
-unfolding model_of
-weights_out-requires c =
+pub free_sum-requires-clause-in_use : goal.free_sum-requires-clause-in_use
+free_sum-requires-clause-in_use c =
     let a = c.args in
-    let d : Design = lent a.scaffold a.marks a.glues a.dg a.ds a.potentials a.ambient in
-    let w : Weights = weights (length a.potentials.now) a.place_digits.now a.place_powers.now a.pair_digits.now a.pair_powers.now in
-    let filled = c.fill_options.ensures in
-    let number = placed d (filled.option_rows (model_of d) refl) in
-    record {
-      searchable = filled.searchable;
-      celled = subst (λ (n : ℕ). Celled n w) (sym number) c.requires.celled;
-    }
-
-pub returns-then-weights_out : goal.returns-then-weights_out
-unfolding model_of
-returns-then-weights_out c =
-    let a = c.args in
-    let d : Design = lent a.scaffold a.marks a.glues a.dg a.ds a.potentials a.ambient in
-    let w : Weights = weights (length a.potentials.now) a.place_digits.now a.place_powers.now a.pair_digits.now a.pair_powers.now in
-    let options = c.fill_options.ensures.option_rows (model_of d) refl in
-    weighed-refused d w (free_figure (model_of d) w) (sym (ap (λ (friends : List (List ℕ)). weights_out friends w) (friends-in options)) ∙ sym c.weights_out.ensures ∙ c.if-weights_out.true)
-
-pub free_sum-requires : goal.free_sum-requires
-unfolding model_of
-free_sum-requires c =
-    let a = c.args in
-    let d : Design = lent a.scaffold a.marks a.glues a.dg a.ds a.potentials a.ambient in
-    let w : Weights = weights (length a.potentials.now) a.place_digits.now a.place_powers.now a.pair_digits.now a.pair_powers.now in
-    let r = c.requires in
-    let filled = c.fill_options.ensures in
-    let options = filled.option_rows (model_of d) refl in
-    let number = placed d options in
-    let none = sym (ap (λ (friends : List (List ℕ)). weights_out friends w) (friends-in options)) ∙ sym c.weights_out.ensures ∙ c.if-weights_out.false in
-    let used = subst (InUse w 0) (sym (options-in options)) (in_use w (model_of d).friends none) in
-    record {
-      counts_nonzero = subst (λ (n : ℕ). 0 < n) (sym number) r.scaffold_nonzero;
-      searchable = filled.searchable;
-      celled = subst (λ (n : ℕ). Celled n w) (sym number) r.celled;
-      in_use = used;
-    }
+    let d = a.design.now in
+    let w = lent_weights c.strands-strands.result a.place_digits a.place_powers a.pair_digits a.pair_powers in
+    weighed-used d w (free_figure (model_of d) w) c.fill_options.ensures.option_rows c.weights_out-out.ensures c.in_ok-refused_if.ensures
 
 pub returns : goal.returns
-unfolding model_of
 returns c =
     let a = c.args in
-    let d : Design = lent a.scaffold a.marks a.glues a.dg a.ds a.potentials a.ambient in
-    let w : Weights = weights (length a.potentials.now) a.place_digits.now a.place_powers.now a.pair_digits.now a.pair_powers.now in
-    let options = c.fill_options.ensures.option_rows (model_of d) refl in
-    let none = sym (ap (λ (friends : List (List ℕ)). weights_out friends w) (friends-in options)) ∙ sym c.weights_out.ensures ∙ c.if-weights_out.false in
-    weighed-given d w (free_figure (model_of d) w) none (c.free_sum.ensures ∙ ap (sum_of_weights w) (options-in options))
+    let d = a.design.now in
+    let w = lent_weights c.strands-strands.result a.place_digits a.place_powers a.pair_digits a.pair_powers in
+    let options = c.fill_options.ensures.option_rows in
+    rw (← c.strands-strands.ensures) (weighed-given d w (free_figure (model_of d) w) options c.weights_out-out.ensures c.in_ok-refused_if.ensures (c.free_sum.ensures ∙ ap (sum_of_weights w) (options-in options)))

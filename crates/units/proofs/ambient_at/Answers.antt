@@ -1,24 +1,24 @@
 -- `units::ambient_at` meets its contract: the range test is that of the check, and each figure is what its method ensures.
 -- Assumes nothing.
-use mathlib.Core.Path.{◌≡◌, sym, ◌∙◌}
-use mathlib.Core.Bool.{true, false}
+use mathlib.Core.Path.{◌≡◌, ◌∙◌, ap}
 use lib.Ieee.{div, of_bits}
-use borrow.Author.Tests.{not-true, not-false}
-use Rattle.doubles.specs.Decimal.{plus, nearest}
+use Rattle.std.specs.Prelude.{Ok}
+use Rattle.doubles.specs.Decimal.{nearest}
 use Rattle.doubles.specs.Range.{in_range}
-use Rattle.units.specs.Ambient.{ambient_at, gas_constant, excess_over37_c}
+use Rattle.reply.specs.First.{first_of}
+use Rattle.units.specs.Ambient.{ambient_figures, ambient_checks, refused, ambient_at, gas_constant, excess_over37_c}
+use Rattle.units.proofs.Bare.{same-error, admits, answers}
 use Rattle.units.proofs.ambient_at.Goals as goal
 
-pub returns-then-not-in_range : goal.returns-then-not-in_range
+pub returns-in_err-refused_if : goal.returns-in_err-refused_if
 unfolding ambient_at in_range nearest of_bits
-returns-then-not-in_range c =
+returns-in_err-refused_if c =
     let kelvin = c.args.temperature.0 in
-    let out : in_range (plus 200 0) (plus 500 0) kelvin ≡ false = sym c.in_range.ensures ∙ not-true _ c.if-not-in_range.true-raw in
-    simp out
+    ap ambient_figures (same-error _ c.from_residual.ensures) ∙ answers (first_of (ambient_checks kelvin)) refused _ (rw c.in_range-known.ensures at c.refused_if.ensures) c.in_err-refused_if.was
 
 pub returns : goal.returns
 unfolding ambient_at in_range nearest of_bits div gas_constant excess_over37_c
 returns c =
     let kelvin = c.args.temperature.0 in
-    let good : in_range (plus 200 0) (plus 500 0) kelvin ≡ true = sym c.in_range.ensures ∙ not-false _ c.if-not-in_range.false-raw in
-    simp good (cc)
+    let reply : first_of (ambient_checks kelvin) ≡ Ok tt = admits _ (rw c.in_range-known.ensures at c.refused_if.ensures) c.in_ok-refused_if.was in
+    rw reply (cc)

@@ -16,7 +16,7 @@ pub returns-then-base_index-lt2 : goal.returns-then-base_index-lt2
 unfolding sum_from end_dg end_ds nearest terminal_dg terminal_ds of_bits
 returns-then-base_index-lt2 c =
     let weak : is_a_or_t (base_of c.args.letter) ≡ true = low-number (base_of c.args.letter) (omega (arith, c.base_index.ensures.0)) in
-    (simp weak c.add.ensures, simp weak c.add-then-base_index-lt2.ensures)
+    (simp weak c.add.ensures.0, simp weak c.add.ensures.1)
 
 pub returns : goal.returns
 unfolding sum_from

@@ -14,7 +14,7 @@ pub returns-then-self_complementary : goal.returns-then-self_complementary
 unfolding sum_from symmetric_dg symmetric_ds nearest symmetry_dg symmetry_ds of_bits
 returns-then-self_complementary c =
     let so : self_complementary (bases c.args.dna.now) ≡ true = sym c.self_complementary.ensures ∙ c.if-self_complementary.true in
-    (simp so c.add.ensures, simp so c.add-then-self_complementary.ensures)
+    (simp so c.add.ensures.0, simp so c.add.ensures.1)
 
 pub returns : goal.returns
 unfolding sum_from

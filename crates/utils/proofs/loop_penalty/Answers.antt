@@ -1,28 +1,34 @@
 -- `utils::loop_penalty` meets its contract: the two tests are the two halves of the check. Assumes nothing.
-use mathlib.Core.Path.{◌≡◌, sym, ◌∙◌}
-use mathlib.Core.Bool.{true, false}
-use borrow.Author.Tests.{lt-ltb, le-ltb, not-true, not-false}
+use mathlib.Core.Path.{◌≡◌, ap, ◌∙◌}
+use mathlib.Core.Bool.{not, ◌||◌}
+use lib.Dec.{ltb}
+use borrow.Author.Tests.{lt-ltb, le-ltb}
+use Rattle.std.specs.Prelude.{Ok}
+use Rattle.reply.specs.First.{first_of}
+use Rattle.units.proofs.Bare.{same-error, admits, answers}
+use Rattle.utils.specs.Answers.{dg_figures, refused_dg}
 use Rattle.utils.specs.Figures.{admitted_length}
-use Rattle.utils.specs.Loops.{loop_penalty}
-use Rattle.utils.proofs.LoopEnergy.{admitted-ends}
+use Rattle.utils.specs.Loops.{loop_checks, loop_penalty}
 use Rattle.utils.proofs.loop_penalty.Goals as goal
 
-pub returns-then-kind-gt2 : goal.returns-then-kind-gt2
+pub returns-in_err-kind : goal.returns-in_err-kind
 unfolding loop_penalty
-returns-then-kind-gt2 c = simp (lt-ltb _ _ c.if-kind-gt2.true)
+returns-in_err-kind c =
+    let no-kind = rw c.in_err-kind.was at c.try_from.ensures in
+    ap dg_figures (same-error _ c.from_residual.ensures) ∙ simp (lt-ltb _ _ no-kind.0, no-kind.1)
 
-pub returns-then-not-loop_admitted : goal.returns-then-not-loop_admitted
+pub returns-in_err-refused_if : goal.returns-in_err-refused_if
 unfolding loop_penalty
-returns-then-not-loop_admitted c =
-    let lacks : admitted_length c.args.length ≡ false = sym c.loop_admitted.ensures ∙ not-true _ c.if-not-loop_admitted.true-raw in
-    simp (le-ltb _ _ c.if-kind-gt2.false, lacks)
-
-pub loop_energy-requires : goal.loop_energy-requires
-loop_energy-requires c =
-    admitted-ends c.args.length (sym c.loop_admitted.ensures ∙ not-false _ c.if-not-loop_admitted.false-raw)
+returns-in_err-refused_if c =
+    let kind = rw c.in_ok-kind.was at c.try_from.ensures in
+    let known : (ltb 2 c.args.kind || not (admitted_length c.args.length)) ≡ not c.loop_admitted.result = simp (le-ltb _ _ kind.0, c.loop_admitted.ensures) in
+    ap dg_figures (same-error _ c.from_residual-in_err-refused_if.ensures)
+    ∙ answers (first_of (loop_checks c.args.length c.args.kind)) refused_dg _ (rw (← known) at c.refused_if.ensures) c.in_err-refused_if.was
 
 pub returns : goal.returns
 unfolding loop_penalty
 returns c =
-    let has : admitted_length c.args.length ≡ true = sym c.loop_admitted.ensures ∙ not-false _ c.if-not-loop_admitted.false-raw in
-    simp (le-ltb _ _ c.if-kind-gt2.false, has) (cc)
+    let kind = rw c.in_ok-kind.was at c.try_from.ensures in
+    let known : (ltb 2 c.args.kind || not (admitted_length c.args.length)) ≡ not c.loop_admitted.result = simp (le-ltb _ _ kind.0, c.loop_admitted.ensures) in
+    let reply : first_of (loop_checks c.args.length c.args.kind) ≡ Ok tt = admits _ (rw (← known) at c.refused_if.ensures) c.in_ok-refused_if.was in
+    rw reply (cc)

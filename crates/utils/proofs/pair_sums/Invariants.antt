@@ -1,16 +1,26 @@
--- `utils::pair_sums` meets its contract: at place i the sums so far are to be carried on over the windows left. Assumes nothing.
+-- `utils::pair_sums` meets its contract: the sums so far are to be carried on over the windows left. Assumes nothing.
 use mathlib.Core.Path.{◌≡◌}
-use Prim.Native.Nat.{◌≤◌, ◌<◌, ◌-◌}
+use mathlib.Core.Bool.{false}
+use Prim.Native.Nat.{◌+◌, ◌≤◌}
 use lib.ListN.{length}
-use Rattle.utils.specs.Bases.{bases}
+use Rattle.std.specs.Iterator.Adapters.{zip_first, zip_second}
+use Rattle.std.specs.Slice.Iter.{windows_size, windows_rest}
+use Rattle.lists.specs.Find.{any}
+use Rattle.utils.specs.Bases.{not_a_base, bases}
 use Rattle.utils.specs.Pair.{pair_sums, lacks_loop}
 use Rattle.utils.specs.inner.Code.{sums_of}
-use Rattle.utils.proofs.Windows.{sums_at, lacks_at}
+use Rattle.utils.proofs.Windows.{sums_rest, lacks_rest}
 use Rattle.utils.proofs.pair_sums.Given as goal
 
-abbrev pub invariant-loop-i : goal.invariant-loop-i
-invariant-loop-i l =
-    (1 ≤ l.i) × (l.sums.bad < l.i) × (pair_sums (bases l.a) (bases l.b) ≡ sums_at (sums_of l.sums) l.a l.b l.i) × (lacks_loop l.a l.b ≡ lacks_at l.sums.missing l.sums.bad l.a l.b l.i)
-
-abbrev pub decreases-loop-i : goal.decreases-loop-i
-decreases-loop-i l = length l.a - l.i
+abbrev pub invariant-loop-upper : goal.invariant-loop-upper
+invariant-loop-upper l =
+    let a = windows_rest (zip_first l.upper-iterator) in
+    let b = windows_rest (zip_second l.upper-iterator) in
+    record {
+      two : (windows_size (zip_first l.upper-iterator) ≡ 2) × (windows_size (zip_second l.upper-iterator) ≡ 2);
+      one_length : length a ≡ length b;
+      letters : (any not_a_base a ≡ false) × (any not_a_base b ≡ false);
+      room : l.sums.bad + length a ≤ 256;
+      figures : pair_sums (bases l.a) (bases l.b) ≡ sums_rest (sums_of l.sums) a b;
+      loops : lacks_loop l.a l.b ≡ lacks_rest l.sums.bad a b;
+    }

@@ -25,9 +25,9 @@ unfolding published_dg published_ds start_dg printed_start_ds nearest initiation
 returns c =
     let dna = c.args.dna.now in (
       by-the-paper dna (stack_sum stack_dg (bases dna)) start_dg end_dg symmetric_dg
-          (c.add.ensures ∙ ap (λ (x : Float). add binary64 x start_dg) c.single_sequence_dg_ds-stacks.ensures.0)
+          (c.add-begun.ensures.0 ∙ ap (λ (x : Float). add binary64 x start_dg) c.single_sequence_dg_ds-stacks.ensures.0)
           c.after_end-first.ensures.0 c.after_end-last.ensures.0 c.after_symmetry.ensures.0,
       by-the-paper dna (stack_sum stack_ds (bases dna)) printed_start_ds end_ds symmetric_ds
-          (c.add-2.ensures ∙ ap (λ (x : Float). add binary64 x printed_start_ds) c.single_sequence_dg_ds-stacks.ensures.1)
+          (c.add-begun.ensures.1 ∙ ap (λ (x : Float). add binary64 x printed_start_ds) c.single_sequence_dg_ds-stacks.ensures.1)
           c.after_end-first.ensures.1 c.after_end-last.ensures.1 c.after_symmetry.ensures.1,
     )

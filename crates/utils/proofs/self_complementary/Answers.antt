@@ -1,46 +1,70 @@
-use mathlib.Core.Path.{◌≡◌, sym, ◌∙◌}
+use mathlib.Core.Path.{◌≡◌, refl, sym, ap, ap₂, ◌∙◌}
 use mathlib.Core.Bool.{true, false}
-use Prim.Native.Nat.{◌<◌}
+use mathlib.Core.List.{[], ◌∷◌}
+use mathlib.Core.Logic.{inl, inr}
 use native.Mathlib.Omega.{arith}
-use lib.ListN.{length}
-use borrow.Author.Tests.{not-true, not-false}
-use Rattle.utils.specs.Bases.{bases}
-use Rattle.utils.proofs.Letters.{base-here}
-use Rattle.utils.proofs.Neighbours.{bases-length}
-use Rattle.utils.proofs.Terms.{pair_at, pair-at, symmetric-all, symmetric-more, symmetric-fails, symmetric-done}
+use lib.ListN.{length, length-append}
+use Rattle.std.specs.Iterator.Adapters.{zip_first, zip_second, rev_source}
+use Rattle.std.specs.Slice.Iter.{iter_rest}
+use Rattle.utils.specs.Bases.{base_of, complementary}
+use Rattle.utils.specs.Terms.{self_complementary}
+use Rattle.utils.proofs.Letters.{all-but-last, first-and-rest}
+use Rattle.utils.proofs.Terms.{symmetric-more, symmetric-fails, symmetric-done}
 use Rattle.utils.proofs.self_complementary.Goals as goal
+use Rattle.utils.proofs.self_complementary.Goals.{In-Some}
 
-pub loop-i-init : goal.loop-i-init
-loop-i-init c = (omega arith, symmetric-all _)
+pub loop-last-init : goal.loop-last-init
+unfolding self_complementary
+loop-last-init c =
+    let begun = c.into_iter-last-iterator.ensures.into_iter_gives in
+    let first : rev_source (zip_first c.into_iter-last-iterator.result) ≡ c.iter.result = ap (λ x. rev_source (zip_first x)) begun ∙ ap rev_source c.zip-last-items.ensures.first ∙ c.rev.ensures.source in
+    let back : iter_rest (rev_source (zip_first c.into_iter-last-iterator.result)) ≡ c.args.dna.now = ap iter_rest first ∙ c.iter.ensures.rest in
+    let front : iter_rest (zip_second c.into_iter-last-iterator.result) ≡ c.args.dna.now = ap (λ x. iter_rest (zip_second x)) begun ∙ c.zip-last-items.ensures.second.0 in
+    record {
+      letters = rw (back, front) (c.requires, c.requires);
+      one_length = rw (back, front) refl;
+      decides = rw (back, front) refl;
+    }
 
 pub base-requires : goal.base-requires
 base-requires c =
-    base-here c.args.dna.now _ c.requires (omega arith)
+    let step = rw c.in-Some.is at c.next.ensures.steps in
+    (all-but-last _ _ (rw step.0 at c.loop-last.invariant.letters.0)).1
 
-pub base-requires-in-loop-i : goal.base-requires-in-loop-i
-base-requires-in-loop-i c =
-    base-here c.args.dna.now _ c.requires (omega arith)
+pub base-requires-in-loop-last : goal.base-requires-in-loop-last
+base-requires-in-loop-last c =
+    let step = rw c.in-Some.is at c.next.ensures.steps in
+    (first-and-rest _ _ (rw step.1 at c.loop-last.invariant.letters.1)).0
 
 pub returns-then-not-good_match : goal.returns-then-not-good_match
 returns-then-not-good_match c =
-    let dna = c.args.dna.now in
-    let i = c.loop-i.i in
-    let under : i < length (bases dna) = rw (bases-length dna) (omega arith) in
-    let differ : pair_at (bases dna) i ≡ false =
-    sym (pair-at dna i _ _ c.base.ensures c.base-in-loop-i.ensures) ∙ sym c.good_match.ensures ∙ not-true _ c.if-not-good_match.true-raw in
-    sym (c.loop-i.invariant.1 ∙ symmetric-fails (bases dna) i under differ)
+    let step = rw c.in-Some.is at c.next.ensures.steps in
+    let apart : complementary (base_of c.in-Some.last.now) (base_of c.in-Some.first.now) ≡ false =
+    ap₂ complementary (sym c.base.ensures) (sym c.base-in-loop-last.ensures) ∙ sym c.good_match.ensures ∙ c.if-not-good_match.true in
+    sym (rw (step.0, step.1) at c.loop-last.invariant.decides ∙ symmetric-fails _ _ c.in-Some.last.now c.in-Some.first.now apart)
 
-pub loop-i-preserved : goal.loop-i-preserved
-loop-i-preserved c =
-    let dna = c.args.dna.now in
-    let i = c.loop-i.i in
-    let under : i < length (bases dna) = rw (bases-length dna) (omega arith) in
-    let pair : pair_at (bases dna) i ≡ true =
-    sym (pair-at dna i _ _ c.base.ensures c.base-in-loop-i.ensures) ∙ sym c.good_match.ensures ∙ not-false _ c.if-not-good_match.false-raw in
-    (omega arith, c.loop-i.invariant.1 ∙ symmetric-more (bases dna) i under pair)
+pub loop-last-preserved : goal.loop-last-preserved
+loop-last-preserved c =
+    let step = rw c.in-Some.is at c.next.ensures.steps in
+    let was = c.loop-last.invariant in
+    let pairs : complementary (base_of c.in-Some.last.now) (base_of c.in-Some.first.now) ≡ true =
+    ap₂ complementary (sym c.base.ensures) (sym c.base-in-loop-last.ensures) ∙ sym c.good_match.ensures ∙ c.if-not-good_match.false in
+    record {
+      letters = ((all-but-last _ _ (rw step.0 at was.letters.0)).0, (first-and-rest _ _ (rw step.1 at was.letters.1)).1);
+      one_length =
+          let back = ap length step.0 ∙ length-append _ (c.in-Some.last.now ∷ []) in
+          omega (arith, back, ap length step.1, was.one_length);
+      decides = rw (step.0, step.1) at was.decides ∙ symmetric-more _ _ c.in-Some.last.now c.in-Some.first.now pairs;
+    }
 
 pub returns : goal.returns
 returns c =
-    let dna = c.args.dna.now in
-    let all : c.loop-i.i ≡ length (bases dna) = rw (bases-length dna) (omega arith) in
-    sym (c.loop-i.invariant.1 ∙ symmetric-done (bases dna) c.loop-i.i all)
+    let back = iter_rest (rev_source (zip_first c.loop-last.last-iterator)) in
+    let front = iter_rest (zip_second c.loop-last.last-iterator) in
+    let was = c.loop-last.invariant in
+    let none : length back ≡ 0 =
+    elim (rw c.in-None.is at c.next.ensures.steps) [
+      | inl u ↦ u.1.0
+      | inr u ↦ was.one_length ∙ u.1.0
+    ] in
+    sym (was.decides ∙ symmetric-done back front none (sym was.one_length ∙ none))

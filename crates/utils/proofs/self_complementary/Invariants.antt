@@ -1,14 +1,20 @@
--- `utils::self_complementary` meets its contract: at place i what is left to compare decides. Assumes nothing.
+-- `utils::self_complementary` meets its contract: what is left to compare decides. Assumes nothing.
 use mathlib.Core.Path.{◌≡◌}
-use Prim.Native.Nat.{◌≤◌, ◌-◌}
+use mathlib.Core.Bool.{false}
 use lib.ListN.{length}
-use Rattle.utils.specs.Bases.{bases}
-use Rattle.utils.specs.Terms.{self_complementary}
-use Rattle.utils.proofs.Terms.{symmetric_from}
+use Rattle.std.specs.Iterator.Adapters.{zip_first, zip_second, rev_source}
+use Rattle.std.specs.Slice.Iter.{iter_rest}
+use Rattle.lists.specs.Find.{any}
+use Rattle.utils.specs.Bases.{not_a_base, bases}
+use Rattle.utils.specs.Terms.{self_complementary, reverse_complement, same_bases}
 use Rattle.utils.proofs.self_complementary.Given as goal
 
-abbrev pub invariant-loop-i : goal.invariant-loop-i
-invariant-loop-i l = (l.i ≤ length l.dna) × (self_complementary (bases l.dna) ≡ symmetric_from (bases l.dna) l.i)
-
-abbrev pub decreases-loop-i : goal.decreases-loop-i
-decreases-loop-i l = length l.dna - l.i
+abbrev pub invariant-loop-last : goal.invariant-loop-last
+invariant-loop-last l =
+    let back = iter_rest (rev_source (zip_first l.last-iterator)) in
+    let front = iter_rest (zip_second l.last-iterator) in
+    record {
+      letters : (any not_a_base back ≡ false) × (any not_a_base front ≡ false);
+      one_length : length back ≡ length front;
+      decides : self_complementary (bases l.dna) ≡ same_bases (reverse_complement (bases back)) (bases front);
+    }

@@ -1,58 +1,49 @@
 -- `utils::sequence_pair_dg_ds` meets its contract: first the strands' checks, then the loop's, then the sums. Assumes nothing.
-use mathlib.Core.Path.{◌≡◌, sym, ap, ◌∙◌}
-use mathlib.Core.Bool.{true, false}
-use mathlib.Core.List.{[], ◌∷◌}
-use Rattle.reply.specs.First.{first_of, ◌if◌}
+use mathlib.Core.Path.{◌≡◌, ap, ap₂, ◌∙◌}
+use mathlib.Core.List.{List, [], ◌∷◌}
+use Prim.Native.Nat.{ℕ}
+use Rattle.std.specs.Prelude.{None, Result, Ok, Err}
+use Rattle.reply.specs.First.{first_of, ◌if◌, refuses}
+use Rattle.reply.specs.declared.Refusal.{Refusal}
 use Rattle.reply.specs.declared.Refusal.TheVariants.{NoSuchLoop}
-use Rattle.reply.specs.declared.Place.TheVariants.{Nowhere}
-use Rattle.reply.specs.declared.Reply.TheVariants.{Admitted, Refused}
 use Rattle.reply.proofs.First.{reply-append}
-use Rattle.utils.specs.Answers.{DgDsFigures, given_dg_ds}
-use Rattle.utils.specs.Pair.{Sums, strand_checks, lacks_loop, pair_checks, sequence_pair_dg_ds}
+use Rattle.units.proofs.Bare.{same-error, admits, answers-first}
+use Rattle.utils.specs.Answers.{dg_ds_figures, refused_dg_ds, given_dg_ds}
+use Rattle.utils.specs.Pair.{strand_checks, lacks_loop, pair_checks, sequence_pair_dg_ds}
+use Rattle.utils.specs.inner.Code.{PairSummed}
+use Rattle.utils.specs.declared.DgDs.{DgDs}
 use Rattle.utils.proofs.Strands.{one-length, short-enough, both-bases}
 use Rattle.utils.proofs.sequence_pair_dg_ds.Goals as goal
 
-figures_of : Sums → DgDsFigures
-figures_of s = given_dg_ds s.dg s.ds
+-- what the sums say where the strands are admitted
+summed : (a b : List ℕ) (r : Result DgDs Refusal) → first_of (strand_checks a b) ≡ Ok tt → PairSummed a b r → dg_ds_figures r ≡ sequence_pair_dg_ds a b
+unfolding sequence_pair_dg_ds
+summed a b (Ok t) admitted h =
+    let reply : first_of (pair_checks a b) ≡ Ok tt = reply-append (strand_checks a b) (NoSuchLoop if lacks_loop a b ∷ []) admitted ∙ simp h.0 in
+    rw reply (ap₂ given_dg_ds h.1 h.2)
+summed a b (Err e) admitted h =
+    let reply : first_of (pair_checks a b) ≡ refuses NoSuchLoop None = reply-append (strand_checks a b) (NoSuchLoop if lacks_loop a b ∷ []) admitted ∙ simp h.0 in
+    rw (reply, h.1)
 
-pub pair_sums-sums-requires : goal.pair_sums-sums-requires
-pair_sums-sums-requires c =
-    let args = c.args in
-    let reply = sym c.strands_reply.ensures ∙ c.in-Admitted.is in
-    let a = args.a.now in
-    let b = args.b.now in
+pub pair_sums-requires : goal.pair_sums-requires
+pair_sums-requires c =
+    let a = c.args.a.now in
+    let b = c.args.b.now in
+    let reply : first_of (strand_checks a b) ≡ Ok tt = admits _ c.strands_reply.ensures c.in_ok-strands_reply.was in
     record {
       a_len = (one-length a b reply, short-enough a b reply);
       a_value = both-bases a b reply;
     }
 
-pub returns-then-sums : goal.returns-then-sums
+pub returns-in_err-strands_reply : goal.returns-in_err-strands_reply
 unfolding sequence_pair_dg_ds
-returns-then-sums c =
-    let args = c.args in
-    let a = args.a.now in
-    let b = args.b.now in
-    let admitted = sym c.strands_reply.ensures ∙ c.in-Admitted.is in
-    let missing : lacks_loop a b ≡ true = sym c.pair_sums-sums.ensures.1 ∙ c.if-sums.true in
-    let reply : first_of (pair_checks a b) ≡ Refused NoSuchLoop Nowhere = reply-append (strand_checks a b) (NoSuchLoop if lacks_loop a b ∷ []) admitted ∙ simp missing in
-    rw reply
+returns-in_err-strands_reply c =
+    let a = c.args.a.now in
+    let b = c.args.b.now in
+    ap dg_ds_figures (same-error _ c.from_residual.ensures) ∙ answers-first (strand_checks a b) (NoSuchLoop if lacks_loop a b ∷ []) refused_dg_ds _ c.strands_reply.ensures c.in_err-strands_reply.was
 
-pub returns-in-Refused : goal.returns-in-Refused
-unfolding sequence_pair_dg_ds
-returns-in-Refused c =
-    let args = c.args in
-    let refused = sym c.strands_reply.ensures ∙ c.in-Refused.is in
-    let a = args.a.now in
-    let b = args.b.now in
-    rw (reply-append (strand_checks a b) (NoSuchLoop if lacks_loop a b ∷ []) refused)
-
-pub returns-else-sums : goal.returns-else-sums
-unfolding sequence_pair_dg_ds figures_of
-returns-else-sums c =
-    let args = c.args in
-    let a = args.a.now in
-    let b = args.b.now in
-    let admitted = sym c.strands_reply.ensures ∙ c.in-Admitted.is in
-    let missing : lacks_loop a b ≡ false = sym c.pair_sums-sums.ensures.1 ∙ c.if-sums.false in
-    let reply : first_of (pair_checks a b) ≡ Admitted = reply-append (strand_checks a b) (NoSuchLoop if lacks_loop a b ∷ []) admitted ∙ simp missing in
-    rw reply (ap figures_of c.pair_sums-sums.ensures.0)
+pub returns : goal.returns
+returns c =
+    let a = c.args.a.now in
+    let b = c.args.b.now in
+    summed a b c.pair_sums.result (admits _ c.strands_reply.ensures c.in_ok-strands_reply.was) c.pair_sums.ensures

@@ -1,51 +1,73 @@
-use mathlib.Core.Path.{refl, sym, ap, ◌∙◌}
-use Prim.Native.Nat.{◌<◌, ◌-◌}
+use mathlib.Core.Path.{◌≡◌, refl, sym, ap, ◌∙◌}
+use Prim.Native.Nat.{ℕ, ◌≤◌}
 use native.Mathlib.Omega.{arith}
 use lib.Ieee.{binary64, add, of_bits}
 use lib.ListN.{length, get_or}
-use borrow.Author.Rules.{rules}
-use Rattle.utils.specs.Bases.{base_of}
+use Rattle.std.specs.Slice.Iter.{windows_rest, windows_size}
+use Rattle.utils.specs.Bases.{base_of, index_of}
 use Rattle.doubles.specs.Decimal.{nearest}
 use Rattle.utils.specs.Paper.{stack_of, find, table1}
 use Rattle.utils.specs.Figures.{stack_dg, stack_ds, entropy_of}
 use Rattle.utils.specs.Single.{stack_sum}
-use Rattle.utils.proofs.Letters.{base-here}
-use Rattle.utils.proofs.Neighbours.{sum_at, carry-on, sum_done}
+use Rattle.utils.proofs.Letters.{base-here, later-bases}
+use Rattle.utils.proofs.Neighbours.{sum_rest, first-two, carry-on, sum-done}
 use Rattle.utils.proofs.single_sequence_dg_ds.Goals as goal
+use Rattle.utils.proofs.single_sequence_dg_ds.Goals.{In-Some}
 
-pub loop-i-init : goal.loop-i-init
-unfolding stack_sum sum_at of_bits
-loop-i-init c = (omega arith, refl, refl)
+-- the pair is the first two of the places left
+here : (c : In-Some)
+    → (2 ≤ length (windows_rest c.loop-pair.pair-iterator))
+    × (get_or c.in-Some.pair.now 0 0 ≡ get_or (windows_rest c.loop-pair.pair-iterator) 0 0)
+    × (get_or c.in-Some.pair.now 1 0 ≡ get_or (windows_rest c.loop-pair.pair-iterator) 1 0)
+here c =
+    let step = rw c.in-Some.is at c.next.ensures.steps in
+    first-two (windows_rest c.loop-pair.pair-iterator) c.in-Some.pair.now (windows_size c.loop-pair.pair-iterator) c.loop-pair.invariant.two step.1.0 step.1.1
 
-pub base_index-requires : goal.base_index-requires
-base_index-requires c =
-    base-here c.args.dna.now (c.loop-i.i - 1) c.requires (omega arith)
+pub loop-pair-init : goal.loop-pair-init
+unfolding stack_sum sum_rest of_bits
+loop-pair-init c =
+    let begun = c.into_iter-pair-iterator.ensures.into_iter_gives in
+    let rest : windows_rest c.into_iter-pair-iterator.result ≡ c.args.dna.now = ap windows_rest begun ∙ c.windows-pair-items.ensures.rest in
+    record {
+      two = ap windows_size begun ∙ c.windows-pair-items.ensures.size;
+      letters = rw rest c.requires;
+      energy = rw rest refl;
+      entropy = rw rest refl;
+    }
 
-pub base_index-requires-in-loop-i : goal.base_index-requires-in-loop-i
-base_index-requires-in-loop-i c =
-    base-here c.args.dna.now c.loop-i.i c.requires (omega arith)
+pub base_index-first-requires : goal.base_index-first-requires
+base_index-first-requires c =
+    let two = here (goal.at.base_index-first-requires c).In-Some in
+    rw two.1 (base-here (windows_rest c.loop-pair.pair-iterator) 0 c.loop-pair.invariant.letters (omega (arith, two.0)))
 
-pub dg_ds-stack-requires : goal.dg_ds-stack-requires
+pub base_index-second-requires : goal.base_index-second-requires
+base_index-second-requires c =
+    let two = here (goal.at.base_index-second-requires c).In-Some in
+    rw two.2 (base-here (windows_rest c.loop-pair.pair-iterator) 1 c.loop-pair.invariant.letters (omega (arith, two.0)))
+
+pub invariant_of-stacks : goal.invariant_of-stacks
 unfolding stack_dg stack_ds entropy_of stack_of find table1 nearest of_bits
-dg_ds-stack-requires c = record {
-  energies_value = (refl, refl);
-  i_bound = search rules;
-}
+invariant_of-stacks c = record { figures = (refl, refl) }
 
-pub loop-i-preserved : goal.loop-i-preserved
-loop-i-preserved c =
-    let dna = c.args.dna.now in
-    let i = c.loop-i.i in
-    let h : i < length dna = c.loop-i-test.true in
-    let first = c.base_index.ensures in
-    let second = c.base_index-in-loop-i.ensures in
-    let stack = c.dg_ds-stack.ensures (base_of (get_or dna (i - 1) 0)) (base_of (get_or dna i 0)) first.0 second.0 in
-    let dg = c.add-dg.ensures ∙ ap (add binary64 _) stack.0 in
-    let ds = c.add-ds.ensures ∙ ap (add binary64 _) stack.1 in
-    (omega arith, carry-on stack_dg c.loop-i.dg.0 dna i (omega arith) h c.loop-i.invariant.1 dg, carry-on stack_ds c.loop-i.ds.0 dna i (omega arith) h c.loop-i.invariant.2 ds)
+pub loop-pair-preserved : goal.loop-pair-preserved
+loop-pair-preserved c =
+    let step = rw c.in-Some.is at c.next.ensures.steps in
+    let two = here (goal.at.loop-pair-preserved c).In-Some in
+    let rest = windows_rest c.loop-pair.pair-iterator in
+    let was = c.loop-pair.invariant in
+    let first = c.base_index-first.ensures.0 ∙ ap (λ (x : ℕ). index_of (base_of x)) two.1 in
+    let second = c.base_index-second.ensures.0 ∙ ap (λ (x : ℕ). index_of (base_of x)) two.2 in
+    let stack = c.at.ensures (base_of (get_or rest 0 0)) (base_of (get_or rest 1 0)) first second in
+    record {
+      two = step.0 ∙ was.two;
+      letters = rw step.1.2 (later-bases rest was.letters);
+      energy = rw step.1.2 (carry-on stack_dg c.loop-pair.sums.dg.0 rest two.0 was.energy (c.add-sums.ensures.0 ∙ ap (add binary64 _) stack.0));
+      entropy = rw step.1.2 (carry-on stack_ds c.loop-pair.sums.ds.0 rest two.0 was.entropy (c.add-sums.ensures.1 ∙ ap (add binary64 _) stack.1));
+    }
 
 pub returns : goal.returns
 returns c =
-    let dna = c.args.dna.now in
-    let i = c.loop-i.i in
-    (sym (c.loop-i.invariant.1 ∙ sum_done stack_dg c.loop-i.dg.0 dna i (omega arith)), sym (c.loop-i.invariant.2 ∙ sum_done stack_ds c.loop-i.ds.0 dna i (omega arith)))
+    let step = rw c.in-None.is at c.next.ensures.steps in
+    let rest = windows_rest c.loop-pair.pair-iterator in
+    let was = c.loop-pair.invariant in
+    (sym (was.energy ∙ sum-done stack_dg c.loop-pair.sums.dg.0 rest (omega (arith, step.1, was.two))), sym (was.entropy ∙ sum-done stack_ds c.loop-pair.sums.ds.0 rest (omega (arith, step.1, was.two))))

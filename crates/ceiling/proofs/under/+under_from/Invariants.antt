@@ -1,7 +1,7 @@
 -- The search position by position meets its contract. The measure is how many positions are left; the invariant: none of the options passed begins a state under the ceiling, and nothing is written. Assumes nothing.
 use mathlib.Core.Path.{◌≡◌}
-use Prim.Native.Nat.{◌-◌, ◌≤◌}
-use lib.ListN.{length, get_or}
+use Prim.Native.Nat.{◌-◌}
+use lib.ListN.{length}
 use Rattle.model.specs.Model.{Model}
 use Rattle.ensemble.specs.Layout.{OptionRows}
 use Rattle.prepared.specs.Layout.{StateCells}
@@ -12,12 +12,7 @@ use Rattle.ceiling.proofs.under.+under_from.Given as goal
 abbrev pub decreases-under_from : goal.decreases-under_from
 decreases-under_from l = length l.counts.now - l.position
 
-abbrev pub invariant-loop-k : goal.invariant-loop-k
-invariant-loop-k l =
-    (l.k ≤ get_or l.counts l.position 0)
-    × (length l.entries ≡ length l.initial.entries)
-    × ((m : Model) → OptionRows m l.rows l.counts → StateCells m (length l.potentials) l.strand_bonds l.scaffold_bonds l.potentials → l.limit.rt ≡ m.rt → Beside m l.position l.begun.strand
-    → (l.entries ≡ l.initial.entries) × (rest_from m l.limit.ceiling l.position l.begun.strand l.begun.sum 0 ≡ rest_from m l.limit.ceiling l.position l.begun.strand l.begun.sum l.k))
-
-abbrev pub decreases-loop-k : goal.decreases-loop-k
-decreases-loop-k l = get_or l.counts l.position 0 - l.k
+abbrev pub invariant-loop-strand : goal.invariant-loop-strand
+invariant-loop-strand l =
+    (m : Model) → OptionRows m l.rows l.counts → StateCells m (length l.potentials) l.strand_bonds l.scaffold_bonds l.potentials → l.limit.rt ≡ m.rt → Beside m l.position l.begun.strand
+    → (l.entries ≡ l.initial.entries) × (rest_from m l.limit.ceiling l.position l.begun.strand l.begun.sum 0 ≡ rest_from m l.limit.ceiling l.position l.begun.strand l.begun.sum l.strand-index)

@@ -1,11 +1,8 @@
-use mathlib.Core.Path.{◌≡◌, refl}
+use mathlib.Core.Path.{◌≡◌}
 use Prim.Native.Nat.{suc, ◌<◌, ◌+◌, ◌-◌}
 use native.Mathlib.Omega.{arith}
 use Rattle.decimals.proofs.Written.{places-more, places-one, tenth-lt, not_last}
 use Rattle.decimals.proofs.digits.count_places.Goals as goal
-
-pub loop-left-init : goal.loop-left-init
-loop-left-init c = (omega arith, omega arith, omega arith, refl)
 
 pub loop-left-preserved : goal.loop-left-preserved
 loop-left-preserved c =

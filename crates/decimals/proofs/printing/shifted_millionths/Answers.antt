@@ -6,14 +6,8 @@ use lib.ListN.{length}
 use borrow.Author.Rules.{rules}
 use Rattle.decimals.specs.Limbs.{value_of, Proper}
 use Rattle.decimals.proofs.Powers.{once-below}
-use Rattle.decimals.proofs.Sizes.{million-room, below-unit, unit-room, unit-same}
+use Rattle.decimals.proofs.Sizes.{below-unit, unit-room, unit-same}
 use Rattle.decimals.proofs.printing.shifted_millionths.Goals as goal
-
-pub times-requires : goal.times-requires
-times-requires c =
-    let num = c.limbs_of-num in
-    let e : length num.result ≡ 47 = search rules in
-    rw (e, num.ensures) (million-room c.args.significand c.requires.0)
 
 pub times_power-requires : goal.times_power-requires
 times_power-requires c =

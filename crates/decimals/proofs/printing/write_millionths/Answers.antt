@@ -1,11 +1,10 @@
 -- `decimals::printing::write_millionths` meets its contract. Assumes nothing.
-use mathlib.Core.Path.{◌≡◌, ◌∙◌}
-use Prim.Native.Nat.{◌+◌}
-use native.Mathlib.Omega.{arith}
-use lib.ListN.{length, length-set}
-use lib.Seq.{sets}
+use Rattle.std.proofs.Common.{◌≡◌, ◌∙◌, ℕ, ◌+◌, ◌-◌, ◌/◌, ◌%◌, ap, arith, rules, ◌++◌, length, take, drop, set, replicate}
+use borrow.Rule.Slice.PartMut.{put_mid}
+use Rattle.std.proofs.lemmas.List.{length-drop, length-append, length-set, length-take-le}
+use Rattle.decimals.specs.Digits.{digits_in}
 use Rattle.decimals.specs.Print.{fixed}
-use Rattle.decimals.proofs.Fixed.{fixed-length, fixed-stored}
+use Rattle.decimals.proofs.Fixed.{fixed-length, fixed-parts, part-kept, part-length}
 use Rattle.decimals.proofs.Room.{no_room, room}
 use Rattle.decimals.proofs.printing.write_millionths.Goals as goal
 
@@ -16,19 +15,6 @@ returns-then-out-point c =
     let whole = c.count_places-whole in
     no_room (fixed a.negative a.n) a.out.now (signs.result + whole.result + 7) (fixed-length a.negative a.n signs.result whole.result signs.ensures.0 whole.ensures.0) c.if-out-point.true
 
-pub put_digits-requires-2 : goal.put_digits-requires-2
-put_digits-requires-2 c =
-    let out : length c.put_digits.new.out ≡ length c.args.out.now =
-    c.put_digits.auto.out ∙ c.put_signs.auto.out in
-    (omega arith, omega arith, simp length-set (omega arith))
-
-pub shape_of-out : goal.shape_of-out
-shape_of-out c =
-    c.put_digits-2.auto.out
-    ∙ length-set c.put_digits.new.out (c.minus_signs-signs.result + c.count_places-whole.result) 46
-    ∙ c.put_digits.auto.out
-    ∙ c.put_signs.auto.out
-
 pub returns : goal.returns
 returns c =
     let a = c.args in
@@ -36,8 +22,17 @@ returns c =
     let whole = c.count_places-whole in
     let size = fixed-length a.negative a.n signs.result whole.result signs.ensures.0 whole.ensures.0 in
     let fits = room (fixed a.negative a.n) a.out.now (signs.result + whole.result + 7) size (omega arith) in
-    let all : c.put_digits-2.new.out ≡ sets a.out.now 0 (fixed a.negative a.n) =
-    c.put_digits-2.ensures
-    ∙ rw (c.put_digits.ensures, c.put_signs.ensures)
-    (fixed-stored a.negative a.n signs.result whole.result signs.ensures.0 whole.ensures.0 a.out.now) in
-    (fits.0, all ∙ fits.1)
+    let part : length (take signs.result a.out.now) ≡ signs.result = length-take-le signs.result a.out.now (omega arith) in
+    let one = c.fill.new.self ++ drop signs.result a.out.now in
+    let same : length one ≡ length a.out.now = simp (length-append, length-drop) (omega arith) in
+    let place = part-length signs.result (signs.result + whole.result - signs.result) one (omega arith) in
+    let two = put_mid signs.result (signs.result + whole.result - signs.result) one c.put_digits.new.out in
+    let three = set two (signs.result + whole.result) 46 in
+    let kept : length three ≡ length a.out.now = length-set two (signs.result + whole.result) 46 ∙ part-kept signs.result _ one c.put_digits.new.out (c.put_digits.auto.out ∙ place) (omega arith) ∙ same in
+    let parts =
+    fixed-parts a.negative a.n signs.result whole.result signs.ensures.0 whole.ensures.0 a.out.now c.fill.new.self c.put_digits.new.out c.put_digits-2.new.out
+    (omega arith)
+    (c.fill.ensures.after (λ y e. search rules) ∙ ap (λ (k : ℕ). replicate k 45) part)
+    (rw c.put_digits.ensures (ap (λ (k : ℕ). digits_in 10 k (a.n / 1000000)) (place ∙ omega arith)))
+    (rw c.put_digits-2.ensures (ap (λ (k : ℕ). digits_in 10 k (a.n % 1000000)) (part-length (signs.result + whole.result + 1) _ three (omega arith) ∙ omega arith))) in
+    (fits.0, parts ∙ fits.1)

@@ -1,95 +1,81 @@
 use mathlib.Core.Path.{◌≡◌, sym, ap, ◌∙◌}
-use mathlib.Core.Bool.{Bool, and-false}
+use mathlib.Core.Logic.{◌⊎◌, inl, inr}
+use mathlib.Core.Bool.{Bool, true, false, and-false}
+use Prim.Native.Nat.{ℕ, ◌<◌, ◌≤◌}
 use native.Mathlib.Omega.{arith}
 use lib.ListN.{get_or}
 use borrow.Author.Tests.{le-leb, lt-leb, eq-eqb, ne_eqb}
-use Rattle.reply.specs.declared.Place.TheVariants.{At}
+use Rattle.std.specs.Prelude.{Some}
+use Rattle.std.proofs.lemmas.List.{nil_from_length}
 use Rattle.deck.specs.Word.{kind_of, payload_of}
 use Rattle.deck.specs.Form.{Form, may_follow}
 use Rattle.deck.specs.Forms.{form_of}
+use Rattle.deck.specs.Deck.{is_first}
+use Rattle.deck.specs.inner.Fault.{fault_of}
+use Rattle.deck.specs.declared.word.Word.{Word}
 use Rattle.deck.specs.declared.form.Stretch.{Stretch}
-use Rattle.deck.proofs.Walk.{walk-on, walk-stops, walk_ends, fault-none, fault-first, fault-rest}
+use Rattle.deck.proofs.Walk.{fits, walk-on, walk-stops, walk_ends, fault-none, fault-first, fault-walk}
 use Rattle.deck.proofs.reading.fault.Goals as goal
 
-pub returns-then-words-eq0 : goal.returns-then-words-eq0
-returns-then-words-eq0 c =
-    let a = c.args in
-    let form = form_of a.form in
-    let words = a.words.now in
-    sym (fault-none form words c.if-words-eq0.true)
+pub returns-in_default : goal.returns-in_default
+returns-in_default c = sym (ap (fault_of (form_of c.args.form)) (nil_from_length c.args.words.now c.in_default.ensures.cases) ∙ fault-none (form_of c.args.form))
+
+not-first : (word : Word) (first : ℕ) → word.kind ≡ kind_of first → word.payload ≡ payload_of first → (word.kind ≡ 1 → ⊥) ⊎ ((word.kind ≡ 1) × (128 < word.payload)) → is_first first ≡ false
+not-first word first k p (inl n) = rw (ne_eqb (kind_of first) 1 (λ e. n (k ∙ e)))
+not-first word first k p (inr h) = rw (sym k ∙ h.0, lt-leb (payload_of first) 128 (rw p at h.1))
 
 pub returns-then-first-ne-FIRST : goal.returns-then-first-ne-FIRST
 returns-then-first-ne-FIRST c =
-    let a = c.args in
-    let form = form_of a.form in
-    let words = a.words.now in
+    let s = c.in-Some in
     let e = c.of-first.ensures in
-    sym (fault-first form words (omega arith) (rw (ne_eqb (kind_of (get_or words 0 0)) 1 (λ k. c.if-first-ne-FIRST.true (e.0 ∙ k)))))
-
-pub returns-then-left-gt-POSITIONS : goal.returns-then-left-gt-POSITIONS
-returns-then-left-gt-POSITIONS c =
-    let a = c.args in
-    let form = form_of a.form in
-    let words = a.words.now in
-    let e = c.of-first.ensures in
-    sym (fault-first form words (omega arith) (rw (sym e.0 ∙ c.if-first-ne-FIRST.false, lt-leb (payload_of (get_or words 0 0)) 128 (omega arith))))
+    sym (ap (fault_of (form_of c.args.form)) s.ensures.cases.0 ∙ fault-first (form_of c.args.form) s.first.now s.rest.now (not-first c.of-first.result s.first.now e.0 e.1 c.then-first-ne-FIRST.either))
 
 pub loop-i-init : goal.loop-i-init
 loop-i-init c =
-    let a = c.args in
-    let form = form_of a.form in
-    let words = a.words.now in
+    let s = c.in-Some in
     let e = c.of-first.ensures in
-    (omega arith, rw (c.nothing-before.ensures, e.1) (fault-rest form words (omega arith) (rw (sym e.0 ∙ c.if-first-ne-FIRST.false, le-leb (payload_of (get_or words 0 0)) 128 (omega arith)))))
+    rw (c.nothing-before.ensures, e.1) (ap (fault_of (form_of c.args.form)) s.ensures.cases.0
+    ∙ fault-walk (form_of c.args.form) s.first.now s.rest.now (rw (sym e.0 ∙ c.if-first-ne-FIRST.false, le-leb (payload_of s.first.now) 128 (rw e.1 at c.if-left-gt-POSITIONS.false))))
 
--- whether the word's stretch may follow is what the call said
-follows : (form : Form) (before here there : Stretch) (said : Bool) → here ≡ there → said ≡ may_follow form before here → may_follow form before there ≡ said
-follows form before here there said e m = sym (m ∙ ap (may_follow form before) e)
+-- the word's stretch, and what was said of it
+module _ (form : Form) (before s here : Stretch) (left : ℕ) (said : Bool) (e : s ≡ here) (m : said ≡ may_follow form before s) where
+  follows : may_follow form before here ≡ said
+  follows = sym (m ∙ ap (may_follow form before) e)
+
+  run : here.run ≡ s.run
+  run = ap (λ (x : Stretch). x.run) (sym e)
+
+  stops : (said ≡ false) ⊎ ((said ≡ true) × (left < s.run)) → fits form before left here ≡ false
+  stops (inl n) = rw (follows ∙ n)
+  stops (inr h) = rw (lt-leb here.run left (rw run h.1)) (and-false (may_follow form before here))
+
+  goes : said ≡ true → s.run ≤ left → fits form before left here ≡ true
+  goes t h = rw (follows ∙ t, le-leb here.run left (rw run h))
 
 pub returns-then-not-may_follow : goal.returns-then-not-may_follow
 returns-then-not-may_follow c =
-    let a = c.args in
-    let form = form_of a.form in
-    let words = a.words.now in
+    let form = form_of c.args.form in
+    let rest = c.in-Some.rest.now in
     let l = c.loop-i in
-    sym (l.invariant.1 ∙ walk-stops form words l.i l.before l.left c.loop-i-test.true
-    (rw (follows form l.before c.of-here.result (form.stretch_of (get_or words l.i 0)) c.may_follow.result c.of-here.ensures c.may_follow.ensures ∙ c.if-not-may_follow.true)))
-
-pub returns-then-left-here : goal.returns-then-left-here
-returns-then-left-here c =
-    let a = c.args in
-    let form = form_of a.form in
-    let words = a.words.now in
-    let l = c.loop-i in
-    let run : c.of-here.result.run ≡ (form.stretch_of (get_or words l.i 0)).run = ap (λ (s : Stretch). s.run) c.of-here.ensures in
-    sym (l.invariant.1 ∙ walk-stops form words l.i l.before l.left c.loop-i-test.true
-    (rw (lt-leb (form.stretch_of (get_or words l.i 0)).run l.left (omega arith)) (and-false (may_follow form l.before (form.stretch_of (get_or words l.i 0))))))
+    sym (l.invariant ∙ walk-stops form rest l.i l.before l.left c.loop-i-test.true
+    (stops form l.before c.of-here.result (form.stretch_of (get_or rest l.i 0)) l.left c.may_follow.result c.of-here.ensures c.may_follow.ensures c.then-not-may_follow.either))
 
 pub loop-i-preserved : goal.loop-i-preserved
 loop-i-preserved c =
-    let a = c.args in
-    let form = form_of a.form in
-    let words = a.words.now in
+    let form = form_of c.args.form in
+    let rest = c.in-Some.rest.now in
     let l = c.loop-i in
-    let e = c.of-here.ensures in
-    let run : c.of-here.result.run ≡ (form.stretch_of (get_or words l.i 0)).run = ap (λ (s : Stretch). s.run) e in (
-      omega arith,
-      rw e (l.invariant.1 ∙ walk-on form words l.i l.before l.left c.loop-i-test.true
-          (rw (follows form l.before c.of-here.result (form.stretch_of (get_or words l.i 0)) c.may_follow.result c.of-here.ensures c.may_follow.ensures ∙ c.if-not-may_follow.false, le-leb (form.stretch_of (get_or words l.i 0)).run l.left (omega arith)))),
-    )
+    rw c.of-here.ensures (l.invariant ∙ walk-on form rest l.i l.before l.left c.loop-i-test.true
+    (goes form l.before c.of-here.result (form.stretch_of (get_or rest l.i 0)) l.left c.may_follow.result c.of-here.ensures c.may_follow.ensures c.if-not-may_follow.false c.if-left-here.false))
 
 pub returns-then-left-eq0 : goal.returns-then-left-eq0
 returns-then-left-eq0 c =
-    let a = c.args in
-    let form = form_of a.form in
-    let words = a.words.now in
     let l = c.loop-i in
-    sym (l.invariant.1 ∙ walk_ends form words l.i l.before l.left c.loop-i-test.false ∙ rw (eq-eqb 0 l.left (omega arith)))
+    sym (l.invariant ∙ walk_ends (form_of c.args.form) c.in-Some.rest.now l.i l.before l.left c.loop-i-test.false ∙ rw (eq-eqb 0 l.left (omega arith)))
 
 pub returns-else-left-eq0 : goal.returns-else-left-eq0
 returns-else-left-eq0 c =
-    let a = c.args in
-    let form = form_of a.form in
-    let words = a.words.now in
     let l = c.loop-i in
-    sym (l.invariant.1 ∙ walk_ends form words l.i l.before l.left c.loop-i-test.false ∙ rw (ne_eqb 0 l.left (λ e. omega arith)) (ap At (omega arith)))
+    let n = c.in-Some.ensures.cases.1 in
+    sym (l.invariant ∙ walk_ends (form_of c.args.form) c.in-Some.rest.now l.i l.before l.left c.loop-i-test.false
+    ∙ rw (ne_eqb 0 l.left (λ e. omega arith)) (ap Some (omega arith)))

@@ -1,16 +1,12 @@
 -- `deck::reading::fault` meets its contract. The loop's invariant: the fault is where going on from here finds it. Assumes nothing.
 use mathlib.Core.Path.{◌≡◌}
 use mathlib.Core.List.{map}
-use Prim.Native.Nat.{◌≤◌, ◌-◌}
-use lib.ListN.{length, drop}
+use Prim.Native.Nat.{◌+◌}
+use lib.ListN.{drop}
 use Rattle.deck.specs.Forms.{form_of}
 use Rattle.deck.specs.inner.Fault.{fault_of}
 use Rattle.deck.proofs.Walk.{walk}
 use Rattle.deck.proofs.reading.fault.Given as goal
 
 abbrev pub invariant-loop-i : goal.invariant-loop-i
-invariant-loop-i l =
-    (l.i ≤ length l.words) × (fault_of (form_of l.form) l.words ≡ walk (form_of l.form) l.i l.before l.left (map (form_of l.form).stretch_of (drop l.i l.words)))
-
-abbrev pub decreases-loop-i : goal.decreases-loop-i
-decreases-loop-i l = length l.words - l.i
+invariant-loop-i l = fault_of (form_of l.form) l.words ≡ walk (form_of l.form) (l.i + 1) l.before l.left (map (form_of l.form).stretch_of (drop l.i l.rest))

@@ -1,37 +1,70 @@
-use mathlib.Core.Path.{refl, ◌∙◌}
+use mathlib.Core.Path.{◌≡◌, refl, sym, ◌∙◌}
+use mathlib.Core.Bool.{true, false≢true}
+use mathlib.Core.List.{List, [], ◌∷◌, ◌++◌, append_assoc}
+use Prim.Native.Nat.{ℕ, ◌+◌, ◌-◌, ◌≤◌}
 use native.Mathlib.Omega.{arith}
+use borrow.Rule.Slice.PartMut.{put_mid}
+use lib.ListN.{length, replicate, drop, take, length-replicate, length-take, length-drop}
+use lib.Seq.{sets, sets-eq}
+use Rattle.std.proofs.lemmas.List.{drop-drop}
+use Rattle.deck.specs.Form.{Form}
 use Rattle.deck.specs.Forms.{form_of}
-use Rattle.deck.specs.Deck.{configuration_of}
+use Rattle.deck.specs.Deck.{is_deck, configuration_of}
 use Rattle.deck.proofs.Decks.{configuration-few}
 use Rattle.deck.proofs.Laying.{laid-past, laid-length, laid_more}
 use Rattle.deck.proofs.reading.unpack.Goals as goal
 
-pub loop-i-init : goal.loop-i-init
-unfolding configuration_of
-loop-i-init c = (refl, omega arith, refl)
+-- a valid deck has a first word
+has-first : (form : Form) (words : List ℕ) → is_deck form words ≡ true → 1 ≤ length words
+unfolding is_deck
+has-first form [] d = absurd (false≢true d)
+has-first form (first ∷ rest) d = omega arith
 
-pub lay-at-requires : goal.lay-at-requires
-lay-at-requires c =
-    let a = c.args in
-    let l = c.loop-i in
-    let n = laid-length (form_of a.form) a.words.now l.i c.loop-i-test.true c.of.result c.of.ensures in
-    let few = configuration-few (form_of a.form) a.words.now c.requires.0 in
+pub split_at-requires : goal.split_at-requires
+split_at-requires c = has-first (form_of c.args.form) c.args.words.now c.requires.0
+
+pub loop-word-init : goal.loop-word-init
+unfolding configuration_of
+loop-word-init c = rw c.split_at.ensures.back (omega arith, refl)
+
+pub overflow_add-end : goal.overflow_add-end
+overflow_add-end c =
+    let l = c.loop-word in
+    let s = c.of-stretch in
+    let n = laid-length (form_of c.args.form) c.split_at.result.1.now l.word-index c.loop-word-test.true s.result s.ensures in
+    let few = configuration-few (form_of c.args.form) c.args.words.now c.requires.0 in
     omega arith
 
-pub loop-i-preserved : goal.loop-i-preserved
-loop-i-preserved c =
-    let a = c.args in
-    let l = c.loop-i in
-    let h = c.loop-i-test.true in
-    let s = c.of in
-    let laid = c.lay-at.ensures in
-    let n = laid-length (form_of a.form) a.words.now l.i h s.result s.ensures in
-    (omega (arith, c.lay-at.auto.entries), omega arith, rw (laid.0, laid.1) (laid_more (form_of a.form) a.words.now l.i h s.result s.ensures l.entries l.at ∙ l.invariant.2))
+pub slice_bounds-fill-end : goal.slice_bounds-fill-end
+slice_bounds-fill-end c =
+    let l = c.loop-word in
+    let s = c.of-stretch in
+    let n = laid-length (form_of c.args.form) c.split_at.result.1.now l.word-index c.loop-word-test.true s.result s.ensures in
+    let few = configuration-few (form_of c.args.form) c.args.words.now c.requires.0 in
+    omega (arith, l.auto.entries)
+
+-- a part of the entries, filled
+filled : (entries written : List ℕ) (at k run x : ℕ) → k ≡ run → at + run ≤ length entries → written ≡ replicate (length (take k (drop at entries))) x
+    → put_mid at k entries written ≡ sets entries at (replicate run x)
+filled entries written at k run x n h w =
+    let len : length (take k (drop at entries)) ≡ run = rw (length-take, length-drop) (omega arith) in
+    let stored : sets entries at (replicate run x) ≡ take at entries ++ replicate run x ++ drop (at + run) entries = rw (sets-eq (replicate run x) entries at (rw (length-replicate run x) h), length-replicate run x) in
+    rw (w, len, drop-drop k at entries, n) (sym (stored ∙ append_assoc (take at entries) (replicate run x) (drop (at + run) entries)))
+
+pub loop-word-preserved : goal.loop-word-preserved
+loop-word-preserved c =
+    let form = form_of c.args.form in
+    let l = c.loop-word in
+    let s = c.of-stretch in
+    let rest = c.split_at.result.1.now in
+    let more = laid_more form rest l.word-index c.loop-word-test.true s.result s.ensures l.entries l.at in
+    let n = laid-length form rest l.word-index c.loop-word-test.true s.result s.ensures in
+    let few = configuration-few form c.args.words.now c.requires.0 in
+    let now = filled l.entries c.fill.new.self l.at (l.at + s.result.run - l.at) s.result.run s.result.occupant (omega arith) (omega (arith, l.auto.entries)) (c.fill.ensures.after (λ y e. e)) in
+    (omega arith, rw now (more ∙ l.invariant.1))
 
 pub returns : goal.returns
 returns c =
-    let a = c.args in
-    let l = c.loop-i in
-    let past = laid-past (form_of a.form) a.words.now l.i c.loop-i-test.false in
-    let inv = rw past at l.invariant in
-    (omega arith, inv.2)
+    let l = c.loop-word in
+    let inv = rw (laid-past (form_of c.args.form) c.split_at.result.1.now l.word-index c.loop-word-test.false) at l.invariant in
+    (omega arith, inv.1)

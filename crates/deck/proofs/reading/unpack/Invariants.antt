@@ -2,18 +2,15 @@
 -- Assumes nothing.
 use mathlib.Core.Path.{◌≡◌}
 use mathlib.Core.List.{map}
-use Prim.Native.Nat.{◌-◌, ◌+◌}
+use Prim.Native.Nat.{◌+◌}
 use lib.ListN.{length, drop}
 use lib.Seq.{sets}
 use Rattle.deck.specs.Forms.{form_of}
 use Rattle.deck.specs.Deck.{configuration_of, laid_out}
 use Rattle.deck.proofs.reading.unpack.Given as goal
 
-abbrev pub invariant-loop-i : goal.invariant-loop-i
-invariant-loop-i l =
-    let rest = laid_out (map (form_of l.form).stretch_of (drop l.i l.words)) in
-    (length l.entries ≡ length l.initial.entries) × (l.at + length rest ≡ length (configuration_of (form_of l.form) l.words))
-    × (sets l.entries l.at rest ≡ sets l.initial.entries 0 (configuration_of (form_of l.form) l.words))
-
-abbrev pub decreases-loop-i : goal.decreases-loop-i
-decreases-loop-i l = length l.words - l.i
+abbrev pub invariant-loop-word : goal.invariant-loop-word
+invariant-loop-word l =
+    let left = laid_out (map (form_of l.form).stretch_of (drop l.word-index l.rest)) in
+    (l.at + length left ≡ length (configuration_of (form_of l.form) l.words))
+    × (sets l.entries l.at left ≡ sets l.initial.entries 0 (configuration_of (form_of l.form) l.words))

@@ -1,7 +1,6 @@
--- The range test of the cells meets its contract. The invariant, for each table: some cell is out if one was counted or one is left. Assumes nothing.
+-- The invariant, for each table: some cell is out if one was counted or one is left. Assumes nothing.
 use mathlib.Core.List.{List}
-use Prim.Native.Nat.{ℕ, ◌≤◌, ◌-◌}
-use lib.ListN.{length}
+use Prim.Native.Nat.{ℕ, ◌≤◌}
 use lib.Ieee.{Float}
 use Rattle.lists.proofs.Any.{CountedOrLeft}
 use Rattle.design.specs.Checks.{beyond}
@@ -12,7 +11,4 @@ abbrev pub Counted : ℕ → List Float → ℕ → ℕ → Type 0
 Counted most cells i count = (count ≤ i) × CountedOrLeft (beyond most) cells i count
 
 abbrev pub invariant-loop-i : goal.invariant-loop-i
-invariant-loop-i l = (l.i ≤ length l.dg) × Counted 1024 l.dg l.i l.dg_out × Counted 8 l.ds l.i l.ds_out
-
-abbrev pub decreases-loop-i : goal.decreases-loop-i
-decreases-loop-i l = length l.dg - l.i
+invariant-loop-i l = Counted 1024 l.dg l.i l.dg_out × Counted 8 l.ds l.i l.ds_out

@@ -1,52 +1,18 @@
-use mathlib.Core.Path.{◌≡◌, refl, sym, ap, ◌∙◌}
-use mathlib.Core.Bool.{Bool, true, false, not, ◌&&◌}
+use mathlib.Core.Path.{◌≡◌, refl, sym, ◌∙◌}
 use native.Mathlib.Omega.{arith}
-use lib.Ieee.{neg, of_bits}
-use Rattle.doubles.specs.Decimal.{nearest}
-use Rattle.lists.proofs.Build.{first-here, first-later, first_past}
-use Rattle.design.specs.Checks.{beyond, somewhere, unfit}
+use Rattle.std.proofs.Common.{rules, tests}
+use Rattle.std.specs.Option.{option_map}
+use Rattle.std.specs.List.{find, range_with_len}
+use Rattle.std.proofs.lemmas.Iterator.{YieldsList-from_range}
+use Rattle.std.proofs.lemmas.Iterator.Search.{find_from_yields_List}
+use Rattle.design.specs.Checks.{unfit}
+use Rattle.design.proofs.Searches.{option_itself, up_to_is}
 use Rattle.design.proofs.checks.first_unfit.Goals as goal
-
--- a strand that is somewhere a friend is unfit exactly if its potential is out of range, and any other is not
-looked-at : (s b t : Bool) → s ≡ true → b ≡ t → (s && b) ≡ t
-looked-at s b t e f = rw (e, f)
-
-passed_over : (s b : Bool) → s ≡ false → (s && b) ≡ false
-passed_over s b e = rw e
-
-fitting : (s b : Bool) → b ≡ false → (s && b) ≡ false
-fitting true b e = e
-fitting false b e = refl
-
-pub returns-then-is_friend_somewhere : goal.returns-then-is_friend_somewhere
-unfolding nearest neg of_bits
-returns-then-is_friend_somewhere c =
-    let a = c.args in
-    let t = unfit a.scaffold.now a.marks.now a.glues.now a.dg.now a.ds.now a.potentials.now in
-    let range = c.in_range.ensures in
-    let out = ap (beyond 1024) (sym c.potential_of-potential.ensures) ∙ ap not (sym range ∙ c.if-not-in_range.true) in
-    let here = looked-at _ _ true (sym c.is_friend_somewhere.ensures ∙ c.if-is_friend_somewhere.true) out in
-    omega (arith, first-here t a.strands c.loop-strand.strand c.loop-strand-test.true here, c.loop-strand.invariant.1)
-
-pub loop-strand-preserved : goal.loop-strand-preserved
-unfolding nearest neg of_bits
-loop-strand-preserved c =
-    let a = c.args in
-    let t = unfit a.scaffold.now a.marks.now a.glues.now a.dg.now a.ds.now a.potentials.now in
-    let out-is = ap (beyond 1024) (sym c.potential_of-potential.ensures) ∙ ap not (sym c.in_range.ensures) in
-    elim c.if-not-in_range.branch [
-      | goal.then-not-in_range+else-is_friend_somewhere w ↦ (
-        omega arith,
-        omega (arith, first-later t a.strands c.loop-strand.strand c.loop-strand-test.true (passed_over _ _ (sym w.is_friend_somewhere.ensures ∙ w.if-is_friend_somewhere.false)), c.loop-strand.invariant.1),
-      )
-      | goal.else-not-in_range w ↦ (
-        omega arith,
-        omega (arith, first-later t a.strands c.loop-strand.strand c.loop-strand-test.true (fitting (somewhere a.scaffold.now a.marks.now a.glues.now a.dg.now a.ds.now c.loop-strand.strand) _ (out-is ∙ ap not w.if-not-in_range.false)), c.loop-strand.invariant.1),
-      )
-    ]
 
 pub returns : goal.returns
 returns c =
-    let a = c.args in
-    let t = unfit a.scaffold.now a.marks.now a.glues.now a.dg.now a.ds.now a.potentials.now in
-    omega (arith, first_past t a.strands c.loop-strand.strand c.loop-strand-test.false, c.loop-strand.invariant.1)
+    let d = c.args.design.now in
+    let test = unfit d.scaffold d.marks d.glues d.dg d.ds d.potentials in
+    let n = c.strands.result in
+    let found : option_map (λ x. x) c.find.result ≡ find test (range_with_len 0 n) = find_from_yields_List test _ _ c.find.result c.find.ensures.ran (YieldsList-from_range 0 n n refl (omega arith)) (λ x b q k. search (rules, tests)) in
+    rw (sym c.strands.ensures, up_to_is n) (sym (option_itself c.find.result) ∙ found)

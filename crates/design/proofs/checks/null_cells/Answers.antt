@@ -1,28 +1,14 @@
-use mathlib.Core.Path.{sym, ◌∙◌}
-use native.Mathlib.Omega.{arith}
-use Rattle.lists.proofs.Build.{any_here, any-later, any-past}
+use mathlib.Core.Path.{◌≡◌, refl, sym, ◌∙◌}
+use Rattle.std.proofs.Common.{rules, tests}
+use Rattle.std.specs.List.{list_any, range_with_len}
+use Rattle.std.proofs.lemmas.Iterator.{YieldsList-from_range}
+use Rattle.std.proofs.lemmas.Iterator.Search.{any_from_yields_List}
 use Rattle.design.specs.Checks.{null_cells}
+use Rattle.design.proofs.Searches.{any_up_to_is}
 use Rattle.design.proofs.checks.null_cells.Goals as goal
-
-pub returns-then-binds : goal.returns-then-binds
-returns-then-binds c =
-    let a = c.args in
-    let t = null_cells a.dg.now a.ds.now in
-    sym (c.loop-glue.invariant.1 ∙ any_here t 64 c.loop-glue.glue (omega arith) (simp (← c.binds.ensures, c.if-binds.true)))
-
-pub returns-then-binds-2 : goal.returns-then-binds-2
-returns-then-binds-2 c =
-    let a = c.args in
-    let t = null_cells a.dg.now a.ds.now in
-    sym (c.loop-glue.invariant.1 ∙ any_here t 64 c.loop-glue.glue (omega arith) (simp (← c.binds.ensures, c.if-binds.false, ← c.binds-in-loop-glue.ensures, c.if-binds-2.true)))
-
-pub loop-glue-preserved : goal.loop-glue-preserved
-loop-glue-preserved c =
-    let a = c.args in
-    let t = null_cells a.dg.now a.ds.now in
-    (omega arith, c.loop-glue.invariant.1 ∙ any-later t 64 c.loop-glue.glue (omega arith) (simp (← c.binds.ensures, c.if-binds.false, ← c.binds-in-loop-glue.ensures, c.if-binds-2.false)))
 
 pub returns : goal.returns
 returns c =
-    let a = c.args in
-    sym (c.loop-glue.invariant.1 ∙ any-past (null_cells a.dg.now a.ds.now) 64 c.loop-glue.glue (omega arith))
+    let test = null_cells c.args.design.now.dg c.args.design.now.ds in
+    let found : c.any.result ≡ list_any test (range_with_len 0 64) = any_from_yields_List test _ _ c.any.result c.any.ensures.ran (YieldsList-from_range 0 64 64 refl refl) (λ x b q k. search (rules, tests)) in
+    found ∙ sym (any_up_to_is test 64)

@@ -1,22 +1,26 @@
--- The checks of the numbers meet their contract: the ambient's reply, and else that of the potentials. Assumes nothing.
-use mathlib.Core.Path.{◌≡◌, ap₂, ◌∙◌}
-use mathlib.Core.Bool.{Bool}
-use mathlib.Core.List.{[], ◌∷◌}
-use Prim.Native.Nat.{ℕ}
-use Rattle.lists.proofs.Any.{found_below}
-use Rattle.reply.specs.First.{first_of, ◌if◌at◌, ◌or_else◌}
-use Rattle.reply.specs.declared.Refusal.TheVariants.{AmbientOut, PotentialOut}
-use Rattle.reply.proofs.First.{joined}
-use Rattle.design.specs.Design.{Design, lent, strands}
+-- The ambient lets the call pass, and of the potentials the first that is out is told. Assumes nothing.
+use mathlib.Core.Path.{◌≡◌, refl, sym, ap}
+use mathlib.Core.Bool.{false}
+use Rattle.design.specs.Design.{Design, strands}
 use Rattle.design.specs.Checks.{ambient_out, bad_ambient, unfit, potentials_out, bad_potential}
+use Rattle.std.specs.Prelude.{Some}
+use Rattle.reply.specs.declared.Refusal.TheVariants.{AmbientOut}
+use Rattle.design.proofs.Searches.{found_up_to, none_up_to}
+use Rattle.design.proofs.Replies.{told-false}
 use Rattle.design.proofs.checks.numbers_reply.Goals as goal
 
-pub returns : goal.returns
+pub returns-in-Some : goal.returns-in-Some
 unfolding potentials_out bad_potential
-returns c =
-    let a = c.args in
-    let d : Design = lent a.scaffold a.marks a.glues a.dg a.ds a.potentials a.ambient in
-    let out = found_below (unfit d.scaffold d.marks d.glues d.dg d.ds d.potentials) (strands d) c.first_unfit-strand.ensures in
-    let potentials : c.refused_at.result ≡ first_of (PotentialOut if potentials_out d at bad_potential d ∷ []) = c.refused_at.ensures ∙ ap₂ (λ (b : Bool) (k : ℕ). first_of (PotentialOut if b at k ∷ [])) out c.first_unfit-strand.ensures in
-    c.or.ensures ∙ ap₂ ◌or_else◌ c.ambient_reply.ensures potentials
-    ∙ joined (AmbientOut if ambient_out d.ambient at bad_ambient d.ambient ∷ []) (PotentialOut if potentials_out d at bad_potential d ∷ [])
+returns-in-Some c =
+    let d = c.args.design.now in
+    let ambient : ambient_out d.ambient ≡ false = rw (sym (ap (λ (d : Design). d.ambient) c.design.view_is)) (told-false (ambient_out c.design.inside.ambient) AmbientOut (Some (bad_ambient c.design.inside.ambient)) c.in_ok-ambient_reply.ensures) in
+    let at = found_up_to (unfit d.scaffold d.marks d.glues d.dg d.ds d.potentials) (strands d) (sym c.in-Some.ensures) in
+    rw (ambient, at.0, at.1, c.from.ensures) refl
+
+pub returns-in-None : goal.returns-in-None
+unfolding potentials_out bad_potential
+returns-in-None c =
+    let d = c.args.design.now in
+    let ambient : ambient_out d.ambient ≡ false = rw (sym (ap (λ (d : Design). d.ambient) c.design.view_is)) (told-false (ambient_out c.design.inside.ambient) AmbientOut (Some (bad_ambient c.design.inside.ambient)) c.in_ok-ambient_reply.ensures) in
+    let none = none_up_to (unfit d.scaffold d.marks d.glues d.dg d.ds d.potentials) (strands d) (sym c.in-None.ensures) in
+    rw (ambient, none) refl

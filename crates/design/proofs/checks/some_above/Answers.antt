@@ -1,22 +1,18 @@
-use mathlib.Core.Path.{refl}
 use native.Mathlib.Omega.{arith}
 use lib.Dec.{ltb}
 use borrow.Author.Tests.{lt-ltb, le-ltb}
 use Rattle.lists.proofs.Any.{here, later, past}
 use Rattle.design.proofs.checks.some_above.Goals as goal
+use Rattle.design.proofs.checks.some_above.Goals.{then-most-number, else-most-number}
 
-pub loop-i-init : goal.loop-i-init
-loop-i-init c = (omega arith, omega arith, refl)
-
-pub loop-i-preserved : goal.loop-i-preserved
-loop-i-preserved c =
+pub loop-number-preserved : goal.loop-number-preserved
+loop-number-preserved c =
     let a = c.args in
-    let inside = c.loop-i-test.true in (
-      omega arith,
-      elim c.if-most-numbers.branch [ goal.then-most-numbers w ↦ omega (arith, c.loop-i.invariant.1, w.above-is) | goal.else-most-numbers w ↦ omega (arith, c.loop-i.invariant.1, w.above-is) ],
-      elim c.if-most-numbers.branch [ goal.then-most-numbers w ↦ rw w.above-is (here (ltb a.most) a.numbers.now c.loop-i.i c.loop-i.above 0 inside (lt-ltb _ _ w.if-most-numbers.true) c.loop-i.invariant.2) | goal.else-most-numbers w ↦ rw w.above-is (later (ltb a.most) a.numbers.now c.loop-i.i c.loop-i.above 0 inside (le-ltb _ _ w.if-most-numbers.false) c.loop-i.invariant.2) ],
-    )
+    let l = c.loop-number in
+    elim c.if-most-number.branch [
+      | then-most-number w ↦ rw w.above-is (omega arith, here (ltb a.most) a.numbers.now l.number-index l.above 0 (omega arith) (lt-ltb _ _ w.if-most-number.true) l.invariant.1)
+      | else-most-number w ↦ rw w.above-is (omega arith, later (ltb a.most) a.numbers.now l.number-index l.above 0 (omega arith) (le-ltb _ _ w.if-most-number.false) l.invariant.1)
+    ]
 
 pub returns : goal.returns
-returns c =
-    past (ltb c.args.most) c.args.numbers.now c.loop-i.i c.loop-i.above (omega arith) c.loop-i.invariant.2
+returns c = past (ltb c.args.most) c.args.numbers.now c.loop-number.number-index c.loop-number.above (omega arith) c.loop-number.invariant.1

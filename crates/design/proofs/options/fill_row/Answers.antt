@@ -1,36 +1,29 @@
--- The filling of a row of options meets its contract. Assumes nothing.
-use mathlib.Core.Path.{refl}
+-- A blocked position has no friends, and an open one those that were written. Assumes nothing.
+use mathlib.Core.Path.{◌≡◌, refl, sym, ◌∙◌}
+use mathlib.Core.Bool.{true, false}
 use mathlib.Core.List.{[]}
 use native.Mathlib.Omega.{arith}
-use Rattle.design.specs.Design.{friends_to}
+use Rattle.design.specs.Design.{strands, blocked, scaffold_glue, friends_to}
 use Rattle.design.proofs.Optioned.{friends-few, optioned}
 use Rattle.design.proofs.options.fill_row.Goals as goal
 
--- a blocked position has no friends
-pub returns-then-blocked : goal.returns-then-blocked
-returns-then-blocked c = rw c.if-blocked.true (optioned [] c.args.row.now 0 c.requires.row_len refl (omega arith))
+pub returns-then-is_blocked : goal.returns-then-is_blocked
+returns-then-is_blocked c =
+    let closed : blocked c.args.design.now c.args.position ≡ true = sym c.is_blocked.ensures ∙ c.if-is_blocked.true in
+    rw closed (optioned [] c.args.row.now 0 c.requires.row_len refl (omega arith))
 
 pub bounds-row-count : goal.bounds-row-count
 bounds-row-count c =
-    let a = c.args in
-    let few = friends-few a.scaffold_glue a.glues.now a.dg.now a.ds.now a.strands c.requires.strands_nonzero c.requires.ds_value in
-    omega (arith, few, c.write_friends-count.ensures.value)
-
-pub overflow_add-result : goal.overflow_add-result
-overflow_add-result c =
-    let a = c.args in
-    let few = friends-few a.scaffold_glue a.glues.now a.dg.now a.ds.now a.strands c.requires.strands_nonzero c.requires.ds_value in
-    omega (arith, few, c.write_friends-count.ensures.value)
-
-pub overflow_cast-result : goal.overflow_cast-result
-overflow_cast-result c =
-    let a = c.args in
-    let few = friends-few a.scaffold_glue a.glues.now a.dg.now a.ds.now a.strands c.requires.strands_nonzero c.requires.ds_value in
-    omega (arith, few, c.write_friends-count.ensures.value)
+    let d = c.args.design.now in
+    let few = friends-few (scaffold_glue d c.args.position) d.glues d.dg d.ds (strands d) c.requires.strands_nonzero c.requires.null_apart in
+    let count = rw c.scaffold_glue.ensures at c.write_friends-count.ensures.value in
+    omega arith
 
 pub returns : goal.returns
 returns c =
-    let a = c.args in
-    let few = friends-few a.scaffold_glue a.glues.now a.dg.now a.ds.now a.strands c.requires.strands_nonzero c.requires.ds_value in
-    let friends = friends_to a.scaffold_glue a.glues.now a.dg.now a.ds.now a.strands in
-    rw (c.if-blocked.false, c.write_friends-count.ensures.entries_after) (optioned friends a.row.now c.write_friends-count.result c.requires.row_len c.write_friends-count.ensures.value (omega (arith, few, c.write_friends-count.ensures.value)))
+    let d = c.args.design.now in
+    let free : blocked d c.args.position ≡ false = sym c.is_blocked.ensures ∙ c.if-is_blocked.false in
+    let few = friends-few (scaffold_glue d c.args.position) d.glues d.dg d.ds (strands d) c.requires.strands_nonzero c.requires.null_apart in
+    let count = rw c.scaffold_glue.ensures at c.write_friends-count.ensures.value in
+    let entries = rw c.scaffold_glue.ensures at c.write_friends-count.ensures.entries_after in
+    rw (free, entries) (optioned (friends_to (scaffold_glue d c.args.position) d.glues d.dg d.ds (strands d)) c.args.row.now c.write_friends-count.result c.requires.row_len count (omega arith))

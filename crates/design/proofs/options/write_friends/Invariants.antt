@@ -1,17 +1,13 @@
--- The writing of the friends meets its contract. The invariant: those among the strands passed stand in front, and the rest is as it was.
--- Assumes nothing.
-use Prim.Native.Nat.{◌≤◌, ◌-◌}
+-- The invariant: the friends among the strands passed stand in front, and the rest is as it was. Assumes nothing.
+use Prim.Native.Nat.{◌≤◌}
 use lib.ListN.{drop}
 use Rattle.lists.specs.Build.{up_to, keep}
 use Rattle.lists.proofs.Front.{Front}
-use Rattle.design.specs.Design.{befriends, friends_to}
+use Rattle.design.specs.Design.{befriends, friends_to, strands}
 use Rattle.design.proofs.options.write_friends.Given as goal
 
 abbrev pub invariant-loop-strand : goal.invariant-loop-strand
 invariant-loop-strand l =
-    (l.strand ≤ l.strands)
-    × (l.count ≤ l.strand)
-    × Front l.initial.entries (friends_to l.scaffold_glue l.glues l.dg l.ds l.strands) (keep (befriends l.scaffold_glue l.glues l.dg l.ds) (drop l.strand (up_to l.strands))) l.count l.entries
-
-abbrev pub decreases-loop-strand : goal.decreases-loop-strand
-decreases-loop-strand l = l.strands - l.strand
+    let d = l.design in
+    (l.count ≤ l.strand)
+    × Front l.fn.entries (friends_to l.scaffold_glue d.glues d.dg d.ds (strands d)) (keep (befriends l.scaffold_glue d.glues d.dg d.ds) (drop l.strand (up_to (strands d)))) l.count l.entries

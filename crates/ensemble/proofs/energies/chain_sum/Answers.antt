@@ -1,6 +1,5 @@
 use mathlib.Core.Path.{refl, sym, ap, ◌∙◌}
 use Prim.Native.Nat.{◌+◌}
-use native.Mathlib.Omega.{arith}
 use lib.ListN.{drop}
 use lib.Ieee.{Float, of_bits}
 use Rattle.doubles.specs.Sum.{sum_from}
@@ -10,17 +9,14 @@ use Rattle.ensemble.proofs.energies.chain_sum.Goals as goal
 
 pub loop-position-init : goal.loop-position-init
 unfolding of_bits chain_energy
-loop-position-init c = (omega arith, λ m t. refl)
+loop-position-init c = λ m t. refl
 
 pub loop-position-preserved : goal.loop-position-preserved
-loop-position-preserved c =
+loop-position-preserved c = λ m t.
     let l = c.loop-position in
-    let s = c.args.configuration.now in (
-      omega arith,
-      λ m t.
-          let rest : Float → Float = λ sum. sum_from sum (chain_terms m (l.position + 1) (left_of s (l.position + 1)) (drop (l.position + 1) s)) in
-          l.invariant.1 m t ∙ chain_more m s l.sum l.position c.loop-position-test.true ∙ ap rest (sym (c.chain_place-sum.ensures m t)),
-    )
+    let s = c.args.configuration.now in
+    let rest : Float → Float = λ sum. sum_from sum (chain_terms m (l.position + 1) (left_of s (l.position + 1)) (drop (l.position + 1) s)) in
+    l.invariant m t ∙ chain_more m s l.sum l.position c.loop-position-test.true ∙ ap rest (sym (c.add_chain_place-sum.ensures m t))
 
 pub returns : goal.returns
-returns c = λ m t. sym (c.loop-position.invariant.1 m t ∙ chain-done m c.args.configuration.now c.loop-position.sum c.loop-position.position c.loop-position-test.false)
+returns c = λ m t. sym (c.loop-position.invariant m t ∙ chain-done m c.args.configuration.now c.loop-position.sum c.loop-position.position c.loop-position-test.false)

@@ -1,7 +1,6 @@
 -- The chain sum meets its contract. The invariant: the terms of the places left, added to the sum, give the whole. Assumes nothing.
 use mathlib.Core.Path.{◌≡◌}
-use Prim.Native.Nat.{◌≤◌, ◌-◌}
-use lib.ListN.{length, drop}
+use lib.ListN.{drop}
 use Rattle.doubles.specs.Sum.{sum_from}
 use Rattle.model.specs.Model.{Model}
 use Rattle.model.specs.Energy.{left_of, chain_terms, chain_energy}
@@ -10,7 +9,4 @@ use Rattle.ensemble.proofs.energies.chain_sum.Given as goal
 
 abbrev pub invariant-loop-position : goal.invariant-loop-position
 invariant-loop-position l =
-    (l.position ≤ length l.configuration) × ((m : Model) → PlaceTerms m l.configuration l.sites l.pairs l.logs → chain_energy m l.configuration ≡ sum_from l.sum (chain_terms m l.position (left_of l.configuration l.position) (drop l.position l.configuration)))
-
-abbrev pub decreases-loop-position : goal.decreases-loop-position
-decreases-loop-position l = length l.configuration - l.position
+    (m : Model) → PlaceTerms m l.configuration l.sites l.pairs l.logs → chain_energy m l.configuration ≡ sum_from l.sum (chain_terms m l.position (left_of l.configuration l.position) (drop l.position l.configuration))

@@ -1,7 +1,6 @@
 -- The state sum meets its contract. The invariant: the terms of the places left, added to the sum, give the whole. Assumes nothing.
 use mathlib.Core.Path.{◌≡◌}
-use Prim.Native.Nat.{◌≤◌, ◌-◌}
-use lib.ListN.{length, drop}
+use lib.ListN.{drop}
 use Rattle.doubles.specs.Decimal.{zero}
 use Rattle.doubles.specs.Sum.{sum_from}
 use Rattle.model.specs.Model.{Model}
@@ -11,7 +10,4 @@ use Rattle.ensemble.proofs.energies.state_sum.Given as goal
 
 abbrev pub invariant-loop-id : goal.invariant-loop-id
 invariant-loop-id l =
-    (l.id ≤ length l.configuration) × ((m : Model) → PlaceTerms m l.configuration l.sites l.pairs l.logs → sum_from zero (state_terms m 0 l.configuration) ≡ sum_from l.sumg (state_terms m l.id (drop l.id l.configuration)))
-
-abbrev pub decreases-loop-id : goal.decreases-loop-id
-decreases-loop-id l = length l.configuration - l.id
+    (m : Model) → PlaceTerms m l.configuration l.sites l.pairs l.logs → sum_from zero (state_terms m 0 l.configuration) ≡ sum_from l.sum (state_terms m l.id (drop l.id l.configuration))

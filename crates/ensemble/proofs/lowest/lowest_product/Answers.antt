@@ -1,46 +1,7 @@
-use mathlib.Core.Path.{sym, ap, ◌∙◌}
-use Prim.Native.Nat.{◌<◌}
-use native.Mathlib.Omega.{arith}
-use lib.ListN.{length}
-use lib.Ieee.{of_bits}
+-- The choice at the last position meets its contract. Assumes nothing.
+use Rattle.std.proofs.Common.{rules}
 use Rattle.doubles.specs.Least.{or_earlier}
-use Rattle.ensemble.proofs.Choosing.{kept-first, kept_more, kept-chosen, none-chosen, earlier-stays, earlier-moves}
 use Rattle.ensemble.proofs.lowest.lowest_product.Goals as goal
 
-pub returns-then-last-eq0 : goal.returns-then-last-eq0
-unfolding of_bits
-returns-then-last-eq0 c = record {
-  by_index = λ key keys. none-chosen (or_earlier key) key _ c.if-last-eq0.true;
-  strand_bound = omega arith;
-}
-
-pub loop-k-init : goal.loop-k-init
-loop-k-init c =
-    let some : 0 < length c.args.last.now = omega arith in (
-      omega arith,
-      omega arith,
-      c.requires.known 0 some,
-      λ key keys. kept-first (or_earlier key) key c.args.last.now some (keys 0 (omega arith)),
-    )
-
-pub loop-k-preserved : goal.loop-k-preserved
-loop-k-preserved c =
-    let l = c.loop-k in
-    let inside : l.k < length c.args.last.now = c.loop-k-test.true in (
-      omega arith,
-      omega arith,
-      elim c.if-product-energy.branch [ goal.then-product-energy u ↦ rw u.strand-is (c.requires.known l.k inside) | goal.else-product-energy u ↦ rw u.strand-is l.invariant.2 ],
-      λ key keys.
-          let w = l.invariant.3 key keys in
-          let new = keys l.k inside in
-          elim c.if-product-energy.branch [
-            | goal.then-product-energy u ↦ kept_more w inside (u.strand-is ∙ earlier-moves key w.energy-is new u.if-product-energy.true) (u.energy-is ∙ new ∙ ap key (sym u.strand-is))
-            | goal.else-product-energy u ↦ kept_more w inside (u.strand-is ∙ earlier-stays key w.energy-is new u.if-product-energy.false) (u.energy-is ∙ w.energy-is ∙ ap key (sym u.strand-is))
-          ],
-    )
-
-pub returns : goal.returns
-returns c = record {
-  by_index = λ key keys. kept-chosen (c.loop-k.invariant.3 key keys) c.loop-k-test.false (omega arith);
-  strand_bound = c.loop-k.invariant.2;
-}
+pub returns-clause-chosen : goal.returns-clause-chosen
+returns-clause-chosen c = λ key keys. c.least.ensures.chosen key (or_earlier key) (λ k r h p. search (rules, keys)) (λ kept next r p. search rules)

@@ -1,14 +1,13 @@
 -- The count of the states meets its contract. The invariant: what is counted, times the product that is left, is the count, up to the limit.
 -- Assumes nothing.
 use mathlib.Core.Path.{◌≡◌}
-use Prim.Native.Nat.{◌≤◌, ◌*◌, ◌-◌, min}
-use lib.ListN.{length, drop}
+use Prim.Native.Nat.{◌≤◌, ◌*◌, min}
+use lib.ListN.{drop}
 use Rattle.lists.specs.Build.{product}
 use Rattle.ensemble.proofs.states.state_count.Given as goal
 
-abbrev pub invariant-loop-position : goal.invariant-loop-position
-invariant-loop-position l =
-    (l.position ≤ length l.counts) × (l.states ≤ 1048577) × (min (product l.counts) 1048577 ≡ min (l.states * product (drop l.position l.counts)) 1048577)
-
-abbrev pub decreases-loop-position : goal.decreases-loop-position
-decreases-loop-position l = length l.counts - l.position
+abbrev pub invariant-loop-count : goal.invariant-loop-count
+invariant-loop-count l = record {
+  held : l.states ≤ 1048577;
+  counted : min (product l.counts) 1048577 ≡ min (l.states * product (drop l.count-index l.counts)) 1048577;
+}

@@ -1,12 +1,6 @@
--- The left choices of many friends meet their contract. The invariant: the first k friends have theirs. Assumes nothing.
-use Prim.Native.Nat.{◌≤◌, ◌-◌}
-use lib.ListN.{length}
+-- The left choices of many friends meet their contract. The invariant: the friends passed have theirs. Assumes nothing.
 use Rattle.ensemble.specs.inner.Entries.{table_bond, Attachments}
 use Rattle.ensemble.proofs.sums.attach_all.Given as goal
 
-abbrev pub invariant-loop-k : goal.invariant-loop-k
-invariant-loop-k l =
-    (l.k ≤ length l.friends) × Attachments (table_bond l.strands l.strand_bonds) l.left l.energies l.friends l.k l.best l.choice
-
-abbrev pub decreases-loop-k : goal.decreases-loop-k
-decreases-loop-k l = length l.friends - l.k
+abbrev pub invariant-loop-friend : goal.invariant-loop-friend
+invariant-loop-friend l = Attachments (table_bond l.left.bonds.strands l.left.bonds.cells.now) l.left.options.now l.left.energies.now l.friends l.friend-index l.best l.choice

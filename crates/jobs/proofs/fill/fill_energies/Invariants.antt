@@ -4,13 +4,9 @@ use Rattle.ensemble.specs.Layout.{OptionRows}
 use Rattle.model.specs.Model.{Model}
 use Rattle.lists.proofs.Counted.{stored}
 use lib.ListN.{length, get_or}
-use Prim.Native.Nat.{◌-◌, ◌≤◌}
 use mathlib.Core.Path.{◌≡◌}
 use Rattle.jobs.proofs.fill.fill_energies.Given as goal
 
 abbrev pub invariant-loop-k : goal.invariant-loop-k
 invariant-loop-k l =
-    (l.k ≤ length l.jobs) × (length l.energies ≡ length l.initial.energies) × ((m : Model) → OptionRows m l.rows l.options → StateCells m (length l.potentials) l.strand_bonds l.scaffold_bonds l.potentials → l.settled.rt.0 ≡ m.rt → l.energies ≡ stored (λ i. energy_of_word m l.settled.least.0 (get_or l.jobs i 0)) l.k l.initial.energies)
-
-abbrev pub decreases-loop-k : goal.decreases-loop-k
-decreases-loop-k l = length l.jobs - l.k
+    (m : Model) → OptionRows m l.rows l.options → StateCells m (length l.potentials) l.strand_bonds l.scaffold_bonds l.potentials → l.settled.rt.0 ≡ m.rt → l.energies ≡ stored (λ i. energy_of_word m l.settled.least.0 (get_or l.jobs i 0)) l.k l.initial.energies

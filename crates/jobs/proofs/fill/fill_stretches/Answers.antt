@@ -10,7 +10,7 @@ use mathlib.Core.Path.{◌≡◌, ap, ◌∙◌}
 use Rattle.jobs.proofs.fill.fill_stretches.Goals as goal
 
 pub loop-k-init : goal.loop-k-init
-loop-k-init c = (omega arith, filled_none c.args.configuration.now c.args.jobs.now c.args.stretches.now)
+loop-k-init c = filled_none c.args.configuration.now c.args.jobs.now c.args.stretches.now
 
 pub overflow_mul-start : goal.overflow_mul-start
 overflow_mul-start c =
@@ -19,7 +19,7 @@ overflow_mul-start c =
     let here : c.loop-k.k < length a.jobs.now = c.loop-k-test.true in
     let room = row-end (length a.configuration.now) here in
     let most = mul-le-mul p.jobs_len_bound p.configuration_len_bound in
-    let sized = c.loop-k.invariant.1.sized in
+    let sized = c.loop-k.invariant.sized in
     let size = p.stretches_len in
     omega arith
 
@@ -30,7 +30,7 @@ overflow_add-end c =
     let here : c.loop-k.k < length a.jobs.now = c.loop-k-test.true in
     let room = row-end (length a.configuration.now) here in
     let most = mul-le-mul p.jobs_len_bound p.configuration_len_bound in
-    let sized = c.loop-k.invariant.1.sized in
+    let sized = c.loop-k.invariant.sized in
     let size = p.stretches_len in
     omega arith
 
@@ -44,7 +44,7 @@ slice_bounds-fill_stretch-end c =
     let here : c.loop-k.k < length a.jobs.now = c.loop-k-test.true in
     let room = row-end (length a.configuration.now) here in
     let most = mul-le-mul p.jobs_len_bound p.configuration_len_bound in
-    let sized = c.loop-k.invariant.1.sized in
+    let sized = c.loop-k.invariant.sized in
     let size = p.stretches_len in
     omega arith
 
@@ -55,7 +55,7 @@ fill_stretch-requires c =
     let here : c.loop-k.k < length a.jobs.now = c.loop-k-test.true in
     let room = row-end (length a.configuration.now) here in
     let most = mul-le-mul p.jobs_len_bound p.configuration_len_bound in
-    let sized = c.loop-k.invariant.1.sized in
+    let sized = c.loop-k.invariant.sized in
     let size = p.stretches_len in
     simp (length-take, length-drop) (omega arith)
 
@@ -66,7 +66,7 @@ loop-k-preserved c =
     let here : c.loop-k.k < length a.jobs.now = c.loop-k-test.true in
     let room = row-end (length a.configuration.now) here in
     let most = mul-le-mul p.jobs_len_bound p.configuration_len_bound in
-    let sized = c.loop-k.invariant.1.sized in
+    let sized = c.loop-k.invariant.sized in
     let size = p.stretches_len in
     let n = length a.configuration.now in
     let at = c.loop-k.k * n in
@@ -77,12 +77,9 @@ loop-k-preserved c =
     let kept : length last ≡ length (take (at + n - at) (drop at st)) = c.fill_stretch.auto.stretch in
     let is : last ≡ stretch_in a.configuration.now c.read.result (take (at + n - at) (drop at st)) = c.fill_stretch.ensures in
     let filled : last ≡ stretch_in a.configuration.now c.read.result (take n (drop at st)) = is ∙ ap (λ (w : ℕ). stretch_in a.configuration.now c.read.result (take w (drop at st))) width in
-    (omega arith, rw width (filled_more a.configuration.now a.jobs.now a.stretches.now c.loop-k.k c.loop-k.invariant.1 here size (kept ∙ lent) (filled ∙ ap (λ (j : Job). stretch_in a.configuration.now j (take n (drop at st))) c.read.ensures)))
-
-pub shape_of-stretches : goal.shape_of-stretches
-shape_of-stretches c = c.loop-k.invariant.1.sized
+    rw width (filled_more a.configuration.now a.jobs.now a.stretches.now c.loop-k.k c.loop-k.invariant here size (kept ∙ lent) (filled ∙ ap (λ (j : Job). stretch_in a.configuration.now j (take n (drop at st))) c.read.ensures))
 
 pub returns : goal.returns
 returns c =
     let all : c.loop-k.k ≡ length c.args.jobs.now = omega arith in
-    filled-done c.args.configuration.now c.args.jobs.now c.args.stretches.now c.loop-k.k c.loop-k.invariant.1 all c.requires.stretches_len
+    filled-done c.args.configuration.now c.args.jobs.now c.args.stretches.now c.loop-k.k c.loop-k.invariant all c.requires.stretches_len

@@ -3,9 +3,9 @@ use Rattle.ensemble.proofs.Options.{product_is}
 use Rattle.model.specs.Energy.{state_energy}
 use Rattle.model.specs.States.{count}
 use lib.Seq.{take_at}
-use lib.ListN.{length, drop, replicate, length-take, length-append}
+use lib.ListN.{length, drop, replicate, length-take}
 use native.Mathlib.Omega.{arith}
-use Prim.Native.Nat.{ℕ, ◌-◌, ◌<◌}
+use Prim.Native.Nat.{ℕ, ◌<◌}
 use mathlib.Core.Path.{◌≡◌, ap, ◌∙◌}
 use Rattle.jobs.proofs.settle.energy_at.Goals as goal
 
@@ -18,18 +18,8 @@ write_state-requires c =
       readable = p.searchable.readable;
       states_value = p.states_value;
       rank_lt_states = p.rank_lt_states;
-      entries_len = omega (arith, length-take (length a.options.now - 0) (replicate {A = ℕ} 128 0));
+      entries_len = omega (arith, length-take (length a.options.now) (replicate {A = ℕ} 128 0));
     }
-
-pub slice_bounds-state_energy-end : goal.slice_bounds-state_energy-end
-slice_bounds-state_energy-end c =
-    let a = c.args in
-    let p = c.requires in
-    let short = p.searchable.short in
-    let n = length a.options.now in
-    let written = c.write_state.new.entries in
-    let number : length written ≡ n = c.write_state.auto.entries ∙ (omega (arith, length-take (n - 0) (replicate {A = ℕ} 128 0))) in
-    simp length-append (omega arith)
 
 pub state_energy-energy-requires : goal.state_energy-energy-requires
 state_energy-energy-requires c =
@@ -38,9 +28,8 @@ state_energy-energy-requires c =
     let short = p.searchable.short in
     let n = length a.options.now in
     let written = c.write_state.new.entries in
-    let number : length written ≡ n = c.write_state.auto.entries ∙ (omega (arith, length-take (n - 0) (replicate {A = ℕ} 128 0))) in
-    let full : length written ≡ n - 0 = omega (arith, number) in
-    let again = take_at written (drop (n - 0) (replicate {A = ℕ} 128 0)) (n - 0) full in
+    let number : length written ≡ n = c.write_state.auto.entries ∙ (omega (arith, length-take n (replicate {A = ℕ} 128 0))) in
+    let again = take_at written (drop n (replicate {A = ℕ} 128 0)) n number in
     let m = p.option_rows.0 in
     let o = p.option_rows.1 in
     let below : a.rank < count m = omega (arith, p.states_value, p.rank_lt_states, product_is o) in
@@ -63,9 +52,8 @@ returns c =
     let short = p.searchable.short in
     let n = length a.options.now in
     let written = c.write_state.new.entries in
-    let number : length written ≡ n = c.write_state.auto.entries ∙ (omega (arith, length-take (n - 0) (replicate {A = ℕ} 128 0))) in
-    let full : length written ≡ n - 0 = omega (arith, number) in
-    let again = take_at written (drop (n - 0) (replicate {A = ℕ} 128 0)) (n - 0) full in
+    let number : length written ≡ n = c.write_state.auto.entries ∙ (omega (arith, length-take n (replicate {A = ℕ} 128 0))) in
+    let again = take_at written (drop n (replicate {A = ℕ} 128 0)) n number in
     let below : a.rank < count m = omega (arith, p.states_value, p.rank_lt_states, product_is o) in
     let is = again ∙ c.write_state.ensures m o in
     c.state_energy-energy.ensures m w (rw is (ranked-state m a.rank below)) e ∙ ap (state_energy m) is

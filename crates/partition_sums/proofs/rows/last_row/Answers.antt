@@ -1,60 +1,48 @@
-use mathlib.Core.Path.{◌≡◌, refl, sym, ◌∙◌, subst}
-use mathlib.Core.Bool.{false}
-use Prim.Native.Nat.{ℕ, zero-le}
+-- The filling of the last position's row meets its contract. Assumes nothing.
+use mathlib.Core.Path.{ap, ◌∙◌, subst}
+use mathlib.Core.List.{List}
+use Prim.Native.Nat.{ℕ, ◌-◌}
 use native.Mathlib.Omega.{arith}
-use lib.ListN.{length}
-use Rattle.partition_sums.specs.inner.Rows.{factor_of, Written}
-use Rattle.partition_sums.proofs.Rowed.{written_none, written-more}
+use lib.ListN.{length, get_or}
+use Rattle.partition_sums.specs.inner.Lending.{Lending}
+use Rattle.partition_sums.specs.inner.Rows.{Row}
+use Rattle.partition_sums.proofs.Positions.{here, passed_at, item-in, known_of, place-weighs, last-passed}
+use Rattle.partition_sums.proofs.Rowed.{written-more, written-all}
 use Rattle.partition_sums.proofs.rows.last_row.Goals as goal
 
-pub loop-k-init : goal.loop-k-init
-loop-k-init c =
-    let a = c.args in
+pub place_factor-requires-clause-weighs : goal.place_factor-requires-clause-weighs
+place_factor-requires-clause-weighs c =
     let r = c.requires in
-    (zero-le, written_none (factor_of a.place_digits.now a.place_powers.now false) a.here.now a.out_digits.now a.out_powers.now r.out_digits_len.0 r.out_digits_len.1)
+    let v = c.options-x-items.ensures in
+    let last = ap (λ (z : Lending). length z.counts - 1) c.lent.view_is in
+    place-weighs c.args.lent.now r.counts_nonzero v.sound r.in_use (length c.lent.inside.counts.now - 1) (get_or c.options-x-items.result.now c.loop-x.x-index 0) (omega (arith, r.counts_nonzero)) (item-in c.loop-x.x-index v.value c.loop-x-test.true)
 
-pub factor_term-place-requires : goal.factor_term-place-requires
-factor_term-place-requires c =
-    let p = c.requires.by_index c.loop-k.k c.loop-k-test.true in
-    record {
-      strand_in_bounds = (p.digit-cells, p.power-cells, p.few);
-      weighs = p.form;
-    }
+pub bounds-row-from : goal.bounds-row-from
+bounds-row-from c =
+    let r = c.requires in
+    let v = c.options-x-items.ensures in
+    let last = ap (λ (z : Lending). length z.counts - 1) c.lent.view_is in
+    let known = known_of v.sound.searchable (length c.lent.inside.counts.now - 1) (get_or c.options-x-items.result.now c.loop-x.x-index 0) (omega (arith, r.counts_nonzero)) (item-in c.loop-x.x-index v.value c.loop-x-test.true) in
+    let few = v.sound.searchable.few in
+    let e = c.from.ensures in
+    omega arith
 
-pub offset_bounds-out_digits-at : goal.offset_bounds-out_digits-at
-offset_bounds-out_digits-at c = omega (arith, c.wide-at.ensures, (c.requires.by_index c.loop-k.k c.loop-k-test.true).few)
-
-pub bounds-out_digits-at : goal.bounds-out_digits-at
-bounds-out_digits-at c = omega (arith, c.wide-at.ensures, (c.requires.by_index c.loop-k.k c.loop-k-test.true).few, c.loop-k.invariant.1.sized.0)
-
-pub offset_bounds-out_powers-at : goal.offset_bounds-out_powers-at
-offset_bounds-out_powers-at c = omega (arith, c.wide-at.ensures, (c.requires.by_index c.loop-k.k c.loop-k-test.true).few)
-
-pub bounds-out_powers-at : goal.bounds-out_powers-at
-bounds-out_powers-at c = omega (arith, c.wide-at.ensures, (c.requires.by_index c.loop-k.k c.loop-k-test.true).few, c.loop-k.invariant.1.sized.1)
-
-pub overflow_add-k : goal.overflow_add-k
-overflow_add-k c = omega (arith, c.loop-k-test.true, c.requires.here_len_bound)
-
-pub loop-k-preserved : goal.loop-k-preserved
-loop-k-preserved c =
-    let a = c.args in
-    let l = c.loop-k in
-    let few = (c.requires.by_index l.k c.loop-k-test.true).few in (
-      omega (arith, c.loop-k-test.true),
-      written-more (factor_of a.place_digits.now a.place_powers.now false) a.here.now l.out_digits l.out_powers l.k c.wide-at.result c.factor_term-place.result
-          (omega (arith, c.wide-at.ensures, few)) c.wide-at.ensures (rw (c.factor_term-place.ensures, c.wide-at.ensures) refl) l.invariant.1,
-    )
-
-pub shape_of-out_digits : goal.shape_of-out_digits
-shape_of-out_digits c = c.loop-k.invariant.1.sized.0 ∙ sym c.requires.out_digits_len.0
-
-pub shape_of-out_powers : goal.shape_of-out_powers
-shape_of-out_powers c = c.loop-k.invariant.1.sized.1 ∙ sym c.requires.out_digits_len.1
+pub loop-x-preserved : goal.loop-x-preserved
+loop-x-preserved c =
+    let l = c.args.lent.now in
+    let r = c.requires in
+    let v = c.options-x-items.ensures in
+    let n = length c.lent.inside.counts.now - 1 in
+    let last = ap (λ (z : Lending). length z.counts - 1) c.lent.view_is in
+    let k = c.loop-x.x-index in
+    let x = get_or c.options-x-items.result.now k 0 in
+    let known = known_of v.sound.searchable n x (omega (arith, r.counts_nonzero)) (item-in k v.value c.loop-x-test.true) in
+    let few = v.sound.searchable.few in
+    rw c.from.ensures (written-more (passed_at l n) (here l n) c.loop-x.row k x c.place_factor.result (omega arith)
+    (ap (λ (xs : List ℕ). get_or xs k 0) v.value)
+    (c.place_factor.ensures ∙ last-passed l r.counts_nonzero v.sound r.in_use n x (omega (arith, r.counts_nonzero))) c.loop-x.invariant)
 
 pub returns : goal.returns
 returns c =
-    let a = c.args in
-    let l = c.loop-k in
-    let e : l.k ≡ length a.here.now = omega (arith, l.invariant.0, c.loop-k-test.false) in
-    subst (λ (z : ℕ). Written (factor_of a.place_digits.now a.place_powers.now false) a.here.now z l.out_digits l.out_powers) e l.invariant.1
+    let last = ap (λ (z : Lending). length z.counts - 1) c.lent.view_is in
+    subst (λ (i : ℕ). Row c.args.lent.now i c.loop-x.row) last (record { terms = written-all c.loop-x.invariant (let e = ap length c.options-x-items.ensures.value in let past = c.loop-x-test.false in omega arith) })

@@ -1,13 +1,7 @@
--- The filling of the last position's row meets its contract. Assumes nothing.
-use mathlib.Core.Bool.{false}
-use Prim.Native.Nat.{◌-◌, ◌≤◌}
-use lib.ListN.{length}
-use Rattle.partition_sums.specs.inner.Rows.{factor_of, Written}
+-- The invariant: of the options passed the terms are written, each at its strand. Assumes nothing.
+use Rattle.partition_sums.proofs.Positions.{here, passed_at}
+use Rattle.partition_sums.proofs.Rowed.{Written}
 use Rattle.partition_sums.proofs.rows.last_row.Given as goal
 
-abbrev pub invariant-loop-k : goal.invariant-loop-k
-invariant-loop-k l =
-    (l.k ≤ length l.here) × Written (factor_of l.place_digits l.place_powers false) l.here l.k l.out_digits l.out_powers
-
-abbrev pub decreases-loop-k : goal.decreases-loop-k
-decreases-loop-k l = length l.here - l.k
+abbrev pub invariant-loop-x : goal.invariant-loop-x
+invariant-loop-x l = Written (passed_at l.lent l.position) (here l.lent l.position) l.x-index l.row

@@ -1,49 +1,14 @@
-use mathlib.Core.Path.{◌≡◌}
 use native.Mathlib.Nat.{not-suc-le-zero}
-use native.Mathlib.Omega.{arith}
 use Rattle.design.proofs.Held.{kept-none}
-use Rattle.design.specs.Design.{strand_bond}
-use Rattle.lists.proofs.Grid.{row-end}
+use Rattle.design.specs.Design.{strand_bond_in, strands}
 use Rattle.prepared.proofs.Cells.{empties-more}
 use Rattle.prepared.proofs.bonds.fill_empties.Goals as goal
 
 pub loop-x-init : goal.loop-x-init
-loop-x-init c = (omega arith, kept-none (strand_bond c.args.glues.now c.args.dg.now c.args.ds.now c.args.ambient) c.args.strands, λ y h. absurd (not-suc-le-zero h))
-
-pub overflow_mul-cell : goal.overflow_mul-cell
-overflow_mul-cell c =
-    let room = row-end c.args.strands c.loop-x-test.true in
-    let area = c.requires.strands_in_bounds in
-    let sized = c.loop-x.invariant.1.sized in
-    omega arith
-
-pub overflow_cast-x : goal.overflow_cast-x
-overflow_cast-x c = omega arith
-
-pub offset_bounds-cells-cell : goal.offset_bounds-cells-cell
-offset_bounds-cells-cell c =
-    let room = row-end c.args.strands c.loop-x-test.true in
-    let area = c.requires.strands_in_bounds in
-    let sized = c.loop-x.invariant.1.sized in
-    omega arith
-
-pub bounds-cells-cell : goal.bounds-cells-cell
-bounds-cells-cell c =
-    let room = row-end c.args.strands c.loop-x-test.true in
-    let area = c.requires.strands_in_bounds in
-    let sized = c.loop-x.invariant.1.sized in
-    let null = c.requires.strands_nonzero in
-    omega arith
+loop-x-init c = (kept-none (strand_bond_in c.args.design.now) (strands c.args.design.now), λ y h. absurd (not-suc-le-zero h))
 
 pub loop-x-preserved : goal.loop-x-preserved
 loop-x-preserved c =
-    let more = empties-more (strand_bond c.args.glues.now c.args.dg.now c.args.ds.now c.args.ambient) c.args.strands c.loop-x.x c.loop-x-test.true c.requires.strands_in_bounds c.strand_bond.ensures c.loop-x.invariant.1 c.loop-x.invariant.2 in
-    (omega arith, more.0, more.1)
-
-pub returns : goal.returns
-returns c =
-    let all : c.loop-x.x ≡ c.args.strands = omega arith in
-    record {
-      kept = c.loop-x.invariant.1;
-      by_index = λ y h. c.loop-x.invariant.2 y (rw all h);
-    }
+    let d = c.args.design.now in
+    let here = rw c.strands-strands.ensures at c.loop-x-test.true in
+    rw c.strands-strands.ensures (empties-more (strand_bond_in d) (strands d) c.loop-x.x here c.requires.strands_in_bounds c.strand_bond.ensures c.loop-x.invariant.0 c.loop-x.invariant.1)

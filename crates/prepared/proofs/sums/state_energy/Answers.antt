@@ -2,7 +2,7 @@ use mathlib.Core.Logic.{inl}
 use mathlib.Core.Path.{◌≡◌, refl, sym, ap, ◌∙◌}
 use Prim.Native.Nat.{◌<◌, ◌≤◌}
 use native.Mathlib.Omega.{arith}
-use lib.Ieee.{Float, binary64, of_bits, mul}
+use lib.Ieee.{Float, binary64, mul}
 use lib.ListN.{length, get_or}
 use Rattle.lists.proofs.Grid.{row-end}
 use Rattle.doubles.specs.Decimal.{zero}
@@ -11,8 +11,7 @@ use Rattle.prepared.proofs.Begun.{begun-is, ended_is, beside-next, sum_more, sum
 use Rattle.prepared.proofs.sums.state_energy.Goals as goal
 
 pub loop-position-init : goal.loop-position-init
-unfolding of_bits
-loop-position-init c = (omega arith, c.requires.potentials_nonzero, λ m w v. (refl, inl refl))
+loop-position-init c = rw c.nobody-begun.ensures (c.requires.potentials_nonzero, λ m w v. (refl, inl refl))
 
 pub begin-begun-requires : goal.begin-begun-requires
 begin-begun-requires c =
@@ -23,7 +22,7 @@ begin-begun-requires c =
     let room = row-end (length a.potentials.now) here in
     let most = p.potentials_in_bounds_2 in
     record {
-      strand_in_bounds = l.invariant.1;
+      strand_in_bounds = l.invariant.0;
       strand_in_bounds_2 = p.by_index l.position here;
       potentials_len_bound = p.potentials_len_bound;
       position_bound = omega arith;
@@ -37,13 +36,12 @@ loop-position-preserved c =
     let l = c.loop-position in
     let here : l.position < length a.state.now = c.loop-position-test.true in
     let strand-is = c.begin-begun.ensures.strand_value in (
-      omega arith,
       rw strand-is (c.requires.by_index l.position here),
       λ m w v.
-          let old = l.invariant.2 m w v in
+          let old = l.invariant.1 m w v in
           let inside : l.position < length m.friends = rw (← v.places) here in
           let option = v.occupants l.position inside in
-          let sum_is : c.begin-begun.result.sum ≡ begun_at m l.position l.begun.strand l.begun.sum (get_or a.state.now l.position 0) = c.begin-begun.ensures.sum_value ∙ begun-is w l.position l.begun.strand (get_or a.state.now l.position 0) l.begun.sum inside l.invariant.1 old.1 option in
+          let sum_is : c.begin-begun.result.sum ≡ begun_at m l.position l.begun.strand l.begun.sum (get_or a.state.now l.position 0) = c.begin-begun.ensures.sum_value ∙ begun-is w l.position l.begun.strand (get_or a.state.now l.position 0) l.begun.sum inside l.invariant.0 old.1 option in
           rw (strand-is, sum_is) (old.0 ∙ sum_more m a.state.now l.position l.begun.strand l.begun.sum here, beside-next m l.position (get_or a.state.now l.position 0) option),
     )
 
@@ -53,7 +51,7 @@ returns c =
     λ m w v e.
     let a = c.args in
     let l = c.loop-position in
-    let old = l.invariant.2 m w v in
-    let all : l.position ≤ length m.friends = rw (← v.places) l.invariant.0 in
+    let old = l.invariant.1 m w v in
+    let all : l.position ≤ length m.friends = rw (← v.places) l.auto.position-end in
     let sum = c.ended.ensures ∙ ended_is w l.position l.begun.strand l.begun.sum all old.1 ∙ sym (old.0 ∙ sum_done m a.state.now l.position l.begun.strand l.begun.sum c.loop-position-test.false) in
     c.scale.ensures ∙ ap (λ (x : Float). mul binary64 x a.rt.0) sum ∙ ap (mul binary64 (sum_on m 0 0 zero a.state.now)) e ∙ whole-energy m a.state.now

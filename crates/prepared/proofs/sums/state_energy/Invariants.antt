@@ -1,6 +1,6 @@
 -- The state energy meets its contract. The invariant: what is left to add, after the sum so far, gives the whole. Assumes nothing.
 use mathlib.Core.Path.{◌≡◌}
-use Prim.Native.Nat.{◌-◌, ◌<◌, ◌≤◌}
+use Prim.Native.Nat.{◌<◌}
 use lib.ListN.{length, drop}
 use Rattle.model.specs.Model.{Model, State}
 use Rattle.doubles.specs.Decimal.{zero}
@@ -10,10 +10,6 @@ use Rattle.prepared.proofs.sums.state_energy.Given as goal
 
 abbrev pub invariant-loop-position : goal.invariant-loop-position
 invariant-loop-position l =
-    (l.position ≤ length l.state)
-    × (l.begun.strand < length l.potentials)
+    (l.begun.strand < length l.potentials)
     × ((m : Model) → StateCells m (length l.potentials) l.strand_bonds l.scaffold_bonds l.potentials → State m l.state
     → (sum_on m 0 0 zero l.state ≡ sum_on m l.position l.begun.strand l.begun.sum (drop l.position l.state)) × Beside m l.position l.begun.strand)
-
-abbrev pub decreases-loop-position : goal.decreases-loop-position
-decreases-loop-position l = length l.state - l.position

@@ -1,29 +1,36 @@
--- `sdc1d_params::cell_of` meets its contract: of the two numbers of a base, the odd one is the base. Assumes nothing.
-use mathlib.Core.Path.{◌≡◌, sym, ap}
-use Prim.Native.Nat.{◌+◌, ◌-◌, ◌<◌}
+-- `sdc1d_params::cell_of` meets its contract: the first name is always there, and the second makes a pair. Assumes nothing.
+use mathlib.Core.Path.{◌≡◌, ap, ◌∙◌}
 use native.Mathlib.Omega.{arith}
-use borrow.Author.Tests.{eq-eqb, ne_eqb}
-use Rattle.sdc1d_params.specs.Entries.{cell}
-use Rattle.sdc1d_params.specs.inner.Cells.{cell_of_names}
+use Rattle.sdc_common.specs.Lent.{Glue, part_of, glue_of}
+use Rattle.sdc_common.specs.Numbers.{name_number, glue_number}
+use Rattle.sdc1d_params.specs.Entries.{cell_of}
+use Rattle.sdc1d_params.proofs.Lengths.{first-fit, second-fit}
+use Rattle.sdc1d_params.proofs.Found.{one-found, pair-found, first-number}
 use Rattle.sdc1d_params.proofs.cells.cell_of.Goals as goal
 
-pub returns-then-n-eq0 : goal.returns-then-n-eq0
-returns-then-n-eq0 c = rw c.in-Ref.is (simp (eq-eqb _ _ c.if-n-eq0.true))
+pub bytes-requires : goal.bytes-requires
+bytes-requires c = let a = c.args in rw c.first_name.ensures (first-fit a.text.now a.entry c.requires.fit)
 
-pub returns-then-n-eq0-2 : goal.returns-then-n-eq0-2
-returns-then-n-eq0-2 c =
-    let n = c.in-Ref.n in
-    let positive : n - 1 + 1 ≡ n = omega arith in
-    rw c.in-Ref.is (simp (ne_eqb _ _ c.if-n-eq0.false, eq-eqb _ _ c.if-n-eq0-2.true) (ap (cell (n - 1)) (sym positive)))
+pub bytes-requires-2 : goal.bytes-requires-2
+bytes-requires-2 c = let a = c.args in second-fit a.text.now a.entry c.requires.fit
 
-pub overflow_add-result : goal.overflow_add-result
-overflow_add-result c =
-    let n = c.in-Ref.n in
-    let small : n + 1 < 65 = simp (ne_eqb _ _ c.if-n-eq0.false, ne_eqb _ _ c.if-n-eq0-2.false) at (rw c.in-Ref.is at c.requires) in
-    omega arith
+pub one_cell-requires : goal.one_cell-requires
+one_cell-requires c = let few = c.requires.few in omega (arith, c.number-first.ensures.upper_bound)
 
-pub returns-in-Pair : goal.returns-in-Pair
-returns-in-Pair c = sym (ap cell_of_names c.in-Pair.is)
+pub returns-in-None : goal.returns-in-None
+returns-in-None c =
+    let a = c.args in
+    let e = a.entry in
+    let first : c.number-first.result ≡ name_number a.bases.now (part_of a.text.now e.first_start e.first_size) =
+    c.number-first.ensures.value ∙ ap (glue_number a.bases.now) (c.bytes.ensures ∙ ap (glue_of a.text.now) c.first_name.ensures) ∙ first-number a.bases.now a.text.now e in
+    c.one_cell.ensures ∙ one-found a.bases.now (part_of a.text.now e.first_start e.first_size) c.number-first.result first
+    ∙ ap (λ (g : Glue). cell_of a.bases.now (part_of a.text.now e.first_start e.first_size) g) c.in-None.ensures
 
-pub returns-else-n-eq0-2 : goal.returns-else-n-eq0-2
-returns-else-n-eq0-2 c = rw c.in-Ref.is (simp (ne_eqb _ _ c.if-n-eq0.false, ne_eqb _ _ c.if-n-eq0-2.false))
+pub returns-in-Some : goal.returns-in-Some
+returns-in-Some c =
+    let a = c.args in
+    let e = a.entry in
+    let first : c.number-first.result ≡ name_number a.bases.now (part_of a.text.now e.first_start e.first_size) =
+    c.number-first.ensures.value ∙ ap (glue_number a.bases.now) (c.bytes.ensures ∙ ap (glue_of a.text.now) c.first_name.ensures) ∙ first-number a.bases.now a.text.now e in
+    pair-found a.bases.now (part_of a.text.now e.first_start e.first_size) c.number-first.result first c.in-Some.second.now c.number.result c.number.ensures.value
+    ∙ ap (λ (g : Glue). cell_of a.bases.now (part_of a.text.now e.first_start e.first_size) g) c.in-Some.ensures

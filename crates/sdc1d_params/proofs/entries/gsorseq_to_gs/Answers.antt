@@ -3,7 +3,7 @@ use mathlib.Core.Path.{◌≡◌, sym, ap, ◌∙◌}
 use mathlib.Core.Bool.{false}
 use native.Mathlib.Omega.{arith}
 use lib.Ieee.{of_bits}
-use Rattle.utils.specs.Answers.{DgDsFigures, dg_ds_figures}
+use Rattle.utils.specs.Answers.{DgDsFigures}
 use Rattle.utils.specs.Single.{string_dna_dg_ds}
 use Rattle.sdc_common.proofs.Held.{part-is}
 use Rattle.sdc1d_params.specs.Entries.{unfit_energy, entry_dg, entry_ds}
@@ -25,19 +25,19 @@ slice_bounds-string_dna_dg_ds-end c =
     let fit : unfit_energy text (Sequence v.start v.length) ≡ false = sym (ap (unfit_energy text) c.in-Sequence.is) ∙ c.requires in
     omega (arith, sequence-fits text v.start v.length fit)
 
-pub returns-in-Given-string_dna_dg_ds : goal.returns-in-Given-string_dna_dg_ds
-returns-in-Given-string_dna_dg_ds c =
+pub returns-in-Ok : goal.returns-in-Ok
+returns-in-Ok c =
     let v = c.in-Sequence in
     let text = c.args.text.now in
     let fit : unfit_energy text (Sequence v.start v.length) ≡ false = sym (ap (unfit_energy text) c.in-Sequence.is) ∙ c.requires in
-    let said = sym (ap dg_ds_figures c.in-Given-string_dna_dg_ds.is) ∙ c.string_dna_dg_ds.ensures ∙ ap string_dna_dg_ds (part-is text v.start v.length) in
+    let said = c.in-Ok.ensures ∙ ap string_dna_dg_ds (part-is text v.start v.length) in
     (ap (λ (f : DgDsFigures). f.dg) said ∙ sym (ap (entry_dg text) c.in-Sequence.is), ap (λ (f : DgDsFigures). f.ds) said ∙ sym (ap (entry_ds text) c.in-Sequence.is))
 
-pub returns-in-Refused : goal.returns-in-Refused
+pub returns-in-Err : goal.returns-in-Err
 unfolding of_bits
-returns-in-Refused c =
+returns-in-Err c =
     let v = c.in-Sequence in
     let text = c.args.text.now in
     let fit : unfit_energy text (Sequence v.start v.length) ≡ false = sym (ap (unfit_energy text) c.in-Sequence.is) ∙ c.requires in
-    let said = sym (ap dg_ds_figures c.in-Refused.is) ∙ c.string_dna_dg_ds.ensures ∙ ap string_dna_dg_ds (part-is text v.start v.length) in
+    let said = c.in-Err.ensures ∙ ap string_dna_dg_ds (part-is text v.start v.length) in
     (ap (λ (f : DgDsFigures). f.dg) said ∙ sym (ap (entry_dg text) c.in-Sequence.is), ap (λ (f : DgDsFigures). f.ds) said ∙ sym (ap (entry_ds text) c.in-Sequence.is))

@@ -1,9 +1,11 @@
 -- `sdc1d_params::has_bad_base` meets its contract: the sequence call refuses a byte that is no base. Assumes nothing.
-use mathlib.Core.Path.{◌≡◌, sym, ap, ap₂, ◌∙◌}
-use lib.Dec.{eqb}
+use mathlib.Core.Path.{◌≡◌, refl, sym, ap, ◌∙◌}
 use mathlib.Core.Bool.{false}
 use native.Mathlib.Omega.{arith}
-use Rattle.utils.specs.Answers.{dg_ds_figures}
+use denote.Enum.Bare.{sameb}
+use Rattle.reply.specs.contracts.Refusal.{the_type}
+use Rattle.reply.specs.declared.Refusal.{Refusal}
+use Rattle.reply.specs.declared.Refusal.TheVariants.{NotABase}
 use Rattle.utils.specs.Single.{string_dna_dg_ds}
 use Rattle.sdc_common.specs.Lent.{part_of}
 use Rattle.sdc_common.proofs.Held.{part-is}
@@ -26,18 +28,18 @@ slice_bounds-string_dna_dg_ds-end c =
     let fit : unfit_energy text (Sequence v.start v.length) ≡ false = sym (ap (unfit_energy text) c.in-Sequence.is) ∙ c.requires in
     omega (arith, sequence-fits text v.start v.length fit)
 
-pub returns-in-Given-string_dna_dg_ds : goal.returns-in-Given-string_dna_dg_ds
-returns-in-Given-string_dna_dg_ds c =
+pub returns-in-Ok : goal.returns-in-Ok
+returns-in-Ok c =
     let v = c.in-Sequence in
     let text = c.args.text.now in
     let fit : unfit_energy text (Sequence v.start v.length) ≡ false = sym (ap (unfit_energy text) c.in-Sequence.is) ∙ c.requires in
-    let said = sym (ap dg_ds_figures c.in-Given-string_dna_dg_ds.is) ∙ c.string_dna_dg_ds.ensures ∙ ap string_dna_dg_ds (part-is text v.start v.length) in
+    let said = c.in-Ok.ensures ∙ ap string_dna_dg_ds (part-is text v.start v.length) in
     sym (ap (has_bad_base text) c.in-Sequence.is ∙ given-good (part_of text v.start v.length) (not-long text v.start v.length fit) _ _ said)
 
-pub returns-in-Refused : goal.returns-in-Refused
-returns-in-Refused c =
+pub returns-in-Err : goal.returns-in-Err
+returns-in-Err c =
     let v = c.in-Sequence in
     let text = c.args.text.now in
     let fit : unfit_energy text (Sequence v.start v.length) ≡ false = sym (ap (unfit_energy text) c.in-Sequence.is) ∙ c.requires in
-    let said = sym (ap dg_ds_figures c.in-Refused.is) ∙ c.string_dna_dg_ds.ensures ∙ ap string_dna_dg_ds (part-is text v.start v.length) in
-    ap₂ eqb c.number.ensures c.number-in-Refused.ensures ∙ refused-bad (part_of text v.start v.length) (not-long text v.start v.length fit) c.in-Refused.refusal said ∙ sym (ap (has_bad_base text) c.in-Sequence.is)
+    let said = c.in-Err.ensures ∙ ap string_dna_dg_ds (part-is text v.start v.length) in
+    c.eq.ensures ∙ refused-bad (part_of text v.start v.length) (not-long text v.start v.length fit) (λ (r : Refusal). sameb the_type r NotABase) refl refl c.in-Err.refusal said ∙ sym (ap (has_bad_base text) c.in-Sequence.is)

@@ -1,25 +1,18 @@
--- `sdc1d_params::unfit_energy` meets its contract: the difference never goes below 0, where the sum might wrap. Assumes nothing.
-use Prim.Native.Nat.{◌+◌, ◌≤◌, ◌<◌}
-use native.Mathlib.Omega.{arith}
-use lib.ListN.{length}
-use borrow.Author.Tests.{lt-ltb}
+-- `sdc1d_params::unfit_energy` meets its contract. Assumes nothing.
+use mathlib.Core.Path.{◌≡◌, sym, ◌∙◌}
+use mathlib.Core.Bool.{true, false}
+use Rattle.sdc_common.specs.Lent.{leaves}
 use Rattle.sdc1d_params.proofs.Sequences.{long-as-lent}
 use Rattle.sdc1d_params.proofs.entries.unfit_energy.Goals as goal
 
-pub returns-then-text-start : goal.returns-then-text-start
-returns-then-text-start c =
+pub returns-then-leaves : goal.returns-then-leaves
+returns-then-leaves c =
     let v = c.in-Sequence in
-    let h : length c.args.text.now < v.start + v.length = omega arith in
-    rw c.in-Sequence.is (simp (lt-ltb _ _ h))
+    let out : leaves c.args.text.now v.start v.length ≡ true = sym c.leaves.ensures ∙ c.if-leaves.true in
+    rw c.in-Sequence.is (simp out c.if-leaves.true)
 
-pub returns-then-text-start-2 : goal.returns-then-text-start-2
-returns-then-text-start-2 c =
+pub returns-else-leaves : goal.returns-else-leaves
+returns-else-leaves c =
     let v = c.in-Sequence in
-    let h : length c.args.text.now < v.start + v.length = omega arith in
-    rw c.in-Sequence.is (simp (lt-ltb _ _ h))
-
-pub returns-else-text-start-2 : goal.returns-else-text-start-2
-returns-else-text-start-2 c =
-    let v = c.in-Sequence in
-    let h : v.start + v.length ≤ length c.args.text.now = omega arith in
-    rw c.in-Sequence.is (long-as-lent c.args.text.now v.start v.length h)
+    let in-text : leaves c.args.text.now v.start v.length ≡ false = sym c.leaves.ensures ∙ c.if-leaves.false in
+    rw c.in-Sequence.is (long-as-lent c.args.text.now v.start v.length in-text)

@@ -31,11 +31,11 @@ returns-then-bad_form c =
     let first : unfit_name a.text.now e.first_start e.first_size ≡ false = sym (first-unfit a.text.now e) ∙ sym (ap (unfit_glue a.text.now) c.first_name.ensures) ∙ sym c.unfit_glue.ensures ∙ c.if-unfit_glue.false in
     let second : unfit_glue a.text.now e.second ≡ false = sym c.unfit_glue-2.ensures ∙ c.if-unfit_glue-2.false in
     let bad : bad_form e.form ≡ true = sym c.bad_form.ensures ∙ c.if-bad_form.true in
-    simp (first, second, bad)
+    simp (first, second, bad) c.if-bad_form.true
 
-pub returns : goal.returns
+pub returns-else-bad_form : goal.returns-else-bad_form
 unfolding unfit_entry
-returns c =
+returns-else-bad_form c =
     let a = c.args in
     let e = a.entry in
     let first : unfit_name a.text.now e.first_start e.first_size ≡ false = sym (first-unfit a.text.now e) ∙ sym (ap (unfit_glue a.text.now) c.first_name.ensures) ∙ sym c.unfit_glue.ensures ∙ c.if-unfit_glue.false in

@@ -18,16 +18,16 @@ returns-then-is_retired c =
     let a = c.args in
     let e = a.entry in
     let bad : is_retired (part_of a.text.now e.first_start e.first_size) ≡ true = sym (first-retired a.text.now e) ∙ sym (ap (λ (n : LentName). is_retired_glue (glue_of a.text.now n)) c.first_name.ensures) ∙ sym c.is_retired.ensures ∙ c.if-is_retired.true in
-    simp bad
+    simp bad c.if-is_retired.true
 
-pub is_retired-requires-2 : goal.is_retired-requires-2
-is_retired-requires-2 c =
+pub is_retired-requires-else-is_retired : goal.is_retired-requires-else-is_retired
+is_retired-requires-else-is_retired c =
     let a = c.args in
     second-fit a.text.now a.entry c.requires
 
-pub returns : goal.returns
-returns c =
+pub returns-else-is_retired : goal.returns-else-is_retired
+returns-else-is_retired c =
     let a = c.args in
     let e = a.entry in
     let first : is_retired (part_of a.text.now e.first_start e.first_size) ≡ false = sym (first-retired a.text.now e) ∙ sym (ap (λ (n : LentName). is_retired_glue (glue_of a.text.now n)) c.first_name.ensures) ∙ sym c.is_retired.ensures ∙ c.if-is_retired.false in
-    simp first c.is_retired-2.ensures
+    simp first c.is_retired-else-is_retired.ensures

@@ -11,12 +11,12 @@ pub returns-then-any_retired : goal.returns-then-any_retired
 returns-then-any_retired c =
     let a = c.args in
     let ordinary : is_ordinary a.build ≡ true = ap (λ (b : Build). is_ordinary b) c.in-Ordinary.is in
-    let some : any is_retired_glue (glues_of a.text.now (names_of a.strands.now)) ≡ true = sym c.any_retired.ensures ∙ c.if-any_retired.true in
-    simp (ordinary, some)
+    let some : any is_retired_glue (glues_of a.set.now.text.now (names_of a.set.now.strands.now)) ≡ true = sym c.any_retired.ensures ∙ c.if-any_retired.true in
+    simp (ordinary, some) c.if-any_retired.true
 
 pub returns-else-any_retired : goal.returns-else-any_retired
 returns-else-any_retired c =
     let a = c.args in
     let ordinary : is_ordinary a.build ≡ true = ap (λ (b : Build). is_ordinary b) c.in-Ordinary.is in
-    let none : any is_retired_glue (glues_of a.text.now (names_of a.strands.now)) ≡ false = sym c.any_retired.ensures ∙ c.if-any_retired.false in
+    let none : any is_retired_glue (glues_of a.set.now.text.now (names_of a.set.now.strands.now)) ≡ false = sym c.any_retired.ensures ∙ c.if-any_retired.false in
     simp (ordinary, none) c.any_retired_entry.ensures

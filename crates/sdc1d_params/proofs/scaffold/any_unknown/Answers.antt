@@ -12,32 +12,36 @@ use Rattle.sdc1d_params.proofs.scaffold.any_unknown.Goals as goal
 
 pub loop-i-init : goal.loop-i-init
 unfolding any tabulate
-loop-i-init c = (omega arith, refl)
-
-pub name_at-requires : goal.name_at-requires
-name_at-requires c = let m = c.requires.numbers_len in omega arith
+loop-i-init c = refl
 
 pub is_unknown-requires : goal.is_unknown-requires
-is_unknown-requires c = let m = c.requires.numbers_len in rw c.name_at.ensures (c.requires.fit_names c.loop-i.i (omega arith))
+is_unknown-requires c =
+    let i = c.loop-i.i in
+    let many = c.rows-row-items.ensures.len in
+    rw (c.from.ensures ∙ c.rows-row-items.ensures.by_index i (omega arith)) (c.requires.fit_names i (omega arith))
+
+pub bounds-numbers-i : goal.bounds-numbers-i
+bounds-numbers-i c = let many = c.rows-row-items.ensures.len in let m = c.requires.numbers_len in omega arith
 
 pub returns-then-is_unknown : goal.returns-then-is_unknown
 returns-then-is_unknown c =
     let a = c.args in
     let i = c.loop-i.i in
-    let m = c.requires.numbers_len in
-    let said = ap (λ (n : LentName). unknown_by (get_or a.numbers.now i 0) (glue_of a.text.now n)) c.name_at.ensures in
+    let many = c.rows-row-items.ensures.len in
+    let said = ap (λ (n : LentName). unknown_by (get_or a.numbers.now i 0) (glue_of a.text.now n)) (c.from.ensures ∙ c.rows-row-items.ensures.by_index i (omega arith)) in
     sym (any_found (unknown_at a.text.now a.scaffold.now a.numbers.now) (length a.scaffold.now / 3) (λ j. j) i (omega arith) (sym said ∙ sym c.is_unknown.ensures ∙ c.if-is_unknown.true))
 
 pub loop-i-preserved : goal.loop-i-preserved
 loop-i-preserved c =
     let a = c.args in
     let i = c.loop-i.i in
-    let said = ap (λ (n : LentName). unknown_by (get_or a.numbers.now i 0) (glue_of a.text.now n)) c.name_at.ensures in
-    (omega arith, any-more (unknown_at a.text.now a.scaffold.now a.numbers.now) (λ j. j) i c.loop-i.invariant.1 (sym said ∙ sym c.is_unknown.ensures ∙ c.if-is_unknown.false))
+    let many = c.rows-row-items.ensures.len in
+    let said = ap (λ (n : LentName). unknown_by (get_or a.numbers.now i 0) (glue_of a.text.now n)) (c.from.ensures ∙ c.rows-row-items.ensures.by_index i (omega arith)) in
+    any-more (unknown_at a.text.now a.scaffold.now a.numbers.now) (λ j. j) i c.loop-i.invariant (sym said ∙ sym c.is_unknown.ensures ∙ c.if-is_unknown.false)
 
 pub returns : goal.returns
 returns c =
     let a = c.args in
-    let m = c.requires.numbers_len in
+    let many = c.rows-row-items.ensures.len in
     let end : c.loop-i.i ≡ length a.scaffold.now / 3 = omega arith in
-    sym (ap (λ (k : ℕ). any (unknown_at a.text.now a.scaffold.now a.numbers.now) (up_to k)) (sym end) ∙ c.loop-i.invariant.1)
+    sym (ap (λ (k : ℕ). any (unknown_at a.text.now a.scaffold.now a.numbers.now) (up_to k)) (sym end) ∙ c.loop-i.invariant)

@@ -1,39 +1,23 @@
--- `sdc1d_params::is_unknown` meets its contract: the stars are counted from the base. Assumes nothing.
-use mathlib.Core.Path.{◌≡◌, sym, ap, ◌∙◌}
-use mathlib.Core.Bool.{false}
-use native.Mathlib.Omega.{arith}
-use Rattle.sdc_common.specs.Lent.{unfit_name}
-use Rattle.sdc_common.specs.Calls.{name_figures}
-use Rattle.sdc_common.proofs.Held.{present-fit}
-use Rattle.sdc1d_params.proofs.Named.{base-given, base-refused, base-inside, stars-given, absent-known, unnumbered, by-stars}
+-- `sdc1d_params::is_unknown` meets its contract. Assumes nothing.
+use mathlib.Core.Path.{ap}
+use lib.Dec.{ltb}
+use borrow.Author.Tests.{eq-eqb, ne_eqb}
+use Rattle.sdc_common.specs.Lent.{Glue}
+use Rattle.sdc1d_params.specs.inner.Scaffold.{unknown_by}
 use Rattle.sdc1d_params.proofs.scaffold.is_unknown.Goals as goal
 
-pub returns-then-name-eq-ABSENT : goal.returns-then-name-eq-ABSENT
-returns-then-name-eq-ABSENT c =
-    let a = c.args in
-    absent-known a.text.now a.name a.number c.if-name-eq-ABSENT.true
+pub returns-in-None : goal.returns-in-None
+unfolding unknown_by
+returns-in-None c = ap (λ (g : Glue). unknown_by c.args.number g) c.in-None.ensures
 
 pub returns-then-number-eq0 : goal.returns-then-number-eq0
+unfolding unknown_by
 returns-then-number-eq0 c =
-    let a = c.args in
-    unnumbered a.text.now a.name a.number c.if-name-eq-ABSENT.false c.if-number-eq0.true
+    let here = ap (λ (g : Glue). unknown_by c.args.number g) c.in-Some.ensures in
+    rw (← here) (simp (eq-eqb c.args.number 0 c.if-number-eq0.true))
 
-pub overflow_sub-result : goal.overflow_sub-result
-overflow_sub-result c =
-    let a = c.args in
-    let fit : unfit_name a.text.now a.name.start a.name.size ≡ false = present-fit a.text.now a.name c.if-name-eq-ABSENT.false c.requires in
-    let v = c.in-Given in
-    omega (arith, base-inside a.text.now a.name.start a.name.size fit v.base (base-given a.text.now a.name.start a.name.size fit v.field-0 v.base v.field-2 (sym (ap name_figures c.in-Given.is) ∙ c.self_and_inverse.ensures)))
-
-pub returns-in-Given : goal.returns-in-Given
-returns-in-Given c =
-    let a = c.args in
-    let fit : unfit_name a.text.now a.name.start a.name.size ≡ false = present-fit a.text.now a.name c.if-name-eq-ABSENT.false c.requires in
-    let v = c.in-Given in
-    by-stars a.text.now a.name a.number c.if-name-eq-ABSENT.false c.if-number-eq0.false _ (stars-given a.text.now a.name.start a.name.size fit v.base (base-given a.text.now a.name.start a.name.size fit v.field-0 v.base v.field-2 (sym (ap name_figures c.in-Given.is) ∙ c.self_and_inverse.ensures)))
-
-pub returns-in-Refused : goal.returns-in-Refused
-returns-in-Refused c =
-    let a = c.args in
-    let fit : unfit_name a.text.now a.name.start a.name.size ≡ false = present-fit a.text.now a.name c.if-name-eq-ABSENT.false c.requires in
-    absurd (base-refused a.text.now a.name.start a.name.size fit c.in-Refused.field-0 (sym (ap name_figures c.in-Refused.is) ∙ c.self_and_inverse.ensures))
+pub returns-else-number-eq0 : goal.returns-else-number-eq0
+unfolding unknown_by
+returns-else-number-eq0 c =
+    let here = ap (λ (g : Glue). unknown_by c.args.number g) c.in-Some.ensures in
+    rw (← here) (simp (ne_eqb c.args.number 0 c.if-number-eq0.false) (ap (ltb 1) c.stars_of.ensures))

@@ -1,16 +1,11 @@
 -- `sdc1d_params::any_out` meets its contract: no sum that was passed over is out of range. Assumes nothing.
 use mathlib.Core.Path.{◌≡◌}
 use mathlib.Core.Bool.{false}
-use Prim.Native.Nat.{◌≤◌, ◌-◌}
 use Rattle.lists.specs.Find.{any}
 use Rattle.lists.specs.Build.{tabulate}
-use Rattle.sdc1d_params.specs.Entries.{entry_rows}
 use Rattle.sdc1d_params.specs.Tables.{out_of_range}
 use Rattle.sdc1d_params.specs.inner.Cells.{write_at}
 use Rattle.sdc1d_params.proofs.tables.any_out.Given as goal
 
 abbrev pub invariant-loop-i : goal.invariant-loop-i
-invariant-loop-i l = (l.i ≤ l.n) × (any out_of_range (tabulate l.i (write_at l.text l.entries l.energies l.penalty.dg.0 l.penalty.ds.0 l.rows l.columns)) ≡ false) × (l.n ≡ entry_rows l.entries)
-
-abbrev pub decreases-loop-i : goal.decreases-loop-i
-decreases-loop-i l = l.n - l.i
+invariant-loop-i l = any out_of_range (tabulate l.i (write_at l.text l.entries l.energies l.penalty.dg.0 l.penalty.ds.0 l.cells)) ≡ false

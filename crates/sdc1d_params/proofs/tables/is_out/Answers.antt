@@ -5,7 +5,7 @@ use lib.Ieee.{Float, binary64, of_bits}
 use Rattle.doubles.specs.Decimal.{nearest}
 use Rattle.doubles.specs.Range.{in_range}
 use borrow.Author.Tests.{not-true, not-false}
-use Rattle.sdc1d_params.specs.Entries.{cell, is_written}
+use Rattle.sdc1d_params.specs.Entries.{is_written}
 use Rattle.sdc1d_params.specs.Tables.{dg_in_range, ds_in_range, out_of_range}
 use Rattle.doubles.specs.Range.{within}
 use Rattle.sdc1d_params.proofs.tables.is_out.Goals as goal
@@ -18,25 +18,25 @@ ds-range : (x : Float) → ds_in_range x ≡ within (of_bits binary64 1384406525
 unfolding ds_in_range in_range nearest of_bits
 ds-range x = refl
 
-pub returns-then-not-is_written : goal.returns-then-not-is_written
+pub returns-else-is_written : goal.returns-else-is_written
 unfolding out_of_range
-returns-then-not-is_written c =
-    let unwritten : is_written (cell c.args.row c.args.column) ≡ false = sym c.is_written.ensures ∙ not-true _ c.if-not-is_written.true-raw in
-    rw unwritten
+returns-else-is_written c =
+    let unwritten : is_written c.args.cell ≡ false = sym c.is_written.ensures ∙ c.if-is_written.false in
+    rw unwritten c.if-is_written.false
 
 pub returns-then-not-in_range : goal.returns-then-not-in_range
 unfolding out_of_range
 returns-then-not-in_range c =
     let a = c.args in
-    let written : is_written (cell a.row a.column) ≡ true = sym c.is_written.ensures ∙ not-false _ c.if-not-is_written.false-raw in
-    let out : dg_in_range a.gs.0.0 ≡ false = dg-range _ ∙ sym c.in_range.ensures ∙ not-true _ c.if-not-in_range.true-raw in
-    rw (written, out)
+    let written : is_written a.cell ≡ true = sym c.is_written.ensures ∙ c.if-is_written.true in
+    let out : dg_in_range a.gs.dg.0 ≡ false = dg-range _ ∙ sym c.in_range.ensures ∙ not-true _ c.if-not-in_range.true-raw in
+    rw (written, out) c.if-not-in_range.true-raw
 
-pub returns : goal.returns
+pub returns-else-not-in_range : goal.returns-else-not-in_range
 unfolding out_of_range
-returns c =
+returns-else-not-in_range c =
     let a = c.args in
-    let written : is_written (cell a.row a.column) ≡ true = sym c.is_written.ensures ∙ not-false _ c.if-not-is_written.false-raw in
-    let in-dg : dg_in_range a.gs.0.0 ≡ true = dg-range _ ∙ sym c.in_range.ensures ∙ not-false _ c.if-not-in_range.false-raw in
-    let said : c.in_range-2.result ≡ ds_in_range a.gs.1.0 = c.in_range-2.ensures ∙ sym (ds-range _) in
+    let written : is_written a.cell ≡ true = sym c.is_written.ensures ∙ c.if-is_written.true in
+    let in-dg : dg_in_range a.gs.dg.0 ≡ true = dg-range _ ∙ sym c.in_range.ensures ∙ not-false _ c.if-not-in_range.false-raw in
+    let said : c.in_range-else-not-in_range.result ≡ ds_in_range a.gs.ds.0 = c.in_range-else-not-in_range.ensures ∙ sym (ds-range _) in
     rw (written, in-dg) (ap not said)

@@ -10,38 +10,37 @@ use Rattle.sdc_common.specs.declared.names.LentName.{LentName}
 use Rattle.sdc_common.proofs.Fit.{glue_at, glues-listed}
 use Rattle.sdc_common.proofs.retired.any_retired.Goals as goal
 
-pub loop-i-init : goal.loop-i-init
+pub loop-row-init : goal.loop-row-init
 unfolding any tabulate
-loop-i-init c = (omega arith, refl, refl)
-
-pub name_at-requires : goal.name_at-requires
-name_at-requires c = let n = c.loop-i.invariant.2 in omega arith
+loop-row-init c = refl
 
 pub is_retired-requires : goal.is_retired-requires
 is_retired-requires c =
-    let n = c.loop-i.invariant.2 in
-    rw c.name_at.ensures (c.requires c.loop-i.i (omega arith))
+    let i = c.loop-row.row-index in
+    let many = c.rows-row-items.ensures.len in
+    rw (c.from.ensures ∙ c.rows-row-items.ensures.by_index i (omega arith)) (c.requires i (omega arith))
 
 pub returns-then-is_retired : goal.returns-then-is_retired
 returns-then-is_retired c =
     let a = c.args in
-    let l = c.loop-i in
-    let n = l.invariant.2 in
-    let said = ap (λ (name : LentName). is_retired_glue (glue_of a.text.now name)) c.name_at.ensures in
+    let i = c.loop-row.row-index in
+    let many = c.rows-row-items.ensures.len in
+    let said = ap (λ (name : LentName). is_retired_glue (glue_of a.text.now name)) (c.from.ensures ∙ c.rows-row-items.ensures.by_index i (omega arith)) in
     sym (ap (any is_retired_glue) (glues-listed a.text.now a.names.now)
-    ∙ any_found is_retired_glue (length a.names.now / 3) (glue_at a.text.now a.names.now) l.i (omega arith) (sym said ∙ sym c.is_retired.ensures ∙ c.if-is_retired.true))
+    ∙ any_found is_retired_glue (length a.names.now / 3) (glue_at a.text.now a.names.now) i (omega arith) (sym said ∙ sym c.is_retired.ensures ∙ c.if-is_retired.true))
 
-pub loop-i-preserved : goal.loop-i-preserved
-loop-i-preserved c =
+pub loop-row-preserved : goal.loop-row-preserved
+loop-row-preserved c =
     let a = c.args in
-    let l = c.loop-i in
-    let said = ap (λ (name : LentName). is_retired_glue (glue_of a.text.now name)) c.name_at.ensures in
-    (omega arith, any-more is_retired_glue (glue_at a.text.now a.names.now) l.i l.invariant.1 (sym said ∙ sym c.is_retired.ensures ∙ c.if-is_retired.false), l.invariant.2)
+    let i = c.loop-row.row-index in
+    let many = c.rows-row-items.ensures.len in
+    let said = ap (λ (name : LentName). is_retired_glue (glue_of a.text.now name)) (c.from.ensures ∙ c.rows-row-items.ensures.by_index i (omega arith)) in
+    any-more is_retired_glue (glue_at a.text.now a.names.now) i c.loop-row.invariant (sym said ∙ sym c.is_retired.ensures ∙ c.if-is_retired.false)
 
 pub returns : goal.returns
 returns c =
     let a = c.args in
-    let n = c.loop-i.invariant.2 in
-    let end : c.loop-i.i ≡ length a.names.now / 3 = omega arith in
+    let many = c.rows-row-items.ensures.len in
+    let end : c.loop-row.row-index ≡ length a.names.now / 3 = omega arith in
     sym (ap (any is_retired_glue) (glues-listed a.text.now a.names.now)
-    ∙ ap (λ (k : ℕ). any is_retired_glue (tabulate k (glue_at a.text.now a.names.now))) (sym end) ∙ c.loop-i.invariant.1)
+    ∙ ap (λ (k : ℕ). any is_retired_glue (tabulate k (glue_at a.text.now a.names.now))) (sym end) ∙ c.loop-row.invariant)

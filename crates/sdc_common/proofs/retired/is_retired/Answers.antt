@@ -1,30 +1,17 @@
--- `sdc_common::is_retired` meets its contract: the stars are what the base lacks. Assumes nothing.
+-- `sdc_common::is_retired` meets its contract: an absent name has no stars. Assumes nothing.
 use mathlib.Core.Path.{sym, ap, ◌∙◌}
-use native.Mathlib.Omega.{arith}
 use lib.Dec.{leb}
+use denote.Ref.{Bor}
+use Rattle.std.specs.Prelude.{Option}
+use Rattle.sdc_common.specs.Names.{Name}
 use Rattle.sdc_common.specs.Lent.{is_retired_glue}
-use Rattle.sdc_common.proofs.Held.{present-fits, glue-absent, glue-present, base-within, stars-of}
+use Rattle.sdc_common.specs.inner.Table.{glue}
 use Rattle.sdc_common.proofs.retired.is_retired.Goals as goal
 
-pub returns-then-name-eq-ABSENT : goal.returns-then-name-eq-ABSENT
+pub returns-in-None : goal.returns-in-None
 unfolding is_retired_glue
-returns-then-name-eq-ABSENT c = let a = c.args in sym (ap is_retired_glue (glue-absent a.text.now a.name c.if-name-eq-ABSENT.true))
+returns-in-None c = ap is_retired_glue c.in-None.ensures
 
-pub overflow_add-end : goal.overflow_add-end
-overflow_add-end c = let a = c.args in omega (arith, present-fits a.text.now a.name c.if-name-eq-ABSENT.false c.requires)
-
-pub slice_bounds-base_length-end : goal.slice_bounds-base_length-end
-slice_bounds-base_length-end c = let a = c.args in omega (arith, present-fits a.text.now a.name c.if-name-eq-ABSENT.false c.requires)
-
-pub overflow_sub-result : goal.overflow_sub-result
-overflow_sub-result c =
-    let a = c.args in
-    let fit = present-fits a.text.now a.name c.if-name-eq-ABSENT.false c.requires in
-    omega (arith, base-within a.text.now a.name c.base_length.result fit c.base_length.ensures.0)
-
-pub returns : goal.returns
+pub returns-in-Some : goal.returns-in-Some
 unfolding is_retired_glue
-returns c =
-    let a = c.args in
-    let fit = present-fits a.text.now a.name c.if-name-eq-ABSENT.false c.requires in
-    ap (leb 2) (stars-of a.text.now a.name c.base_length.result fit c.base_length.ensures.0) ∙ sym (ap is_retired_glue (glue-present a.text.now a.name c.if-name-eq-ABSENT.false))
+returns-in-Some c = ap (leb 2) c.stars_of.ensures ∙ ap is_retired_glue c.in-Some.ensures

@@ -1,26 +1,49 @@
--- `sheet::faults::check` meets its contract. Assumes nothing.
-use mathlib.Core.Path.{◌∙◌, ap}
-use borrow.Author.Tests.{lt-ltb, le-ltb}
-use Rattle.sheet.specs.Faults.{fault_at, sheet_answer}
+use borrow.Author.Rules.{rules}
+use mathlib.Core.Path.{◌≡◌, refl, sym, ap, ◌∙◌}
+use mathlib.Core.Bool.{true, false, not}
+use mathlib.Core.List.{List, []}
+use denote.Ref.{Bor}
+use Rattle.std.specs.Prelude.{Option, None, Some, Ok, Err}
+use Rattle.std.specs.Option.{is_some, option_copied}
+use Rattle.statements.specs.declared.statement.Row.{Row}
+use Rattle.sheet.specs.Faults.{fault_from, counts_of, counts_if, sheet_answer}
+use Rattle.sheet.specs.declared.faults.SheetFault.TheVariants.{NoAmbient}
+use Rattle.sheet.proofs.Faulty.{fault-here, fault-later, fault-past}
 use Rattle.sheet.proofs.faults.check.Goals as goal
 
-pub returns-then-i-kinds : goal.returns-then-i-kinds
-unfolding sheet_answer
-returns-then-i-kinds c =
-    let a = c.args in
-    let e = c.first_faulty-i.ensures in
-    rw (lt-ltb _ _ (rw e at c.if-i-kinds.true)) (c.fault_at.ensures ∙ ap (fault_at a.text.now a.kinds.now a.lines.now a.words.now) e)
+pub loop-i-preserved : goal.loop-i-preserved
+loop-i-preserved c =
+    let i = c.loop-i.i in
+    c.loop-i.invariant ∙ fault-later c.args.text.now c.args.rows.now i _ c.loop-i-test.true (sym c.check_row.ensures ∙ c.in_ok-check_row.was)
 
-pub returns-then-first_of-kinds : goal.returns-then-first_of-kinds
+pub returns-in_err-check_row : goal.returns-in_err-check_row
 unfolding sheet_answer
-returns-then-first_of-kinds c =
-    let e = c.first_faulty-i.ensures in
-    let f = c.first_of.ensures in
-    rw (le-ltb _ _ (rw e at c.if-i-kinds.false), lt-ltb _ _ (rw f at c.if-first_of-kinds.true), c.count_before.ensures, c.count_before-then-first_of-kinds.ensures, c.count_before-then-first_of-kinds-2.ensures)
+returns-in_err-check_row c =
+    let i = c.loop-i.i in
+    let fault = c.in_err-check_row.field-0.0 in
+    let first : fault_from c.args.text.now [] c.args.rows.now ≡ Err fault =
+    c.loop-i.invariant ∙ fault-here c.args.text.now c.args.rows.now i _ c.loop-i-test.true fault (sym c.check_row.ensures ∙ c.in_err-check_row.was) in
+    let out : c.from_residual.result ≡ Err fault = search rules in
+    out ∙ rw first
+
+missing : (rows : List Row) (r : Option (Bor Row)) → is_some r ≡ false → counts_if (option_copied r) rows ≡ Err NoAmbient
+missing rows None e = refl
+missing rows (Some row) e = cc
+
+given : (rows : List Row) (r : Option (Bor Row)) → is_some r ≡ true → counts_if (option_copied r) rows ≡ Ok (counts_of rows)
+given rows None e = cc
+given rows (Some row) e = refl
+
+pub returns-then-is_none : goal.returns-then-is_none
+unfolding sheet_answer
+returns-then-is_none c =
+    let rows = c.args.rows.now in
+    let sound = c.loop-i.invariant ∙ fault-past c.args.text.now rows c.loop-i.i c.loop-i-test.false in
+    rw (sound, ← c.first_of.ensures) (sym (missing rows c.first_of.result (c.is_none.ensures ∙ ap not c.if-is_none.true)))
 
 pub returns : goal.returns
 unfolding sheet_answer
 returns c =
-    let e = c.first_faulty-i.ensures in
-    let f = c.first_of.ensures in
-    simp (le-ltb _ _ (rw e at c.if-i-kinds.false), le-ltb _ _ (rw f at c.if-first_of-kinds.false))
+    let rows = c.args.rows.now in
+    let sound = c.loop-i.invariant ∙ fault-past c.args.text.now rows c.loop-i.i c.loop-i-test.false in
+    rw (c.count_of.ensures, c.count_of-2.ensures, c.count_of-3.ensures, sound, ← c.first_of.ensures) (sym (given rows c.first_of.result (c.is_none.ensures ∙ ap not c.if-is_none.false)))

@@ -10,35 +10,32 @@ use Rattle.sheet.specs.Faults.{same_word}
 use Rattle.sheet.specs.Once.{is_named, strand_named}
 use Rattle.sheet.proofs.once.strand_named.Goals as goal
 
-pub loop-k-init : goal.loop-k-init
-loop-k-init c = (omega arith, omega arith)
-
 pub returns-then-same_word : goal.returns-then-same_word
 unfolding strand_named
 returns-then-same_word c =
     let a = c.args in
-    let t = is_named a.text.now a.words.now a.name in
-    let rows = a.rows.now in
+    let t = is_named a.text.now a.rows.now a.name in
+    let chosen = a.chosen.now in
     let k = c.loop-k.k in
     let met = sym (c.same_word.ensures ∙ ap (same_word a.text.now a.name) c.word_of.ensures) ∙ c.if-same_word.true in
-    let here : first_index t rows ≡ k = omega (arith, first-here t rows k 0 (omega arith) met) in
-    rw here (rw (lt-ltb k (length rows) (omega arith)) (add-one k))
+    let here : first_index t chosen ≡ k = omega (arith, first-here t chosen k 0 (omega arith) met, c.loop-k.invariant) in
+    rw here (rw (lt-ltb k (length chosen) (omega arith)) (add-one k))
 
 pub loop-k-preserved : goal.loop-k-preserved
 loop-k-preserved c =
     let a = c.args in
-    let t = is_named a.text.now a.words.now a.name in
-    let rows = a.rows.now in
+    let t = is_named a.text.now a.rows.now a.name in
+    let chosen = a.chosen.now in
     let k = c.loop-k.k in
     let met = sym (c.same_word.ensures ∙ ap (same_word a.text.now a.name) c.word_of.ensures) ∙ c.if-same_word.false in
-    (omega arith, omega (arith, first-later t rows k 0 (omega arith) met))
+    omega (arith, first-later t chosen k 0 (omega arith) met, c.loop-k.invariant)
 
 pub returns : goal.returns
 unfolding strand_named
 returns c =
     let a = c.args in
-    let t = is_named a.text.now a.words.now a.name in
-    let rows = a.rows.now in
+    let t = is_named a.text.now a.rows.now a.name in
+    let chosen = a.chosen.now in
     let k = c.loop-k.k in
-    let past : length rows ≤ first_index t rows = omega (arith, first_past t rows k c.loop-k-test.false) in
+    let past : length chosen ≤ first_index t chosen = omega (arith, first_past t chosen k c.loop-k-test.false, c.loop-k.invariant) in
     simp (le-ltb _ _ past)

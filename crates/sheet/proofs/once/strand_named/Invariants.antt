@@ -1,13 +1,10 @@
--- `sheet::once::strand_named` meets its contract: no strand that was passed over has the name. Assumes nothing.
+-- `sheet::once::strand_named` meets its contract: the first of those that are left is the first of all. Assumes nothing.
 use mathlib.Core.Path.{◌≡◌}
-use Prim.Native.Nat.{◌+◌, ◌-◌, ◌≤◌}
-use lib.ListN.{length, drop}
+use Prim.Native.Nat.{◌+◌}
+use lib.ListN.{drop}
 use Rattle.lists.specs.Find.{first_index}
 use Rattle.sheet.specs.Once.{is_named}
 use Rattle.sheet.proofs.once.strand_named.Given as goal
 
 abbrev pub invariant-loop-k : goal.invariant-loop-k
-invariant-loop-k l = (l.k ≤ length l.rows) × (first_index (is_named l.text l.words l.name) l.rows ≡ l.k + first_index (is_named l.text l.words l.name) (drop l.k l.rows))
-
-abbrev pub decreases-loop-k : goal.decreases-loop-k
-decreases-loop-k l = length l.rows - l.k
+invariant-loop-k l = first_index (is_named l.text l.rows l.name) l.chosen ≡ l.k + first_index (is_named l.text l.rows l.name) (drop l.k l.chosen)

@@ -1,42 +1,21 @@
-use mathlib.Core.Path.{refl, sym, ◌∙◌}
-use Prim.Native.Nat.{zero-le}
+-- The test of the lists finds one that leaves the numbers where there is one. Assumes nothing.
+use mathlib.Core.Path.{◌≡◌, refl, sym, ◌∙◌}
 use native.Mathlib.Omega.{arith}
-use borrow.Author.Tests.{eq-eqb, ne_eqb}
-use Rattle.lists.proofs.Build.{any_here, any-later, any-past}
-use Rattle.state_sums.specs.Sizes.{list_out, wrong_lists}
+use lib.ListN.{length}
+use Rattle.std.proofs.Common.{rules, tests}
+use Rattle.std.specs.List.{list_any, range_with_len}
+use Rattle.std.proofs.lemmas.Iterator.{YieldsList-from_range}
+use Rattle.std.proofs.lemmas.Iterator.Search.{any_from_yields_List}
+use Rattle.design.proofs.Searches.{any_up_to_is}
+use Rattle.state_sums.specs.Sizes.{Lists, list_out}
 use Rattle.state_sums.proofs.Lent.{lists-told}
-use Rattle.state_sums.proofs.sizes.wrong_lists.Invariants.{lent}
 use Rattle.state_sums.proofs.sizes.wrong_lists.Goals as goal
+use Rattle.state_sums.proofs.sizes.wrong_lists.Goals.{then-starts-positions, else-starts-positions}
 
-pub returns-then-starts-positions : goal.returns-then-starts-positions
-unfolding wrong_lists
-returns-then-starts-positions c = simp (ne_eqb _ _ c.if-starts-positions.true)
-
-pub returns-then-lengths-positions : goal.returns-then-lengths-positions
-unfolding wrong_lists
-returns-then-lengths-positions c = simp (eq-eqb _ _ c.if-starts-positions.false, ne_eqb _ _ c.if-lengths-positions.true)
-
-pub loop-i-init : goal.loop-i-init
-loop-i-init c = (zero-le, refl)
-
-pub returns-then-list_outside : goal.returns-then-list_outside
-returns-then-list_outside c =
+pub returns-else-lengths-positions : goal.returns-else-lengths-positions
+returns-else-lengths-positions c =
     let a = c.args in
-    let l = c.loop-i in
-    let lists = lent a.numbers.now a.starts.now a.lengths.now in
-    lists-told a.positions lists c.if-starts-positions.false c.if-lengths-positions.false
-    (sym (l.invariant.1 ∙ any_here (list_out lists) a.positions l.i c.loop-i-test.true (sym c.list_outside.ensures ∙ c.if-list_outside.true)))
-
-pub loop-i-preserved : goal.loop-i-preserved
-loop-i-preserved c =
-    let a = c.args in
-    let l = c.loop-i in
-    let lists = lent a.numbers.now a.starts.now a.lengths.now in
-    (omega arith, l.invariant.1 ∙ any-later (list_out lists) a.positions l.i c.loop-i-test.true (sym c.list_outside.ensures ∙ c.if-list_outside.false))
-
-pub returns : goal.returns
-returns c =
-    let a = c.args in
-    let l = c.loop-i in
-    let lists = lent a.numbers.now a.starts.now a.lengths.now in
-    lists-told a.positions lists c.if-starts-positions.false c.if-lengths-positions.false (sym (l.invariant.1 ∙ any-past (list_out lists) a.positions l.i c.loop-i-test.false))
+    let l : Lists = record { numbers = a.numbers.now; starts = a.starts.now; lengths = a.lengths.now } in
+    let found : c.any.result ≡ list_any (list_out l) (range_with_len 0 a.positions) = any_from_yields_List (list_out l) _ _ c.any.result c.any.ensures.ran (YieldsList-from_range 0 a.positions a.positions refl (omega arith)) (λ x b q k. search (rules, tests)) in
+    let sized : (length l.starts ≡ a.positions) × (length l.lengths ≡ a.positions) = elim c.if-starts-positions.branch [ then-starts-positions w ↦ search (rules, tests) | else-starts-positions w ↦ search (rules, tests) ] in
+    lists-told a.positions l sized.0 sized.1 (found ∙ sym (any_up_to_is (list_out l) a.positions))

@@ -1,4 +1,4 @@
--- `statements::rows::count_words` meets its contract. Assumes nothing.
+-- `statements::rows::count_words` meets its contract: the words that are left. Assumes nothing.
 use mathlib.Core.Path.{◌≡◌}
 use Prim.Native.Nat.{◌≤◌, ◌-◌, ◌+◌}
 use lib.ListN.{length}

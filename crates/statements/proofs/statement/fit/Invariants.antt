@@ -9,7 +9,7 @@ use Rattle.statements.proofs.statement.fit.Given as goal
 abbrev pub invariant-loop-word : goal.invariant-loop-word
 invariant-loop-word l =
     (l.at ≤ length l.line) × (l.place ≤ l.at)
-    × (fit l.line l.key 0 (blank l.kind) (words_in l.line (l.key.start + l.key.size)) ≡ fit l.line l.key l.place l.row (words_in l.line l.at))
+    × (fit l.line l.key 0 (blank l.fn.kind l.fn.number) (words_in l.line (l.key.start + l.key.size)) ≡ fit l.line l.key l.place l.row (words_in l.line l.at))
 
 abbrev pub decreases-loop-word : goal.decreases-loop-word
 decreases-loop-word l = length l.line - l.at

@@ -1,21 +1,24 @@
-use mathlib.Core.Path.{refl, sym, ◌∙◌}
+use mathlib.Core.Path.{sym, ◌∙◌}
 use native.Mathlib.Omega.{arith}
-use borrow.Author.Tests.{not-false}
-use Rattle.statements.proofs.Bytes.{blank-on}
+use borrow.Author.Rules.{rules}
+use borrow.Author.Tests.{tests}
+use Rattle.statements.specs.Words.{is_blank}
+use mathlib.Core.Path.{◌≡◌}
+use mathlib.Core.Bool.{true}
+use lib.ListN.{get_or}
+use Rattle.statements.proofs.Bytes.{blank-on, words-past}
 use Rattle.statements.proofs.words.after_blanks.Goals as goal
-
-pub loop-i-init : goal.loop-i-init
-loop-i-init c = (omega arith, refl)
 
 pub returns-then-not-is_blank : goal.returns-then-not-is_blank
 returns-then-not-is_blank c =
     let l = c.loop-i in
-    (omega arith, l.invariant.1, λ h. sym c.is_blank.ensures ∙ c.if-not-is_blank.true)
+    record { on = omega arith; inside = omega arith; same = l.invariant; other = sym c.is_blank.ensures ∙ c.if-not-is_blank.true }
 
 pub loop-i-preserved : goal.loop-i-preserved
 loop-i-preserved c =
     let l = c.loop-i in
-    (omega arith, l.invariant.1 ∙ blank-on c.args.line.now l.i (omega arith) (sym c.is_blank.ensures ∙ not-false _ c.if-not-is_blank.false-raw))
+    let blank : is_blank (get_or c.args.line.now l.i 0) ≡ true = search (rules, tests) in
+    l.invariant ∙ blank-on c.args.line.now l.i (omega arith) blank
 
 pub returns : goal.returns
-returns c = (omega arith, c.loop-i.invariant.1, λ h. absurd (omega arith))
+returns c = c.loop-i.invariant ∙ words-past c.args.line.now c.loop-i.i (omega arith)

@@ -2,40 +2,23 @@
 use mathlib.Core.Path.{◌≡◌, ◌∙◌}
 use Prim.Native.Nat.{◌+◌, ◌-◌}
 use native.Mathlib.Omega.{arith}
-use Rattle.statements.proofs.Bytes.{words-past, comment, word-begins}
+use Rattle.statements.proofs.Bytes.{comment, word-begins}
 use Rattle.statements.proofs.words.next_word.Goals as goal
-
-pub returns-then-line-start : goal.returns-then-line-start
-returns-then-line-start c =
-    let line = c.args.line.now in
-    let s = c.after_blanks-start in
-    record {
-      on = s.ensures.0;
-      inside = λ some. absurd (omega arith);
-      last = λ none. s.ensures.1 ∙ words-past line s.result c.if-line-start.true;
-      more = λ some. absurd (omega arith);
-    }
 
 pub returns-then-line-start-eq35 : goal.returns-then-line-start-eq35
 returns-then-line-start-eq35 c =
-    let line = c.args.line.now in
-    let s = c.after_blanks-start in
-    record {
-      on = s.ensures.0;
-      inside = λ some. absurd (omega arith);
-      last = λ none. s.ensures.1 ∙ comment line s.result (omega arith) (s.ensures.2 (omega arith)) c.if-line-start-eq35.true;
-      more = λ some. absurd (omega arith);
-    }
+    let s = c.in_ok-start in
+    s.ensures.same ∙ comment c.args.line.now s.start s.ensures.inside s.ensures.other c.if-line-start-eq35.true
 
 pub returns : goal.returns
 returns c =
-    let line = c.args.line.now in
-    let s = c.after_blanks-start in
-    let e = c.word_end-end in
-    let whole : s.result + (e.result - s.result) ≡ e.result = omega arith in
+    let s = c.in_ok-start in
+    let first = s.ensures in
+    let end = c.word_end.result in
+    let whole : s.start + (end - s.start) ≡ end = omega arith in
     record {
-      on = s.ensures.0;
-      inside = λ some. omega arith;
-      last = λ none. absurd (omega arith);
-      more = λ some. rw whole (s.ensures.1 ∙ word-begins line s.result (omega arith) (s.ensures.2 (omega arith)) c.if-line-start-eq35.false ∙ e.ensures.2);
+      on = first.on;
+      some = omega arith;
+      inside = omega arith;
+      more = rw whole (first.same ∙ word-begins c.args.line.now s.start first.inside first.other c.if-line-start-eq35.false ∙ c.word_end.ensures.2);
     }

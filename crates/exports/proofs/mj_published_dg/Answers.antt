@@ -1,5 +1,0 @@
--- `exports::mj_published_dg` meets its contract: the figure of the answer is that of its definition. Assumes nothing.
-use Rattle.exports.proofs.mj_published_dg.Goals as goal
-
-pub returns : goal.returns
-returns c = rw c.published_dna_dg_ds.ensures at c.dg_ds_dg.ensures

@@ -1,5 +1,0 @@
--- `exports::mj_sequence_reply` meets its contract: the figure of the answer is that of its definition. Assumes nothing.
-use Rattle.exports.proofs.mj_sequence_reply.Goals as goal
-
-pub returns : goal.returns
-returns c = rw c.string_dna_dg_ds.ensures at c.dg_ds_reply.ensures

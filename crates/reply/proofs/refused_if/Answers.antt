@@ -1,8 +1,0 @@
--- Assumes nothing.
-use Rattle.reply.proofs.refused_if.Goals as goal
-
-pub returns-then-holds : goal.returns-then-holds
-returns-then-holds c = rw c.if-holds.true
-
-pub returns : goal.returns
-returns c = rw c.if-holds.false
