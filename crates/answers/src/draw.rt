@@ -9,14 +9,6 @@ use std::io::Write;
 // What a line of a stretch holds beside its head.
 const LINE: usize = 66;
 
-// The larger of two.
-fn larger(a: usize, b: usize) -> usize {
-    if a < b {
-        return b;
-    }
-    a
-}
-
 // The glue of a position, or - where it has none: its size is 0.
 fn print_glue<W: Write>(out: &mut W, text: &[u8], glue: Word) -> io::Result<()> {
     if glue.size == 0 {
@@ -43,10 +35,7 @@ fn column(
     i: usize,
 ) -> usize {
     let occupant = occupant_at(configuration, marks, strand_names.len(), i);
-    larger(
-        occupant_width(occupant, text, strand_names),
-        glue_width(text, word_at(glues, i)),
-    )
+    occupant_width(occupant, text, strand_names).max(glue_width(text, word_at(glues, i)))
 }
 
 // The position after the last that has room on a line which begins with position `from`.
@@ -58,10 +47,10 @@ fn stretch_end(
     marks: &[u8],
     from: usize,
 ) -> usize {
-    let mut used = 0;
+    let mut used = 0usize;
     for i in from..configuration.len() {
         let wide = column(text, glues, strand_names, configuration, marks, i);
-        used = std::num::wrapping_add_usize(used, std::num::wrapping_add_usize(wide, 2));
+        used = used.wrapping_add(wide).wrapping_add(2);
         if LINE < used && from < i {
             return i;
         }
@@ -155,7 +144,7 @@ fn print_stretch<W: Write>(
     from: usize,
 ) -> io::Result<usize> {
     let end = stretch_end(text, glues, strand_names, configuration, marks, from);
-    print_range(out, std::num::wrapping_add_usize(from, 1), end)?;
+    print_range(out, from.wrapping_add(1), end)?;
     print_strands(
         out,
         text,

@@ -8,7 +8,8 @@ pub mod reads;
 pub mod reasons;
 mod words;
 
-use design::reads::byte_at;
+ghost use Rattle.std.specs.Prelude.{◌≡◌, cond, eqb, None, Some};
+
 use doubles::bits;
 use draw::draw;
 use names::{Occupant, occupant_of, print_occupant};
@@ -21,36 +22,45 @@ use std::io;
 use std::io::Write;
 use words::print_trade_word;
 
-// Where in a file the reason lies. Line 0 is nowhere; a word of no bytes is none.
-#[derive(Clone, Copy)]
+// Where in a file the reason lies: the line and the word at fault, as far as there are any.
+#[derive(Clone, Copy, Default)]
 pub struct Spot {
-    pub line: usize,
-    pub start: usize,
-    pub size: usize,
+    pub line: Option<usize>,
+    pub word: Option<Word>,
+}
+
+impl Spot {
+    // A word of no bytes is none.
+    pub fn at(line: Option<usize>, word: Word) -> Spot
+        ensures line { result.line ≡ line }
+        ensures word { result.word ≡ cond (eqb word.size 0) None (Some word) }
+    {
+        let word = if word.size == 0 { None } else { Some(word) };
+        Spot { line, word }
+    }
 }
 
 // How much of a word is shown.
 const SHOWN: usize = 64;
 
 // A word at fault, its beginning where it is long.
-fn print_word<W: Write>(out: &mut W, text: &[u8], spot: Spot, style: Style) -> io::Result<()> {
-    let start = spot.start;
-    if SHOWN < spot.size {
-        print_bytes(out, part(text, start, SHOWN), style)?;
+fn print_word<W: Write>(out: &mut W, text: &[u8], word: Word, style: Style) -> io::Result<()> {
+    if SHOWN < word.size {
+        print_bytes(out, part(text, word.start, SHOWN), style)?;
         return print(out, b"...");
     }
-    print_bytes(out, part(text, start, spot.size), style)
+    print_bytes(out, part(text, word.start, word.size), style)
 }
 
 // The place of a reason, for people.
 fn print_spot<W: Write>(out: &mut W, text: &[u8], spot: Spot) -> io::Result<()> {
-    if 0 < spot.line {
+    if let Some(line) = spot.line {
         print(out, b", line ")?;
-        print_count(out, spot.line)?;
+        print_count(out, line)?;
     }
-    if 0 < spot.size {
+    if let Some(word) = spot.word {
         print(out, b", at ")?;
-        print_word(out, text, spot, Style::People)?;
+        print_word(out, text, word, Style::People)?;
     }
     Ok(())
 }
@@ -58,18 +68,18 @@ fn print_spot<W: Write>(out: &mut W, text: &[u8], spot: Spot) -> io::Result<()> 
 // The place of a reason, as two fields.
 fn print_json_spot<W: Write>(out: &mut W, text: &[u8], spot: Spot) -> io::Result<()> {
     print(out, b",\"line\":")?;
-    if 0 < spot.line {
-        print_count(out, spot.line)?;
-    } else {
-        print(out, b"null")?;
+    match spot.line {
+        Some(line) => print_count(out, line)?,
+        None => print(out, b"null")?,
     }
     print(out, b",\"word\":")?;
-    if 0 < spot.size {
-        print(out, b"\"")?;
-        print_word(out, text, spot, Style::Json)?;
-        print(out, b"\"")
-    } else {
-        print(out, b"null")
+    match spot.word {
+        Some(word) => {
+            print(out, b"\"")?;
+            print_word(out, text, word, Style::Json)?;
+            print(out, b"\"")
+        }
+        None => print(out, b"null"),
     }
 }
 
@@ -181,35 +191,22 @@ fn print_json_states<W: Write>(out: &mut W, states: Option<u64>) -> io::Result<(
 // The words of a deck, eight on a line.
 fn print_deck<W: Write>(out: &mut W, deck: &[u32]) -> io::Result<()> {
     print(out, b"  deck")?;
-    for i in 0..deck.len() {
+    for (i, word) in deck.iter().enumerate() {
         if 0 < i && i % 8 == 0 {
             print(out, b"\n      ")?;
         }
         print(out, b" ")?;
-        print_hex(out, deck_word(deck, i), 8)?;
+        print_hex(out, u64::from(*word), 8)?;
     }
     print(out, b"\n")
 }
 
-// A word of a deck as a number of 64 bits.
-fn wide(word: u32) -> u64 {
-    word as u64
-}
-
-// Word i of a deck.
-fn deck_word(deck: &[u32], i: usize) -> u64 {
-    if i < deck.len() {
-        return wide(deck[i]);
-    }
-    0
-}
-
 // The words of a deck, as the items of a list.
 fn print_json_deck<W: Write>(out: &mut W, deck: &[u32]) -> io::Result<()> {
-    for i in 0..deck.len() {
+    for (i, word) in deck.iter().enumerate() {
         print_comma(out, i)?;
         print(out, b"\"")?;
-        print_hex(out, deck_word(deck, i), 8)?;
+        print_hex(out, u64::from(*word), 8)?;
         print(out, b"\"")?;
     }
     Ok(())
@@ -225,9 +222,9 @@ fn print_comma<W: Write>(out: &mut W, i: usize) -> io::Result<()> {
 
 // Numbers, one for each position, as the items of a list.
 fn print_json_numbers<W: Write>(out: &mut W, numbers: &[u8]) -> io::Result<()> {
-    for i in 0..numbers.len() {
+    for (i, number) in numbers.iter().enumerate() {
         print_comma(out, i)?;
-        print_count(out, byte_at(numbers, i) as usize)?;
+        print_count(out, usize::from(*number))?;
     }
     Ok(())
 }
@@ -239,9 +236,9 @@ fn print_json_names<W: Write>(
     strand_names: &[Word],
     configuration: &[u8],
 ) -> io::Result<()> {
-    for i in 0..configuration.len() {
+    for (i, number) in configuration.iter().enumerate() {
         print_comma(out, i)?;
-        let occupant = occupant_of(byte_at(configuration, i) as usize, strand_names.len());
+        let occupant = occupant_of(usize::from(*number), strand_names.len());
         if let Occupant::Nobody = occupant {
             print(out, b"null")?;
         } else {

@@ -92,11 +92,11 @@ fn print_odd<W: Write>(out: &mut W, byte: u8, style: Style) -> io::Result<()> {
 // Plain bytes from a place on and the odd one behind them, and the place after that.
 fn print_run<W: Write>(out: &mut W, bytes: &[u8], at: usize, style: Style) -> io::Result<usize> {
     let end = plain_end(bytes, at);
-    print(out, part(bytes, at, std::num::wrapping_sub_usize(end, at)))?;
+    print(out, part(bytes, at, end.wrapping_sub(at)))?;
     if end < bytes.len() {
         print_odd(out, byte_at(bytes, end), style)?;
     }
-    Ok(std::num::wrapping_add_usize(end, 1))
+    Ok(end.wrapping_add(1))
 }
 
 // Bytes of a file, or of its name. A run has a byte at least, so there are turns enough.
@@ -113,9 +113,9 @@ pub(crate) fn print_bytes<W: Write>(out: &mut W, bytes: &[u8], style: Style) -> 
 
 // How wide bytes are as people get them.
 pub(crate) fn width(bytes: &[u8]) -> usize {
-    let mut sum = 0;
-    for i in 0..bytes.len() {
-        sum = std::num::wrapping_add_usize(sum, byte_width(byte_at(bytes, i)));
+    let mut sum = 0usize;
+    for byte in bytes {
+        sum = sum.wrapping_add(byte_width(*byte));
     }
     sum
 }

@@ -14,14 +14,23 @@ use super::judge::{Judged, job_number};
 use super::settle::{Settled, job_energy};
 use ensemble::states::MOST_STATES;
 
+// The cell of each job by a rule.
+fn fill<T: Copy, F: Fn(u32) -> T>(jobs: &[u32], rule: F, cells: &mut [T])
+    requires callable { F.IsAlwaysCallable rule }
+    requires cells_len { length cells.old ≡ length jobs.now }
+    ensures { (f : ℕ → T) → ((word : ℕ) (x : T) → F.post rule word x → x ≡ f word) → cells.new ≡ map f jobs.now }
+{
+    for (k, &word) in jobs.iter().enumerate() {
+        cells[k] = rule(word);
+    }
+}
+
 // The number of each job.
 pub(crate) fn fill_numbers(jobs: &[u32], judged: Judged, numbers: &mut [u32])
     requires { length numbers.old ≡ length jobs.now }
     ensures { (d : Design) → JudgedRight d judged → numbers.new ≡ map (job_number d) jobs.now }
 {
-    for (k, word) in jobs.iter().enumerate() {
-        numbers[k] = job_number(read(*word), judged);
-    }
+    fill(jobs, |word| job_number(read(word), judged), numbers);
 }
 
 // The energy of each job on an admitted design.
@@ -44,17 +53,21 @@ pub(crate) fn fill_energies(
     requires energies_len { length energies.old ≡ length jobs.now }
     ensures { (m : Model) → OptionRows m rows.now options.now → StateCells m (length potentials.now) strand_bonds.now scaffold_bonds.now potentials.now → settled.rt.0 ≡ m.rt → energies.new ≡ map (energy_of_word m settled.least.0) jobs.now }
 {
-    for (k, word) in jobs.iter().enumerate() {
-        energies[k] = job_energy(
-            read(*word),
-            rows,
-            options,
-            strand_bonds,
-            scaffold_bonds,
-            potentials,
-            settled,
-        );
-    }
+    fill(
+        jobs,
+        |word| {
+            job_energy(
+                read(word),
+                rows,
+                options,
+                strand_bonds,
+                scaffold_bonds,
+                potentials,
+                settled,
+            )
+        },
+        energies,
+    );
 }
 
 // The count of a job on an admitted design: 0 where there are too many states.
@@ -72,9 +85,7 @@ pub(crate) fn fill_counts(jobs: &[u32], states: u64, counts: &mut [u64])
     requires { length counts.old ≡ length jobs.now }
     ensures { counts.new ≡ map (count_of_word states) jobs.now }
 {
-    for (k, word) in jobs.iter().enumerate() {
-        counts[k] = job_count(read(*word), states);
-    }
+    fill(jobs, |word| job_count(read(word), states), counts);
 }
 
 // What a job leaves in its stretch: only a search fills it.
@@ -95,6 +106,7 @@ pub(crate) fn fill_stretches(jobs: &[u32], configuration: &[u8], stretches: &mut
     ensures { stretches.new ≡ stretches_in configuration.now jobs.now stretches.old }
 {
     let positions = configuration.len();
+    // Slices by index: there may be no positions, and `chunks_mut` takes no size 0.
     for (k, word) in jobs.iter().enumerate() {
         let start = k * positions;
         let end = start + positions;

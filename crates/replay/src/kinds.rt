@@ -3,7 +3,7 @@
 ghost use Rattle.std.specs.Prelude.{◌≡◌, true};
 ghost use Rattle.replay.specs.Kinds.{letters as letters·of, SequenceLine, PairLine, LoopLine, StrengthLine, Strength2Line, AmbientLine, NameLine};
 
-use crate::numbers::{Number, decimal, hex};
+use crate::numbers::{decimal, hex};
 use crate::parts::{past, up_to};
 use crate::says::says;
 use doubles::{bits, double};
@@ -47,10 +47,10 @@ pub(crate) fn loop_energy(words: &[u8]) -> bool
     ensures { result ≡ true → LoopLine words.now }
 {
     let rest = past(words, b' ');
-    let Number::Is(length) = decimal(up_to(words, b' ')) else {
+    let Some(length) = decimal(up_to(words, b' ')) else {
         return false;
     };
-    let Number::Is(kind) = decimal(up_to(rest, b' ')) else {
+    let Some(kind) = decimal(up_to(rest, b' ')) else {
         return false;
     };
     if 0xffff_ffff < kind {
@@ -67,7 +67,7 @@ pub(crate) fn strength(words: &[u8]) -> bool
     ensures { result ≡ true → StrengthLine words.now }
 {
     let rest = past(words, b' ');
-    let Number::Is(read) = hex(up_to(words, b' ')) else {
+    let Some(read) = hex(up_to(words, b' ')) else {
         return false;
     };
     let excess = double(read);
@@ -84,7 +84,7 @@ pub(crate) fn strength2(words: &[u8]) -> bool
 {
     let rest = past(words, b' ');
     let last = past(rest, b' ');
-    let Number::Is(read) = hex(up_to(words, b' ')) else {
+    let Some(read) = hex(up_to(words, b' ')) else {
         return false;
     };
     let excess = double(read);
@@ -100,7 +100,7 @@ pub(crate) fn strength2(words: &[u8]) -> bool
 pub(crate) fn ambient(words: &[u8]) -> bool
     ensures { result ≡ true → AmbientLine words.now }
 {
-    let Number::Is(read) = hex(up_to(words, b' ')) else {
+    let Some(read) = hex(up_to(words, b' ')) else {
         return false;
     };
     let kelvin = double(read);

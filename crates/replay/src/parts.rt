@@ -1,5 +1,5 @@
 // A text in parts: a list in lines, a line in words.
-ghost use Rattle.std.specs.Prelude.{◌≡◌, true, nat_eq};
+ghost use Rattle.std.specs.Prelude.{◌≡◌, ◌≤◌, true, nat_eq, length, position};
 ghost use Rattle.lists.specs.Find.{first_index};
 ghost use Rattle.replay.specs.Text.{up_to, past};
 
@@ -10,18 +10,18 @@ pub(crate) fn same(a: &[u8], b: &[u8]) -> bool
     a == b
 }
 
+// The place of the first mark, if there is one.
+fn first_mark(text: &[u8], mark: u8) -> Option<usize>
+    ensures { result ≡ position (nat_eq mark) text.now }
+{
+    text.iter().position(|&b| mark == b)
+}
+
 // The place of the first mark, or the length.
 fn mark_place(text: &[u8], mark: u8) -> usize
-    ensures { result ≡ first_index (nat_eq mark) text.now }
+    ensures { (result ≡ first_index (nat_eq mark) text.now) × (result ≤ length text.now) }
 {
-    let mut i = 0;
-    while i < text.len() {
-        if mark == text[i] {
-            return i;
-        }
-        i += 1;
-    }
-    i
+    first_mark(text, mark).unwrap_or(text.len())
 }
 
 // What comes before the first mark.
@@ -36,11 +36,6 @@ pub(crate) fn up_to(text: &[u8], mark: u8) -> &[u8]
 pub(crate) fn past(text: &[u8], mark: u8) -> &[u8]
     ensures { result.now ≡ past mark text.now }
 {
-    let n = mark_place(text, mark);
-    if text.len() <= n {
-        let end = text.len();
-        return &text[end..];
-    }
-    let next = n + 1;
+    let next = (mark_place(text, mark) + 1).min(text.len());
     &text[next..]
 }

@@ -14,15 +14,13 @@ fn are_letters(text: &[u8], places: &[u8]) -> bool
     if text.len() != places.len() {
         return false;
     }
-    let mut i = 0;
-    while i < text.len() {
+    for i in 0..text.len() {
         if 63 < places[i] {
             return false;
         }
         if text[i] != places[i] + 48 {
             return false;
         }
-        i += 1;
     }
     true
 }
@@ -34,28 +32,16 @@ pub(crate) fn is_places(word: &[u8], places: &[u8]) -> bool
     are_letters(letters(word), places)
 }
 
-// The smaller of two.
-fn least(a: usize, b: usize) -> usize
-    ensures { (result ≤ a) × (result ≤ b) }
-{
-    if a < b {
-        return a;
-    }
-    b
-}
-
 // Reads a word without care into the first of the lent places, and answers how many they are; no more than are lent.
 pub(crate) fn read_places(word: &[u8], places: &mut [u8]) -> usize
     ensures { result ≤ length places.old }
 {
     let text = letters(word);
-    let n = least(text.len(), places.len());
-    let mut i = 0;
-    while i < n {
-        places[i] = std::num::wrapping_sub_u8(text[i], 48);
-        i += 1;
+    let n = text.len().min(places.len());
+    for (place, letter) in places.iter_mut().zip(text) {
+        *place = letter.wrapping_sub(48);
     }
-    i
+    n
 }
 
 // `ok PLACES` of a call that is answered, and its number where it is refused.

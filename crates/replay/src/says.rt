@@ -44,13 +44,11 @@ fn given(words: &[u8], figures: &[u64]) -> bool
         return false;
     }
     let mut at = 2;
-    let mut i = 0;
-    while i < figures.len() {
-        if !has_figure(words, at, figures[i]) {
+    for figure in figures {
+        if !has_figure(words, at, *figure) {
             return false;
         }
         at += 17;
-        i += 1;
     }
     at == words.len()
 }

@@ -2,7 +2,7 @@
 ghost use Rattle.std.specs.Prelude.{◌≡◌, true};
 ghost use Rattle.replay.specs.Setting.{ByteSet, DoubleSet};
 
-use crate::numbers::{Number, decimal, hex};
+use crate::numbers::{decimal, hex};
 use crate::parts::{past, up_to};
 use doubles::double;
 
@@ -10,10 +10,10 @@ use doubles::double;
 pub(crate) fn set_byte(words: &[u8], slice: &mut [u8]) -> bool
     ensures { result ≡ true → ByteSet words.now slice.old slice.new }
 {
-    let Number::Is(index) = decimal(up_to(words, b' ')) else {
+    let Some(index) = decimal(up_to(words, b' ')) else {
         return false;
     };
-    let Number::Is(value) = decimal(past(words, b' ')) else {
+    let Some(value) = decimal(past(words, b' ')) else {
         return false;
     };
     let at = index as usize;
@@ -28,10 +28,10 @@ pub(crate) fn set_byte(words: &[u8], slice: &mut [u8]) -> bool
 pub(crate) fn set_double(words: &[u8], slice: &mut [f64]) -> bool
     ensures { result ≡ true → DoubleSet words.now slice.old slice.new }
 {
-    let Number::Is(index) = decimal(up_to(words, b' ')) else {
+    let Some(index) = decimal(up_to(words, b' ')) else {
         return false;
     };
-    let Number::Is(bits) = hex(past(words, b' ')) else {
+    let Some(bits) = hex(past(words, b' ')) else {
         return false;
     };
     let at = index as usize;

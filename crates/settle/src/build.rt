@@ -1,6 +1,5 @@
 // The design of a file's rows, and of beginnings of them.
-use crate::reads;
-use crate::reads::{first_numbers, first_places};
+use crate::reads::{first, first_mut};
 use reply::Refusal;
 use sdc_common::strand_glues;
 use sdc1d_params::{Build, Copies, Penalty, from_params};
@@ -45,21 +44,17 @@ pub(crate) fn build(
     }
     let scaffold_numbers = 3 * positions;
     let mut room = [0usize; 61];
-    rows_of(rows, Group::Strand, reads::places(&mut room, users));
-    let strand_rows = first_places(&room, users);
+    rows_of(rows, Group::Strand, first_mut(&mut room, users));
+    let strand_rows = first(&room, users);
     let mut strands = [0usize; 549];
-    parts::strands(
-        rows,
-        strand_rows,
-        reads::places(&mut strands, strand_numbers),
-    );
+    parts::strands(rows, strand_rows, first_mut(&mut strands, strand_numbers));
     let mut sites = [0usize; 128];
-    rows_of(rows, Group::Position, reads::places(&mut sites, positions));
+    rows_of(rows, Group::Position, first_mut(&mut sites, positions));
     let mut scaffold = [0usize; 384];
     parts::positions(
         rows,
-        first_places(&sites, positions),
-        reads::places(&mut scaffold, scaffold_numbers),
+        first(&sites, positions),
+        first_mut(&mut scaffold, scaffold_numbers),
     );
     let quencher = copied(text, rows, strand_rows, Group::Quencher);
     let reporter = copied(text, rows, strand_rows, Group::Reporter);
@@ -69,8 +64,8 @@ pub(crate) fn build(
         rows,
         entries,
         users,
-        first_places(&strands, strand_numbers),
-        first_places(&scaffold, scaffold_numbers),
+        first(&strands, strand_numbers),
+        first(&scaffold, scaffold_numbers),
         Copies { quencher, reporter },
         strand_glues,
         scaffold_glues,
@@ -98,12 +93,12 @@ fn with_entries(
         return Err(Refusal::WrongSize);
     }
     let mut room = [0usize; 1024];
-    rows_of(rows, Group::Entry, reads::places(&mut room, entries));
-    let entry_rows = first_places(&room, entries);
+    rows_of(rows, Group::Entry, first_mut(&mut room, entries));
+    let entry_rows = first(&room, entries);
     let mut names = [0usize; 8192];
-    parts::entries(rows, entry_rows, reads::places(&mut names, 8 * entries));
+    parts::entries(rows, entry_rows, first_mut(&mut names, 8 * entries));
     let mut energies = [0.0; 2048];
-    parts::energies(rows, entry_rows, reads::numbers(&mut energies, 2 * entries));
+    parts::energies(rows, entry_rows, first_mut(&mut energies, 2 * entries));
     let penalty = junction_penalty(rows);
     from_params(
         which,
@@ -111,8 +106,8 @@ fn with_entries(
         users,
         strands,
         scaffold,
-        first_places(&names, 8 * entries),
-        first_numbers(&energies, 2 * entries),
+        first(&names, 8 * entries),
+        first(&energies, 2 * entries),
         Penalty {
             dg: KcalPerMol(penalty.dg),
             ds: KcalPerMolKelvin(penalty.ds),
@@ -148,8 +143,8 @@ pub(crate) fn reply_to(
         users,
         positions,
         entries,
-        reads::bytes(&mut strand_glues, glues),
-        reads::bytes(&mut scaffold_glues, positions),
+        first_mut(&mut strand_glues, glues),
+        first_mut(&mut scaffold_glues, positions),
         &mut dg,
         &mut ds,
     )
@@ -161,18 +156,18 @@ pub(crate) fn glues_reply(text: &[u8], rows: &[Row], users: usize) -> Result<(),
         return Err(Refusal::WrongSize);
     }
     let mut room = [0usize; 61];
-    rows_of(rows, Group::Strand, reads::places(&mut room, users));
+    rows_of(rows, Group::Strand, first_mut(&mut room, users));
     let mut strands = [0usize; 549];
     parts::strands(
         rows,
-        first_places(&room, users),
-        reads::places(&mut strands, 9 * users),
+        first(&room, users),
+        first_mut(&mut strands, 9 * users),
     );
     let mut glues = [0u8; 183];
     strand_glues(
         text,
         users,
-        first_places(&strands, 9 * users),
-        reads::bytes(&mut glues, 3 * users),
+        first(&strands, 9 * users),
+        first_mut(&mut glues, 3 * users),
     )
 }

@@ -1,5 +1,4 @@
 // Words of a line by their place in it. The rows have the words that are names; a number or a keyword is found here.
-use design::reads::byte_at;
 use statements::words::{Word, is_blank};
 
 // Where a walk over the text is: the line, how many words have begun on it, and the last of them.
@@ -15,7 +14,7 @@ struct Walk {
 fn step(walk: Walk, byte: u8, i: usize) -> Walk {
     if byte == b'\n' {
         return Walk {
-            line: std::num::wrapping_add_usize(walk.line, 1),
+            line: walk.line.wrapping_add(1),
             begun: 0,
             inside: false,
             start: i,
@@ -23,20 +22,18 @@ fn step(walk: Walk, byte: u8, i: usize) -> Walk {
     }
     if is_blank(byte) {
         return Walk {
-            line: walk.line,
-            begun: walk.begun,
             inside: false,
-            start: walk.start,
+            ..walk
         };
     }
     if walk.inside {
         return walk;
     }
     Walk {
-        line: walk.line,
-        begun: std::num::wrapping_add_usize(walk.begun, 1),
+        begun: walk.begun.wrapping_add(1),
         inside: true,
         start: i,
+        ..walk
     }
 }
 
@@ -44,27 +41,27 @@ fn step(walk: Walk, byte: u8, i: usize) -> Walk {
 fn word_up_to(start: usize, end: usize) -> Word {
     Word {
         start,
-        size: std::num::wrapping_sub_usize(end, start),
+        size: end.wrapping_sub(start),
     }
 }
 
-// The n-th word of a line, both counted from 1; a word of no bytes where there is none.
-pub(crate) fn word_on_line(text: &[u8], line: usize, n: usize) -> Word {
+// The n-th word of a line, both counted from 1.
+pub(crate) fn word_on_line(text: &[u8], line: usize, n: usize) -> Option<Word> {
     let mut walk = Walk {
         line: 1,
         begun: 0,
         inside: false,
         start: 0,
     };
-    for i in 0..text.len() {
-        let next = step(walk, byte_at(text, i), i);
+    for (i, byte) in text.iter().enumerate() {
+        let next = step(walk, *byte, i);
         if walk.line == line && walk.begun == n && walk.inside && !next.inside {
-            return word_up_to(walk.start, i);
+            return Some(word_up_to(walk.start, i));
         }
         walk = next;
     }
     if walk.line == line && walk.begun == n && walk.inside {
-        return word_up_to(walk.start, text.len());
+        return Some(word_up_to(walk.start, text.len()));
     }
-    Word { start: 0, size: 0 }
+    None
 }

@@ -18,8 +18,7 @@ ghost use Rattle.std.specs.Prelude.{◌≡◌, length};
 use answers::print::Style;
 use answers::reasons::Why;
 use answers::{Spot, unreadable};
-use file::FileRead;
-use reads::first_bytes;
+use reads::first;
 use sdc1d_params::Build;
 use std::env::{Env, FillError};
 use std::fs::OpenOptions;
@@ -43,12 +42,7 @@ fn room() -> [u8; 1048577]
 
 // A file that can't be had. Answers that it was not settled.
 fn failed<W: Write>(out: &mut W, style: Style, path: &[u8], why: Why) -> io::Result<bool> {
-    let nowhere = Spot {
-        line: 0,
-        start: 0,
-        size: 0,
-    };
-    unreadable(out, style, path, b"", nowhere, why)?;
+    unreadable(out, style, path, b"", Spot::default(), why)?;
     Ok(false)
 }
 
@@ -62,8 +56,8 @@ fn settle_file<R: Files, W: Write>(
     text: &mut [u8],
 ) -> io::Result<bool> {
     match file::read(rt, path, text) {
-        FileRead::Failed(why) => failed(out, style, path, why),
-        FileRead::Bytes(size) => settle::settle(out, style, which, path, first_bytes(text, size)),
+        Err(why) => failed(out, style, path, why),
+        Ok(size) => settle::settle(out, style, which, path, first(text, size)),
     }
 }
 
@@ -78,7 +72,7 @@ fn settle_argument<R: Env + Files, W: Write>(
 ) -> io::Result<bool> {
     let mut path = [0u8; 4096];
     match rt.arg(i, &mut path) {
-        Ok(size) => settle_file(rt, out, style, which, first_bytes(&path, size), text),
+        Ok(size) => settle_file(rt, out, style, which, first(&path, size), text),
         Err(_) => failed(out, style, b"", Why::NoSuchFile),
     }
 }
@@ -116,25 +110,9 @@ fn settle_all<R: Env + Files, W: Write>(
 fn is_word<R: Env>(rt: &R, i: usize, word: &[u8]) -> bool {
     let mut given = [0u8; 4096];
     match rt.arg(i, &mut given) {
-        Ok(size) => first_bytes(&given, size) == word,
+        Ok(size) => first(&given, size) == word,
         Err(_) => false,
     }
-}
-
-// The first argument, which the script gives.
-fn style<R: Env>(rt: &R) -> Style {
-    if is_word(rt, 1, b"--json") {
-        return Style::Json;
-    }
-    Style::People
-}
-
-// The second argument, which the script gives too.
-fn which<R: Env>(rt: &R) -> Build {
-    if is_word(rt, 2, b"--archive") {
-        return Build::Archive;
-    }
-    Build::Ordinary
 }
 
 // Writes to the script, where one waits.
@@ -146,9 +124,19 @@ fn tell<R: Files>(rt: &R, status: &[u8]) {
 
 // Settles the files, and writes 0 to the script if each was settled, 1 if not.
 fn main(rt: HostRuntime) -> io::Result<ExitCode> {
+    let style = if is_word(&rt, 1, b"--json") {
+        Style::Json
+    } else {
+        Style::People
+    };
+    let which = if is_word(&rt, 2, b"--archive") {
+        Build::Archive
+    } else {
+        Build::Ordinary
+    };
     let mut text = room();
     let mut out = io::writer(&rt);
-    match settle_all(&rt, &mut out, style(&rt), which(&rt), &mut text) {
+    match settle_all(&rt, &mut out, style, which, &mut text) {
         Ok(true) => tell(&rt, b"0"),
         Ok(false) => tell(&rt, b"1"),
         Err(error) => {

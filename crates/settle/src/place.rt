@@ -12,6 +12,7 @@ use sheet::rows::{Group, rows_of, word_of};
 use statements::grammar::Kind;
 use statements::statement::Row;
 use statements::words::Word;
+use std::ops::Range;
 use utils::string_dna_dg_ds;
 
 // Where it lies, and why.
@@ -24,18 +25,9 @@ pub(crate) struct Found {
 // A reason that lies nowhere in particular.
 pub(crate) fn nowhere(why: Why) -> Found {
     Found {
-        spot: Spot {
-            line: 0,
-            start: 0,
-            size: 0,
-        },
+        spot: Spot::default(),
         why,
     }
-}
-
-// A row's line, 0 where there is no such row.
-pub(crate) fn line_of(rows: &[Row], row: usize) -> usize {
-    rows.get(row).map_or(0, |row| row.line)
 }
 
 // A row's kind.
@@ -46,68 +38,55 @@ fn kind_of(rows: &[Row], row: usize) -> Option<Kind> {
 // A row's line, and a word of it.
 pub(crate) fn at_row(rows: &[Row], row: usize, word: Word, why: Why) -> Found {
     Found {
-        spot: Spot {
-            line: line_of(rows, row),
-            start: word.start,
-            size: word.size,
-        },
+        spot: Spot::at(rows.get(row).map(|row| row.line), word),
         why,
     }
 }
 
 // The n-th word of a line.
-pub(crate) fn on_line(text: &[u8], line: usize, n: usize, why: Why) -> Found {
-    let word = word_on_line(text, line, n);
+pub(crate) fn on_line(text: &[u8], line: Option<usize>, n: usize, why: Why) -> Found {
+    let word = line.and_then(|line| word_on_line(text, line, n));
     Found {
-        spot: Spot {
-            line,
-            start: word.start,
-            size: word.size,
-        },
+        spot: Spot { line, word },
         why,
     }
 }
 
 // Whether a sequence by itself is refused so.
 fn is_refused_so(text: &[u8], bases: Word, refusal: Refusal) -> bool {
-    match string_dna_dg_ds(part(text, bases.start, bases.size)) {
-        Ok(_) => false,
-        Err(given) => given == refusal,
-    }
+    string_dna_dg_ds(part(text, bases.start, bases.size)).err() == Some(refusal)
 }
 
-// The word of a row that holds a sequence: 0 is none of an entry's.
-fn bases_place(kind: Option<Kind>) -> usize {
-    match kind {
-        Some(Kind::EnergySequence) => 1,
-        Some(Kind::PairSequence) => 2,
-        _ => 0,
+// The word of a row that holds a sequence.
+fn bases_of(rows: &[Row], row: usize) -> Option<Word> {
+    match kind_of(rows, row)? {
+        Kind::EnergySequence => Some(word_of(rows, row, 1)),
+        Kind::PairSequence => Some(word_of(rows, row, 2)),
+        _ => None,
     }
-}
-
-// The first row whose sequence is refused so, or the number of rows.
-fn sequence_row(text: &[u8], rows: &[Row], refusal: Refusal) -> usize {
-    for row in 0..rows.len() {
-        let place = bases_place(kind_of(rows, row));
-        if 0 < place && is_refused_so(text, word_of(rows, row, place), refusal) {
-            return row;
-        }
-    }
-    rows.len()
 }
 
 // The first sequence that is refused so.
 fn in_sequence(text: &[u8], rows: &[Row], refusal: Refusal, why: Why) -> Found {
-    let row = sequence_row(text, rows, refusal);
-    let place = bases_place(kind_of(rows, row));
-    at_row(rows, row, word_of(rows, row, place), why)
+    for row in 0..rows.len() {
+        if let Some(bases) = bases_of(rows, row) {
+            if is_refused_so(text, bases, refusal) {
+                return at_row(rows, row, bases, why);
+            }
+        }
+    }
+    nowhere(why)
 }
 
-// The first row of a kind, or the number of rows.
-pub(crate) fn row_of(rows: &[Row], kind: Kind) -> usize {
-    rows.iter()
-        .position(|row| row.kind == kind)
-        .unwrap_or(rows.len())
+// The first row of a kind.
+pub(crate) fn row_of(rows: &[Row], kind: Kind) -> Option<usize> {
+    rows.iter().position(|row| row.kind == kind)
+}
+
+// Its line.
+pub(crate) fn line_of(rows: &[Row], kind: Kind) -> Option<usize> {
+    let row = row_of(rows, kind)?;
+    rows.get(row).map(|row| row.line)
 }
 
 // The row of a group's member, counted from 0.
@@ -119,24 +98,20 @@ fn member_row(rows: &[Row], group: Group, member: usize) -> usize {
 
 // ---- size
 
-// The words of a row that are names of glues, from one up to before another.
-#[derive(Clone, Copy)]
-struct Slots(usize, usize);
-
 // Which words of a strand's or an entry's row are names of glues.
-fn own_slots(kind: Option<Kind>) -> Slots {
+fn own_slots(kind: Option<Kind>) -> Range<usize> {
     match kind {
-        Some(Kind::Strand) => Slots(1, 4),
-        Some(Kind::EnergyGiven | Kind::EnergySequence) => Slots(0, 1),
-        Some(Kind::PairGiven | Kind::PairSequence) => Slots(0, 2),
-        _ => Slots(0, 0),
+        Some(Kind::Strand) => 1..4,
+        Some(Kind::EnergyGiven | Kind::EnergySequence) => 0..1,
+        Some(Kind::PairGiven | Kind::PairSequence) => 0..2,
+        _ => 0..0,
     }
 }
 
 // Which words of any row are.
-fn glue_slots(kind: Option<Kind>) -> Slots {
+fn glue_slots(kind: Option<Kind>) -> Range<usize> {
     match kind {
-        Some(Kind::Position | Kind::Blocked) => Slots(0, 1),
+        Some(Kind::Position | Kind::Blocked) => 0..1,
         _ => own_slots(kind),
     }
 }
@@ -146,16 +121,22 @@ fn is_refused(text: &[u8], name: Word) -> bool {
     self_and_inverse(text, name.start, name.size).is_err()
 }
 
-// The first name of a row that is refused, or a word of no bytes.
-fn refused_name(text: &[u8], rows: &[Row], row: usize) -> Word {
-    let slots = glue_slots(kind_of(rows, row));
-    for j in slots.0..slots.1 {
+// The first name in a row's slots that meets a test.
+fn first_name<F: Fn(Word) -> bool>(
+    rows: &[Row],
+    row: usize,
+    slots: Range<usize>,
+    test: F,
+) -> Option<Word>
+    requires { F.IsAlwaysCallable test }
+{
+    for j in slots {
         let name = word_of(rows, row, j);
-        if is_refused(text, name) {
-            return name;
+        if test(name) {
+            return Some(name);
         }
     }
-    Word { start: 0, size: 0 }
+    None
 }
 
 // Whether a row is of the quencher or the reporter, and names a strand that is not there.
@@ -165,34 +146,30 @@ fn names_no_strand(text: &[u8], rows: &[Row], strand_rows: &[usize], row: usize)
         Some(Kind::Reporter) => Group::Reporter,
         _ => return false,
     };
-    match copied(text, rows, strand_rows, group) {
-        Copied::Nothing => false,
-        Copied::Strand(number) => number == 0,
-    }
+    matches!(copied(text, rows, strand_rows, group), Copied::Strand(0))
 }
 
-// What is too large, or not there, in a row; line 0 where nothing is.
-fn size_of_row(text: &[u8], rows: &[Row], strand_rows: &[usize], row: usize) -> Found {
-    let name = refused_name(text, rows, row);
-    if 0 < name.size {
-        return at_row(rows, row, name, Why::LongName);
+// What is too large, or not there, in a row.
+fn size_of_row(text: &[u8], rows: &[Row], strand_rows: &[usize], row: usize) -> Option<Found> {
+    let slots = glue_slots(kind_of(rows, row));
+    if let Some(name) = first_name(rows, row, slots, |name| is_refused(text, name)) {
+        return Some(at_row(rows, row, name, Why::LongName));
     }
-    let place = bases_place(kind_of(rows, row));
-    let bases = word_of(rows, row, place);
-    if 0 < place && is_refused_so(text, bases, Refusal::WrongSize) {
-        return at_row(rows, row, bases, Why::LongSequence);
+    if let Some(bases) = bases_of(rows, row) {
+        if is_refused_so(text, bases, Refusal::WrongSize) {
+            return Some(at_row(rows, row, bases, Why::LongSequence));
+        }
     }
     if names_no_strand(text, rows, strand_rows, row) {
-        return at_row(rows, row, word_of(rows, row, 0), Why::NoSuchStrand);
+        return Some(at_row(rows, row, word_of(rows, row, 0), Why::NoSuchStrand));
     }
-    nowhere(Why::Refused)
+    None
 }
 
 // The first row in which something is too large or not there.
 fn in_size(text: &[u8], rows: &[Row], strand_rows: &[usize]) -> Found {
     for row in 0..rows.len() {
-        let here = size_of_row(text, rows, strand_rows, row);
-        if 0 < here.spot.line {
+        if let Some(here) = size_of_row(text, rows, strand_rows, row) {
             return here;
         }
     }
@@ -209,23 +186,11 @@ fn is_retired(text: &[u8], name: Word) -> bool {
     }
 }
 
-// The first name of a strand or an entry that does, or a word of no bytes. Names of the scaffold follow the old rule.
-fn retired_name(text: &[u8], rows: &[Row], row: usize) -> Word {
-    let slots = own_slots(kind_of(rows, row));
-    for j in slots.0..slots.1 {
-        let name = word_of(rows, row, j);
-        if is_retired(text, name) {
-            return name;
-        }
-    }
-    Word { start: 0, size: 0 }
-}
-
-// The first row that has such a name.
+// The first row of a strand or an entry that has such a name. Names of the scaffold follow the old rule.
 fn in_stars(text: &[u8], rows: &[Row]) -> Found {
     for row in 0..rows.len() {
-        let name = retired_name(text, rows, row);
-        if 0 < name.size {
+        let slots = own_slots(kind_of(rows, row));
+        if let Some(name) = first_name(rows, row, slots, |name| is_retired(text, name)) {
             return at_row(rows, row, name, Why::TwoStars);
         }
     }
@@ -243,12 +208,9 @@ fn positions_for(
     positions: usize,
     entries: usize,
 ) -> usize {
-    for count in 0..positions {
-        if reply_to(text, rows, users, count, entries) == Err(refusal) {
-            return count;
-        }
-    }
-    positions
+    (0..positions)
+        .position(|count| reply_to(text, rows, users, count, entries) == Err(refusal))
+        .unwrap_or(positions)
 }
 
 // How few entries.
@@ -260,22 +222,16 @@ fn entries_for(
     positions: usize,
     entries: usize,
 ) -> usize {
-    for count in 0..entries {
-        if reply_to(text, rows, users, positions, count) == Err(refusal) {
-            return count;
-        }
-    }
-    entries
+    (0..entries)
+        .position(|count| reply_to(text, rows, users, positions, count) == Err(refusal))
+        .unwrap_or(entries)
 }
 
 // How few strands, for a reply to their glues alone.
 fn strands_for(refusal: Refusal, text: &[u8], rows: &[Row], users: usize) -> usize {
-    for count in 0..users {
-        if glues_reply(text, rows, count) == Err(refusal) {
-            return count;
-        }
-    }
-    users
+    (0..users)
+        .position(|count| glues_reply(text, rows, count) == Err(refusal))
+        .unwrap_or(users)
 }
 
 // The last of so many members of a group.

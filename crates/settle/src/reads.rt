@@ -2,65 +2,17 @@
 
 // All from a place on.
 pub(crate) fn tail(bytes: &mut [u8], start: usize) -> &mut [u8] {
-    if bytes.len() < start {
-        return &mut bytes[0..0];
-    }
-    let end = bytes.len();
-    &mut bytes[start..end]
+    let start = start.min(bytes.len());
+    &mut bytes[start..]
 }
 
 // The first n entries, or all where there are fewer.
-pub(crate) fn first_places(places: &[usize], n: usize) -> &[usize] {
-    if places.len() < n {
-        return places;
-    }
-    &places[0..n]
-}
-
-// The first n bytes.
-pub(crate) fn first_bytes(bytes: &[u8], n: usize) -> &[u8] {
-    if bytes.len() < n {
-        return bytes;
-    }
-    &bytes[0..n]
-}
-
-// The first n doubles.
-pub(crate) fn first_numbers(numbers: &[f64], n: usize) -> &[f64] {
-    if numbers.len() < n {
-        return numbers;
-    }
-    &numbers[0..n]
-}
-
-// The first n words of a deck.
-pub(crate) fn first_words(words: &[u32], n: usize) -> &[u32] {
-    if words.len() < n {
-        return words;
-    }
-    &words[0..n]
+pub(crate) fn first<T>(slice: &[T], n: usize) -> &[T] {
+    slice.get(..n).unwrap_or(slice)
 }
 
 // The same, to be written.
-pub(crate) fn places(places: &mut [usize], n: usize) -> &mut [usize] {
-    if places.len() < n {
-        return places;
-    }
-    &mut places[0..n]
-}
-
-// The first n bytes, to be written.
-pub(crate) fn bytes(bytes: &mut [u8], n: usize) -> &mut [u8] {
-    if bytes.len() < n {
-        return bytes;
-    }
-    &mut bytes[0..n]
-}
-
-// The first n doubles, to be written.
-pub(crate) fn numbers(numbers: &mut [f64], n: usize) -> &mut [f64] {
-    if numbers.len() < n {
-        return numbers;
-    }
-    &mut numbers[0..n]
+pub(crate) fn first_mut<T>(slice: &mut [T], n: usize) -> &mut [T] {
+    let n = n.min(slice.len());
+    &mut slice[..n]
 }

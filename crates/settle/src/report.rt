@@ -1,6 +1,5 @@
 // What is printed of a settled design, gathered from its rows.
-use crate::reads;
-use crate::reads::{first_places, first_words};
+use crate::reads::{first, first_mut};
 use answers::print::Style;
 use answers::settled;
 use deck::DeckForm;
@@ -27,9 +26,9 @@ pub(crate) fn report<W: Write>(
 ) -> io::Result<bool> {
     let positions = configuration.len();
     let mut room = [0usize; 128];
-    rows_of(rows, Group::Position, reads::places(&mut room, positions));
+    rows_of(rows, Group::Position, first_mut(&mut room, positions));
     let mut glues = [Word::default(); 128];
-    parts::shown(rows, first_places(&room, positions), &mut glues);
+    parts::shown(rows, first(&room, positions), &mut glues);
     report_names(
         out,
         style,
@@ -81,7 +80,7 @@ fn report_names<W: Write>(
         configuration,
         marks,
         energy,
-        first_words(&deck, size),
+        first(&deck, size),
     )?;
     Ok(true)
 }

@@ -1,9 +1,9 @@
 // From a file's bytes to what is printed of it.
 use crate::build::{MOST_ENTRIES, MOST_POSITIONS, MOST_USERS, build};
-use crate::place::Found;
-use crate::reads::{first_bytes, first_numbers, first_places};
+use crate::place::{Found, nowhere};
+use crate::reads::{first, first_mut};
 use crate::report::report;
-use crate::{place, reads, unfit};
+use crate::{place, unfit};
 use answers::print::Style;
 use answers::reasons::Why;
 use answers::{Spot, refused, unreadable};
@@ -44,9 +44,7 @@ fn refuse<W: Write>(
     refusal: Refusal,
     found: Found,
 ) -> io::Result<bool> {
-    let spot = found.spot;
-    let why = found.why;
-    refused(out, style, path, text, refusal, spot, why)?;
+    refused(out, style, path, text, refusal, found.spot, found.why)?;
     Ok(false)
 }
 
@@ -54,9 +52,8 @@ fn refuse<W: Write>(
 fn at_line(line: usize, why: Why) -> Found {
     Found {
         spot: Spot {
-            line,
-            start: 0,
-            size: 0,
+            line: Some(line),
+            word: None,
         },
         why,
     }
@@ -70,9 +67,7 @@ fn complain<W: Write>(
     text: &[u8],
     found: Found,
 ) -> io::Result<bool> {
-    let spot = found.spot;
-    let why = found.why;
-    unreadable(out, style, path, text, spot, why)?;
+    unreadable(out, style, path, text, found.spot, found.why)?;
     Ok(false)
 }
 
@@ -94,19 +89,14 @@ pub(crate) fn settle<W: Write>(
                     path,
                     text,
                     Refusal::WrongSize,
-                    at_line(0, Why::TooManyRows),
+                    nowhere(Why::TooManyRows),
                 );
             }
             settle_rows(out, style, which, path, text, &rows[..n])
         }
         Err(ReadFault::Unreadable(line, fault)) => {
-            let spot = Spot {
-                line,
-                start: fault.word.start,
-                size: fault.word.size,
-            };
             let found = Found {
-                spot,
+                spot: Spot::at(Some(line), fault.word),
                 why: Why::Line(fault.reason),
             };
             complain(out, style, path, text, found)
@@ -119,7 +109,7 @@ pub(crate) fn settle<W: Write>(
             Refusal::WrongSize,
             at_line(line, Why::TooManyRows),
         ),
-        Err(ReadFault::TooLong) => complain(out, style, path, text, at_line(0, Why::TooLong)),
+        Err(ReadFault::TooLong) => complain(out, style, path, text, nowhere(Why::TooLong)),
     }
 }
 
@@ -135,19 +125,14 @@ fn settle_rows<W: Write>(
     match sheet::faults::check(text, rows) {
         Ok(counts) => settle_sheet(out, style, which, path, text, rows, counts),
         Err(SheetFault::NameTwice(line, word)) => {
-            let spot = Spot {
-                line,
-                start: word.start,
-                size: word.size,
-            };
             let found = Found {
-                spot,
+                spot: Spot::at(Some(line), word),
                 why: Why::NameTwice,
             };
             complain(out, style, path, text, found)
         }
         Err(SheetFault::GivenTwice(line, _)) => {
-            let found = place::on_line(text, line, 1, Why::GivenTwice);
+            let found = place::on_line(text, Some(line), 1, Why::GivenTwice);
             complain(out, style, path, text, found)
         }
         Err(SheetFault::TooMany(line, group)) => refuse(
@@ -158,7 +143,7 @@ fn settle_rows<W: Write>(
             Refusal::WrongSize,
             at_line(line, too_many(group)),
         ),
-        Err(SheetFault::NoAmbient) => complain(out, style, path, text, at_line(0, Why::NoAmbient)),
+        Err(SheetFault::NoAmbient) => complain(out, style, path, text, nowhere(Why::NoAmbient)),
     }
 }
 
@@ -184,13 +169,13 @@ fn settle_sheet<W: Write>(
             path,
             text,
             Refusal::WrongSize,
-            at_line(0, Why::TooManyRows),
+            nowhere(Why::TooManyRows),
         );
     }
     let glue_count = 3 * (users + 3);
     let mut room = [0usize; 61];
-    rows_of(rows, Group::Strand, reads::places(&mut room, users));
-    let strand_rows = first_places(&room, users);
+    rows_of(rows, Group::Strand, first_mut(&mut room, users));
+    let strand_rows = first(&room, users);
     let mut glues = [0u8; 192];
     let mut scaffold = [0u8; 128];
     let mut dg = [0.0; 4096];
@@ -202,8 +187,8 @@ fn settle_sheet<W: Write>(
         users,
         positions,
         entries,
-        reads::bytes(&mut glues, glue_count),
-        reads::bytes(&mut scaffold, positions),
+        first_mut(&mut glues, glue_count),
+        first_mut(&mut scaffold, positions),
         &mut dg,
         &mut ds,
     ) {
@@ -223,8 +208,8 @@ fn settle_sheet<W: Write>(
             rows,
             strand_rows,
             entries,
-            first_bytes(&scaffold, positions),
-            first_bytes(&glues, glue_count),
+            first(&scaffold, positions),
+            first(&glues, glue_count),
             &dg,
             &ds,
         ),
@@ -290,8 +275,8 @@ fn settle_design<W: Write>(
 fn mark(rows: &[Row], marks: &mut [u8]) {
     let positions = marks.len();
     let mut chosen = [0usize; 128];
-    rows_of(rows, Group::Position, reads::places(&mut chosen, positions));
-    parts::blocks(rows, first_places(&chosen, positions), marks);
+    rows_of(rows, Group::Position, first_mut(&mut chosen, positions));
+    parts::blocks(rows, first(&chosen, positions), marks);
 }
 
 // A settled design: the energy of its lowest configuration, and how many states it has, where so many are counted.
@@ -348,11 +333,11 @@ fn search<W: Write>(
     }
     let strands = strand_rows.len() + 3;
     let mut room = [0.0; 64];
-    parts::potentials(rows, strand_rows, reads::numbers(&mut room, strands));
-    let potentials = first_numbers(&room, strands);
+    parts::potentials(rows, strand_rows, first_mut(&mut room, strands));
+    let potentials = first(&room, strands);
     let mut blocks = [0u8; 128];
-    mark(rows, reads::bytes(&mut blocks, positions));
-    let marks = first_bytes(&blocks, positions);
+    mark(rows, first_mut(&mut blocks, positions));
+    let marks = first(&blocks, positions);
     let mut configuration = [0u8; 128];
     match lowest(
         scaffold,
@@ -362,7 +347,7 @@ fn search<W: Write>(
         ds,
         potentials,
         ambient,
-        reads::bytes(&mut configuration, positions),
+        first_mut(&mut configuration, positions),
     ) {
         Err(given) => refuse(
             out,
@@ -381,7 +366,7 @@ fn search<W: Write>(
             strand_rows,
             entries,
             answer.states,
-            first_bytes(&configuration, positions),
+            first(&configuration, positions),
             marks,
             answer.energy.0,
         ),

@@ -8,8 +8,7 @@ use statements::statement::Row;
 
 // The temperature of `kelvin`.
 pub(crate) fn of_kelvin(text: &[u8], rows: &[Row]) -> Found {
-    let line = line_of(rows, row_of(rows, Kind::Kelvin));
-    on_line(text, line, 2, Why::KelvinRange)
+    on_line(text, line_of(rows, Kind::Kelvin), 2, Why::KelvinRange)
 }
 
 // The word of the ambient's line that holds one of its numbers: RT, then the two excesses.
@@ -21,15 +20,16 @@ fn ambient_word(number: usize) -> usize {
     }
 }
 
-// The row of a strand by its number: the user strands, the quencher, the reporter.
-fn row_of_strand(rows: &[Row], strand_rows: &[usize], strand: usize) -> usize {
-    if strand <= strand_rows.len() {
-        if strand == 0 {
-            return rows.len();
-        }
-        return strand_rows[strand - 1];
+// The row of a strand by its number: 0 is none, then the user strands, the quencher, the reporter.
+fn row_of_strand(rows: &[Row], strand_rows: &[usize], strand: usize) -> Option<usize> {
+    if strand == 0 {
+        return None;
     }
-    if strand - 1 == strand_rows.len() {
+    let user = strand - 1;
+    if user < strand_rows.len() {
+        return Some(strand_rows[user]);
+    }
+    if user == strand_rows.len() {
         return row_of(rows, Kind::Quencher);
     }
     row_of(rows, Kind::Reporter)
@@ -45,13 +45,13 @@ pub(crate) fn of_design(
     let place = refused.place.unwrap_or(0);
     match refused.refusal {
         Refusal::AmbientOut => {
-            let line = line_of(rows, row_of(rows, Kind::Ambient));
+            let line = line_of(rows, Kind::Ambient);
             on_line(text, line, ambient_word(place), Why::AmbientRange)
         }
-        Refusal::PotentialOut => {
-            let row = row_of_strand(rows, strand_rows, place);
-            at_row(rows, row, word_of(rows, row, 0), Why::PotentialRange)
-        }
+        Refusal::PotentialOut => match row_of_strand(rows, strand_rows, place) {
+            Some(row) => at_row(rows, row, word_of(rows, row, 0), Why::PotentialRange),
+            None => nowhere(Why::PotentialRange),
+        },
         _ => nowhere(Why::Refused),
     }
 }

@@ -1,9 +1,11 @@
 -- `replay::designs::strand_bond` meets its contract: the call has the definition's figures, and the rest of the line says them. Assumes nothing.
-use Rattle.std.proofs.Common.{ap, ◌∙◌}
+use Rattle.std.proofs.Common.{ap, ◌∙◌, subst}
 use Rattle.replay.specs.Kinds.{word, later}
-use Rattle.replay.proofs.Words.{as_byte}
+use Rattle.replay.proofs.Words.{as-decimal}
 use Rattle.replay.proofs.Tests.{never}
 use Rattle.replay.proofs.Figures.{says-as}
+use Rattle.design.specs.Design.{Design}
+use Rattle.replay.specs.Designs.{StrandBondLine}
 use Rattle.replay.proofs.designs.strand_bond.Goals as goal
 
 pub returns-in_default : goal.returns-in_default
@@ -16,10 +18,10 @@ pub returns : goal.returns
 returns c = λ e.
     let told = c.mj_strand_bond-reply.ensures in
     let rest = c.past-rest.ensures in
-    record {
-      x = c.in-Is.x;
-      y = c.in-Is-small.y;
-      first = as_byte c.up_to.ensures c.in-Is.is c.small.ensures;
-      second = as_byte (c.up_to-2.ensures ∙ ap word rest) c.in-Is-small.is c.small-2.ensures;
+    subst (λ (d : Design). StrandBondLine d c.args.words.now) c.design.view_is (record {
+      x = c.in-Some.x;
+      y = c.in-Some-small.y;
+      first = as-decimal c.up_to.ensures c.in-Some.ensures;
+      second = as-decimal (c.up_to-2.ensures ∙ ap word rest) c.in-Some-small.ensures;
       answer = says-as (c.past.ensures ∙ ap later rest) told.number (rw (c.bits.ensures, told.figure)) (c.says.ensures e);
-    }
+    })

@@ -20,9 +20,9 @@ returns c = λ e.
     let told = c.mj_loop_penalty-reply.ensures in
     let rest = c.past-rest.ensures in
     record {
-      size = c.in-Is.length;
-      kind = c.in-Is-decimal.kind;
-      first = as-decimal c.up_to.ensures c.in-Is.is c.decimal.ensures;
-      second = as-decimal (c.up_to-2.ensures ∙ ap word rest) c.in-Is-decimal.is c.decimal-2.ensures;
+      size = c.in-Some.length;
+      kind = c.in-Some-decimal.kind;
+      first = as-decimal c.up_to.ensures c.in-Some.ensures;
+      second = as-decimal (c.up_to-2.ensures ∙ ap word rest) c.in-Some-decimal.ensures;
       answer = says-as (c.past.ensures ∙ ap later rest) told.value (rw (c.bits.ensures, told.dg_after)) (c.says.ensures e);
     }

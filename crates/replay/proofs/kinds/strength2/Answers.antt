@@ -1,7 +1,6 @@
 -- `replay::kinds::strength2` meets its contract: the call has the definition's figures, and the rest of the line says them. Assumes nothing.
-use Rattle.std.proofs.Common.{ap, ◌∙◌}
+use Rattle.std.proofs.Common.{ap, ◌∙◌, sym}
 use Rattle.replay.specs.Kinds.{word, later, letters}
-use Rattle.replay.proofs.Words.{as-hex}
 use Rattle.replay.proofs.Tests.{never}
 use Rattle.replay.proofs.Figures.{says-as}
 use Rattle.replay.proofs.kinds.strength2.Goals as goal
@@ -17,8 +16,8 @@ returns c = λ e.
     let s = c.letters-a.ensures ∙ ap letters (c.up_to-2.ensures ∙ ap word rest) in
     let t = c.letters-b.ensures ∙ ap letters (c.up_to-3.ensures ∙ ap word last) in
     record {
-      excess = c.in-Is.read;
-      first = as-hex c.up_to.ensures c.in-Is.is c.hex.ensures;
+      excess = c.in-Some.read;
+      first = sym c.up_to.ensures ∙ c.in-Some.ensures;
       answer =
           says-as (c.past.ensures ∙ ap later last) (rw (told.value, s, t, c.double-excess.ensures))
           (rw (c.bits.ensures, told.strength_after, s, t, c.double-excess.ensures))

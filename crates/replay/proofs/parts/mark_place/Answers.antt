@@ -1,21 +1,11 @@
-use Rattle.std.proofs.Common.{eqb, arith, eq-eqb, ne_eqb}
-use Rattle.lists.proofs.Find.{first-here, first-later, first_past}
+-- `replay::parts::mark_place` meets its contract. Assumes nothing.
+use Rattle.std.proofs.Common.{eqb, refl}
+use Rattle.lists.proofs.Find.{first-le}
+use Rattle.decimals.proofs.Worth.{position_first}
 use Rattle.replay.proofs.parts.mark_place.Goals as goal
-
-pub returns-then-mark-text : goal.returns-then-mark-text
-returns-then-mark-text c =
-    let text = c.args.text.now in
-    let mark = c.args.mark in
-    let i = c.loop-i.i in
-    omega (arith, first-here (eqb mark) text i 0 (omega arith) (eq-eqb _ _ c.if-mark-text.true))
-
-pub loop-i-preserved : goal.loop-i-preserved
-loop-i-preserved c =
-    let text = c.args.text.now in
-    let mark = c.args.mark in
-    let i = c.loop-i.i in
-    (omega arith, omega (arith, first-later (eqb mark) text i 0 (omega arith) (ne_eqb _ _ c.if-mark-text.false)))
 
 pub returns : goal.returns
 returns c =
-    omega (arith, first_past (eqb c.args.mark) c.args.text.now c.loop-i.i (omega arith))
+    let text = c.args.text.now in
+    let mark = c.args.mark in
+    rw (c.unwrap_or.ensures, c.first_mark.ensures, position_first (eqb mark) text) (refl, first-le (eqb mark) text)

@@ -12,23 +12,23 @@ slice_bounds-same-end c = sym (length-take-le 2 c.args.words.now (omega arith))
 pub returns-then-not-same : goal.returns-then-not-same
 returns-then-not-same c = λ e. never e
 
-pub loop-i-init : goal.loop-i-init
-loop-i-init c =
+pub loop-figure-init : goal.loop-figure-init
+loop-figure-init c =
     let words = c.args.words.now in
     let two = c.same.ensures.0 c.if-not-same.false in
-    (omega arith, (omega arith, λ e. sym (take-append-drop 2 words) ∙ rw (two, e)))
+    (omega arith, λ e. sym (take-append-drop 2 words) ∙ rw (two, e))
 
 pub returns-then-not-has_figure : goal.returns-then-not-has_figure
 returns-then-not-has_figure c = λ e. never e
 
-pub loop-i-preserved : goal.loop-i-preserved
-loop-i-preserved c =
+pub loop-figure-preserved : goal.loop-figure-preserved
+loop-figure-preserved c =
     let a = c.args in
     let figure = c.has_figure.ensures c.if-not-has_figure.false in
-    (omega arith, (figure.within, λ e. c.loop-i.invariant.1.1 (figures-more a.words.now a.figures.now c.loop-i.at c.loop-i.i (omega arith) figure e)))
+    (figure.within, λ e. c.loop-figure.invariant.1 (figures-more a.words.now a.figures.now c.loop-figure.at c.loop-figure.figure-index (omega arith) figure e))
 
 pub returns : goal.returns
 returns c = λ e.
     let a = c.args in
-    let end : c.loop-i.at ≡ length a.words.now = eqb-true _ _ e in
-    c.loop-i.invariant.1.1 (figures-done a.words.now a.figures.now c.loop-i.at c.loop-i.i (omega arith) (omega arith))
+    let end : c.loop-figure.at ≡ length a.words.now = eqb-true _ _ e in
+    c.loop-figure.invariant.1 (figures-done a.words.now a.figures.now c.loop-figure.at c.loop-figure.figure-index (omega arith) (omega arith))

@@ -16,9 +16,9 @@ returns-then-value-gt255 c = λ e. never e
 pub returns : goal.returns
 returns c = λ e.
     record {
-      index = c.in-Is.index;
-      value = c.in-Is-decimal.value;
-      first = as-decimal c.up_to.ensures c.in-Is.is c.decimal.ensures;
-      second = as-decimal c.past.ensures c.in-Is-decimal.is c.decimal-2.ensures;
+      index = c.in-Some.index;
+      value = c.in-Some-decimal.value;
+      first = as-decimal c.up_to.ensures c.in-Some.ensures;
+      second = as-decimal c.past.ensures c.in-Some-decimal.ensures;
       entries = refl;
     }

@@ -1,5 +1,6 @@
 -- `replay::setting::set_double` meets its contract. Assumes nothing.
-use Rattle.replay.proofs.Words.{as-decimal, as-hex}
+use Rattle.std.proofs.Common.{sym, ◌∙◌}
+use Rattle.replay.proofs.Words.{as-decimal}
 use Rattle.replay.proofs.Tests.{never}
 use Rattle.replay.proofs.setting.set_double.Goals as goal
 
@@ -15,9 +16,9 @@ returns-then-slice-at c = λ e. never e
 pub returns : goal.returns
 returns c = λ e.
     record {
-      index = c.in-Is.index;
-      bits = c.in-Is-hex.bits;
-      first = as-decimal c.up_to.ensures c.in-Is.is c.decimal.ensures;
-      second = as-hex c.past.ensures c.in-Is-hex.is c.hex.ensures;
+      index = c.in-Some.index;
+      bits = c.in-Some-hex.bits;
+      first = as-decimal c.up_to.ensures c.in-Some.ensures;
+      second = sym c.past.ensures ∙ c.in-Some-hex.ensures;
       entries = rw c.double.ensures;
     }

@@ -1,8 +1,0 @@
--- `replay::replay` is safe and ends: each turn leaves one fewer. Assumes nothing.
-use Rattle.replay.proofs.replay.Given as goal
-
-abbrev pub invariant-loop-turns : goal.invariant-loop-turns
-invariant-loop-turns g l = Unit {0}
-
-abbrev pub decreases-loop-turns : goal.decreases-loop-turns
-decreases-loop-turns g l = l.turns
