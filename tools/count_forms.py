@@ -35,9 +35,8 @@ def functions(text):
     """Each function's name, head (up to its clauses), clauses and body."""
     for m in FUNCTION.finditer(text):
         indent = m.group(1)
-        open_at = text.find(f"\n{indent}{{\n", m.start())
-        on_line = re.compile(r"\{\n").search(text, m.start())
-        head_end = open_at if open_at >= 0 and (on_line is None or "\n    ensures" in text[m.start() : open_at] or "\n    requires" in text[m.start() : open_at] or on_line.start() > open_at) else on_line.start()
+        # The body's brace ends the line of the head, or stands on a line of its own after the clauses.
+        head_end = re.compile(r"\{\n").search(text, m.start()).start()
         end = text.find(f"\n{indent}}}\n", head_end)
         head = text[m.start() : head_end]
         clauses = re.findall(r"^\s+(requires|ensures)(?: \w+)? \{ (.*) \}$", head, re.M)

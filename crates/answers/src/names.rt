@@ -1,12 +1,10 @@
-// Who sits at a place, and the names under which strands are shown.
-use crate::print::{Style, print, print_bytes, width};
+// Who sits at a position, and the names under which strands are shown.
+use crate::SettledDesign;
 use crate::reads::part;
 use design::reads::byte_at;
 use statements::words::Word;
-use std::io;
-use std::io::Write;
 
-// Who sits at a place.
+// Who sits at a position.
 #[derive(Clone, Copy)]
 pub(crate) enum Occupant {
     Nobody,
@@ -18,62 +16,53 @@ pub(crate) enum Occupant {
     Blocked,
 }
 
-// By the number in a configuration: 0, the user strands, the quencher, the reporter.
-pub(crate) fn occupant_of(number: usize, users: usize) -> Occupant {
-    if number == 0 {
-        return Occupant::Nobody;
-    }
-    if number <= users {
-        return Occupant::Strand(number - 1);
-    }
-    if number - 1 == users {
-        return Occupant::Quencher;
-    }
-    Occupant::Reporter
-}
-
-// At position i. Where the position is blocked, nobody can sit.
-pub(crate) fn occupant_at(configuration: &[u8], marks: &[u8], users: usize, i: usize) -> Occupant {
-    if byte_at(marks, i) == 1 {
-        return Occupant::Blocked;
-    }
-    occupant_of(byte_at(configuration, i) as usize, users)
-}
-
-// Word i of a list, an absent one past its end.
-pub(crate) fn word_at(words: &[Word], i: usize) -> Word {
-    words.get(i).copied().unwrap_or_default()
-}
-
-// The names of the user strands stand in the text.
-pub(crate) fn occupant_width(occupant: Occupant, text: &[u8], strand_names: &[Word]) -> usize {
-    match occupant {
-        Occupant::Nobody => 1,
-        Occupant::Strand(i) => {
-            let name = word_at(strand_names, i);
-            width(part(text, name.start, name.size))
+impl SettledDesign<'_> {
+    // By the number in a configuration: 0, the user strands, the quencher, the reporter.
+    pub(crate) fn occupant_of(&self, number: u8) -> Occupant {
+        let number = usize::from(number);
+        let users = self.strand_names.len();
+        if number == 0 {
+            return Occupant::Nobody;
         }
-        Occupant::Quencher | Occupant::Reporter => 8,
-        Occupant::Blocked => 7,
-    }
-}
-
-// Writes the name of who sits at a place.
-pub(crate) fn print_occupant<W: Write>(
-    out: &mut W,
-    occupant: Occupant,
-    text: &[u8],
-    strand_names: &[Word],
-    style: Style,
-) -> io::Result<()> {
-    match occupant {
-        Occupant::Nobody => print(out, b"-"),
-        Occupant::Strand(i) => {
-            let name = word_at(strand_names, i);
-            print_bytes(out, part(text, name.start, name.size), style)
+        if number <= users {
+            return Occupant::Strand(number - 1);
         }
-        Occupant::Quencher => print(out, b"quencher"),
-        Occupant::Reporter => print(out, b"reporter"),
-        Occupant::Blocked => print(out, b"blocked"),
+        if number - 1 == users {
+            return Occupant::Quencher;
+        }
+        Occupant::Reporter
+    }
+
+    // At position i. Where the position is blocked, nobody can sit.
+    pub(crate) fn occupant_at(&self, i: usize) -> Occupant {
+        if byte_at(self.marks, i) == 1 {
+            return Occupant::Blocked;
+        }
+        self.occupant_of(byte_at(self.configuration, i))
+    }
+
+    // The bytes of word i of a list; nothing past its end.
+    fn word_at(&self, words: &[Word], i: usize) -> &[u8] {
+        let word = words.get(i).copied().unwrap_or_default();
+        part(self.text, word.start, word.size)
+    }
+
+    // The name of who sits at a position.
+    pub(crate) fn name_of(&self, occupant: Occupant) -> &[u8] {
+        match occupant {
+            Occupant::Nobody => b"-",
+            Occupant::Strand(i) => self.word_at(self.strand_names, i),
+            Occupant::Quencher => b"quencher",
+            Occupant::Reporter => b"reporter",
+            Occupant::Blocked => b"blocked",
+        }
+    }
+
+    // The glue of position i, or - where it has none: its word has no bytes.
+    pub(crate) fn glue_at(&self, i: usize) -> &[u8] {
+        match self.word_at(self.glues, i) {
+            [] => b"-",
+            glue => glue,
+        }
     }
 }

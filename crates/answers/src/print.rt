@@ -1,7 +1,6 @@
 // What is written: texts, numbers, and the bytes of a file as people or a JSON reader can take them.
 use crate::reads::part;
 use decimals::PrintFault;
-use design::reads::byte_at;
 use std::io;
 use std::io::Write;
 
@@ -12,42 +11,105 @@ pub enum Style {
     Json,
 }
 
-// Writes a text.
-pub(crate) fn print<W: Write>(out: &mut W, text: &[u8]) -> io::Result<()> {
-    out.write_all(text)
+// A writer, and whom it writes for.
+#[derive(Drop)]
+pub(crate) struct Printer<'a, W: Write> {
+    pub(crate) out: &'a mut W,
+    pub(crate) style: Style,
 }
 
-// A number's text, where it has one.
-fn print_made<W: Write>(
-    out: &mut W,
-    made: Result<usize, PrintFault>,
-    text: &[u8],
-) -> io::Result<()> {
-    if let Ok(size) = made {
-        print(out, part(text, 0, size))?;
+impl<W: Write> Printer<'_, W> {
+    // Writes a text.
+    pub(crate) fn print(&mut self, text: &[u8]) -> io::Result<()> {
+        self.out.write_all(text)
     }
-    Ok(())
-}
 
-// A number of things.
-pub(crate) fn print_count<W: Write>(out: &mut W, n: usize) -> io::Result<()> {
-    let mut text = [0u8; 20];
-    let made = decimals::write_count(n as u64, &mut text);
-    print_made(out, made, &text)
-}
+    // A number's text, where it has one.
+    fn print_made(&mut self, made: Result<usize, PrintFault>, text: &[u8]) -> io::Result<()> {
+        if let Ok(size) = made {
+            self.print(part(text, 0, size))?;
+        }
+        Ok(())
+    }
 
-// The last digits of a number in hexadecimal.
-pub(crate) fn print_hex<W: Write>(out: &mut W, n: u64, digits: usize) -> io::Result<()> {
-    let mut text = [0u8; 16];
-    let made = decimals::write_hex(n, digits, &mut text);
-    print_made(out, made, &text)
-}
+    // A number of things.
+    pub(crate) fn print_count(&mut self, n: usize) -> io::Result<()> {
+        let mut text = [0u8; 20];
+        let made = decimals::write_count(n as u64, &mut text);
+        self.print_made(made, &text)
+    }
 
-// A number to six places.
-pub(crate) fn print_fixed<W: Write>(out: &mut W, x: f64) -> io::Result<()> {
-    let mut text = [0u8; 32];
-    let made = decimals::write_fixed(x, &mut text);
-    print_made(out, made, &text)
+    // The last digits of a number in hexadecimal.
+    pub(crate) fn print_hex(&mut self, n: u64, digits: usize) -> io::Result<()> {
+        let mut text = [0u8; 16];
+        let made = decimals::write_hex(n, digits, &mut text);
+        self.print_made(made, &text)
+    }
+
+    // A number to six places.
+    pub(crate) fn print_fixed(&mut self, x: f64) -> io::Result<()> {
+        let mut text = [0u8; 32];
+        let made = decimals::write_fixed(x, &mut text);
+        self.print_made(made, &text)
+    }
+
+    // A byte that is not plain. People get \x and two digits; JSON \u and four, so that the character's number is the byte.
+    fn print_odd(&mut self, byte: u8) -> io::Result<()> {
+        match (byte, self.style) {
+            (b'"' | b'\\', Style::People) => self.print(&[byte]),
+            (b'"' | b'\\', Style::Json) => self.print(&[b'\\', byte]),
+            (_, Style::People) => {
+                self.print(b"\\x")?;
+                self.print_hex(u64::from(byte), 2)
+            }
+            (_, Style::Json) => {
+                self.print(b"\\u00")?;
+                self.print_hex(u64::from(byte), 2)
+            }
+        }
+    }
+
+    // The plain bytes in front and the odd one behind them; answers what is left.
+    fn print_run<'b>(&mut self, bytes: &'b [u8]) -> io::Result<&'b [u8]> {
+        let odd = bytes.iter().position(|byte| !is_plain(*byte));
+        let (plain, rest) = bytes.split_at(odd.unwrap_or(bytes.len()));
+        self.print(plain)?;
+        match rest {
+            [odd, rest @ ..] => {
+                self.print_odd(*odd)?;
+                Ok(rest)
+            }
+            [] => Ok(rest),
+        }
+    }
+
+    // Bytes of a file, or of its name. A run has a byte at least, so there are turns enough.
+    pub(crate) fn print_bytes(&mut self, bytes: &[u8]) -> io::Result<()> {
+        let mut rest = bytes;
+        for turn in 0..bytes.len() {
+            if rest.is_empty() {
+                break;
+            }
+            rest = self.print_run(rest)?;
+        }
+        Ok(())
+    }
+
+    // So many blanks.
+    pub(crate) fn print_blanks(&mut self, n: usize) -> io::Result<()> {
+        for turn in 0..n {
+            self.print(b" ")?;
+        }
+        Ok(())
+    }
+
+    // Before every item of a JSON list but the first.
+    pub(crate) fn print_comma(&mut self, i: usize) -> io::Result<()> {
+        if 0 < i {
+            self.print(b",")?;
+        }
+        Ok(())
+    }
 }
 
 // A byte that stands for itself in any output: printable ASCII, but for the two bytes that JSON strings escape.
@@ -57,58 +119,6 @@ fn is_plain(byte: u8) -> bool {
         b' '..=b'~' => true,
         _ => false,
     }
-}
-
-// The first place from `at` on whose byte is not plain, or the end.
-fn plain_end(bytes: &[u8], at: usize) -> usize {
-    for i in at..bytes.len() {
-        if !is_plain(byte_at(bytes, i)) {
-            return i;
-        }
-    }
-    bytes.len()
-}
-
-// A byte that is not plain. People get \x and two digits; JSON \u and four, so that the character's number is the byte.
-fn print_odd<W: Write>(out: &mut W, byte: u8, style: Style) -> io::Result<()> {
-    let code = byte as u64;
-    match byte {
-        b'"' | b'\\' => {
-            if let Style::Json = style {
-                print(out, b"\\")?;
-            }
-            print(out, &[byte])
-        }
-        _ => {
-            match style {
-                Style::People => print(out, b"\\x")?,
-                Style::Json => print(out, b"\\u00")?,
-            }
-            print_hex(out, code, 2)
-        }
-    }
-}
-
-// Plain bytes from a place on and the odd one behind them, and the place after that.
-fn print_run<W: Write>(out: &mut W, bytes: &[u8], at: usize, style: Style) -> io::Result<usize> {
-    let end = plain_end(bytes, at);
-    print(out, part(bytes, at, end.wrapping_sub(at)))?;
-    if end < bytes.len() {
-        print_odd(out, byte_at(bytes, end), style)?;
-    }
-    Ok(end.wrapping_add(1))
-}
-
-// Bytes of a file, or of its name. A run has a byte at least, so there are turns enough.
-pub(crate) fn print_bytes<W: Write>(out: &mut W, bytes: &[u8], style: Style) -> io::Result<()> {
-    let mut at = 0;
-    for turn in 0..bytes.len() {
-        if bytes.len() <= at {
-            return Ok(());
-        }
-        at = print_run(out, bytes, at, style)?;
-    }
-    Ok(())
 }
 
 // How wide bytes are as people get them.
@@ -126,12 +136,4 @@ fn byte_width(byte: u8) -> usize {
         b' '..=b'~' => 1,
         _ => 4,
     }
-}
-
-// So many blanks.
-pub(crate) fn print_blanks<W: Write>(out: &mut W, n: usize) -> io::Result<()> {
-    for i in 0..n {
-        print(out, b" ")?;
-    }
-    Ok(())
 }

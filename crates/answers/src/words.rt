@@ -1,33 +1,30 @@
 // The documents' trade words for the refusals.
-use crate::print::print;
 use reply::Refusal;
-use std::io;
-use std::io::Write;
 
 // The trade word of a refusal.
-pub(crate) fn print_trade_word<W: Write>(out: &mut W, refusal: Refusal) -> io::Result<()> {
+pub(crate) fn trade_word(refusal: Refusal) -> &'static [u8] {
     match refusal {
-        Refusal::WrongSize => print(out, b"size"),
-        Refusal::NotABase => print(out, b"base"),
-        Refusal::TooShort => print(out, b"short"),
-        Refusal::UnequalLengths => print(out, b"unequal"),
-        Refusal::NoSuchLoop => print(out, b"loop"),
-        Refusal::UnknownName => print(out, b"unknown"),
-        Refusal::TooManyGlues => print(out, b"glues"),
-        Refusal::DuplicatePair => print(out, b"twice"),
-        Refusal::OutOfRange => print(out, b"range"),
-        Refusal::NullBinds => print(out, b"null"),
-        Refusal::NotAFriend => print(out, b"stranger"),
-        Refusal::TooManyStates => print(out, b"many"),
-        Refusal::RankTooHigh => print(out, b"rank"),
-        Refusal::BadDeck => print(out, b"deck"),
-        Refusal::AmbientOut => print(out, b"ambient"),
-        Refusal::PotentialOut => print(out, b"potential"),
-        Refusal::BareScaffold => print(out, b"bare"),
-        Refusal::WeightOut => print(out, b"weight"),
-        Refusal::NotARing => print(out, b"ring"),
-        Refusal::TwoStars => print(out, b"stars"),
-        Refusal::NotAJob => print(out, b"job"),
-        Refusal::NoneUnder => print(out, b"none"),
+        Refusal::WrongSize => b"size",
+        Refusal::NotABase => b"base",
+        Refusal::TooShort => b"short",
+        Refusal::UnequalLengths => b"unequal",
+        Refusal::NoSuchLoop => b"loop",
+        Refusal::UnknownName => b"unknown",
+        Refusal::TooManyGlues => b"glues",
+        Refusal::DuplicatePair => b"twice",
+        Refusal::OutOfRange => b"range",
+        Refusal::NullBinds => b"null",
+        Refusal::NotAFriend => b"stranger",
+        Refusal::TooManyStates => b"many",
+        Refusal::RankTooHigh => b"rank",
+        Refusal::BadDeck => b"deck",
+        Refusal::AmbientOut => b"ambient",
+        Refusal::PotentialOut => b"potential",
+        Refusal::BareScaffold => b"bare",
+        Refusal::WeightOut => b"weight",
+        Refusal::NotARing => b"ring",
+        Refusal::TwoStars => b"stars",
+        Refusal::NotAJob => b"job",
+        Refusal::NoneUnder => b"none",
     }
 }

@@ -21,8 +21,11 @@ use design::Design;
 use design::checks::design_reply;
 use design::options::fill_options;
 use design::tables::{fill_scaffold_bonds, fill_strand_bonds};
-use ensemble::energies::state_sum;
+use ensemble::bonds::Bonds;
+use ensemble::energies::Places;
+use ensemble::lent::LentModel;
 use ensemble::lowest::lowest;
+use ensemble::options::Options;
 use reply::Refused;
 use reply::limits::POSITIONS;
 use sdc1d::{energy_reply, number_of_states, state_at_rank};
@@ -77,7 +80,13 @@ pub fn state_energy_over(
         &mut pairs,
         &mut logs,
     );
-    let sumg = state_sum(configuration, &sites, &pairs, &logs);
+    let places = Places {
+        configuration,
+        sites: &sites,
+        pairs: &pairs,
+        logs: &logs,
+    };
+    let sumg = places.state_sum();
     Ok(design.rt().scale(sumg))
 }
 
@@ -104,7 +113,11 @@ pub fn state_over(
 }
 
 // The options of an admitted design, and the search over them and lent bonds.
-fn lowest_over(design: &Design, tables: &BondTables, configuration: &mut [u8]) -> KcalPerMol
+fn lowest_over<'a>(
+    design: &Design<'a>,
+    tables: &BondTables<'a>,
+    configuration: &mut [u8],
+) -> KcalPerMol
     requires admitted { Admitted design.now }
     requires short { positions design.now ≤ 128 }
     requires some { 0 < strands design.now }
@@ -118,15 +131,17 @@ fn lowest_over(design: &Design, tables: &BondTables, configuration: &mut [u8]) -
     let mut counts = [0u8; POSITIONS];
     let counts = &mut counts[..design.positions()];
     fill_options(design, &mut rows, counts);
-    lowest(
-        &rows,
+    let options = Options {
+        rows: &rows,
         counts,
+        strands: design.strands(),
+    };
+    let bonds = Bonds::new(
         tables.strand_bonds,
         tables.scaffold_bonds,
         design.potentials(),
-        design.rt(),
-        configuration,
-    )
+    );
+    lowest(&LentModel { options, bonds }, design.rt(), configuration)
 }
 
 // That every cell of a table is a double, for the laws that ask it.

@@ -4,7 +4,7 @@
 mod under;
 
 ghost use Rattle.std.specs.Prelude.{◌≡◌, ◌*◌, ◌<◌, ◌≤◌, length};
-ghost use Rattle.ensemble.specs.Layout.{Searchable, OptionRows};
+ghost use Rattle.ensemble.specs.Layout.{OptionRows};
 ghost use Rattle.design.specs.Design.{positions, strands, model_of};
 ghost use Rattle.design.specs.Checks.{Admitted, TablesPass};
 ghost use Rattle.design.specs.Answers.{energy_figures};
@@ -14,6 +14,9 @@ ghost use Rattle.ceiling.specs.inner.Found.{FoundUnder};
 
 use design::Design;
 use design::checks::{numbers_reply, ranged_reply};
+use ensemble::bonds::Bonds;
+use ensemble::lent::LentModel;
+use ensemble::options::Options;
 use ensemble::states::MOST_STATES;
 use prepared::bonds::fill_bonds;
 use prepared::options::count_options;
@@ -42,34 +45,26 @@ fn is_finite(x: f64) -> bool
 // The bonds of an admitted design, and the first state under the ceiling over these: its energy, where there is one.
 fn search_states(
     design: &Design,
-    rows: &[u8],
-    counts: &[u8],
+    options: &Options,
     ceiling: KcalPerMol,
     entries: &mut [u8],
 ) -> Option<f64>
-    requires searchable { Searchable (strands design.now) rows.now counts.now }
+    requires same_strands { options.now.strands ≡ strands design.now }
     requires strands_nonzero { 0 < strands design.now }
-    requires entries_len { length entries.old ≡ length counts.now }
-    ensures { Admitted design.now → OptionRows (model_of design.now) rows.now counts.now → FoundUnder (model_of design.now) ceiling.0 entries.old entries.new result }
+    requires entries_len { length entries.old ≡ length options.now.counts.now }
+    ensures { Admitted design.now → OptionRows (model_of design.now) options.now.rows.now options.now.counts.now → FoundUnder (model_of design.now) ceiling.0 entries.old entries.new result }
 {
     let mut strand_bonds = [0.0; STRAND_BONDS];
     let mut scaffold_bonds = [0.0; SCAFFOLD_BONDS];
-    fill_bonds(design, rows, counts, &mut strand_bonds, &mut scaffold_bonds);
+    fill_bonds(design, options, &mut strand_bonds, &mut scaffold_bonds);
+    let bonds = Bonds::new(&strand_bonds, &scaffold_bonds, design.potentials());
+    let options = *options;
+    let lent = LentModel { options, bonds };
     let limit = Limit {
-        rt: design.ambient.rt.0,
+        rt: design.rt().0,
         ceiling: ceiling.0,
     };
-    under_from(
-        rows,
-        counts,
-        &strand_bonds,
-        &scaffold_bonds,
-        design.potentials,
-        limit,
-        Begun::nobody(),
-        0,
-        entries,
-    )
+    under_from(&lent, limit, Begun::nobody(), 0, entries)
 }
 
 // What is answered where the design's tables pass and the ceiling is finite: the number of states is judged, then the design's numbers, then whether
@@ -91,7 +86,12 @@ fn counted(
     let states = count_options(design, rows, counts);
     refused_if(Refusal::TooManyStates, MOST_STATES < states)?;
     numbers_reply(design)?;
-    match search_states(design, rows, counts, ceiling, entries) {
+    let options = Options {
+        rows,
+        counts,
+        strands: design.strands(),
+    };
+    match search_states(design, &options, ceiling, entries) {
         Some(energy) => Ok(KcalPerMol(energy)),
         None => Err(Refusal::NoneUnder.into()),
     }

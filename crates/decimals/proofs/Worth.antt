@@ -1,6 +1,6 @@
 -- What bytes are worth as digits, and numbers by their digits. Assumes nothing.
 use mathlib.Core.Path.{◌≡◌, refl, sym, ap, ◌∙◌}
-use mathlib.Core.Bool.{Bool, true, false, not, cond, ◌&&◌}
+use mathlib.Core.Bool.{Bool, true, false, not, ◌&&◌}
 use mathlib.Core.Logic.{◌⊎◌, inl, inr}
 use mathlib.Core.List.{List, [], ◌∷◌, ◌++◌}
 use Prim.Native.Nat.{ℕ, suc, ◌+◌, ◌-◌, ◌*◌, ◌/◌, ◌^◌, ◌≤◌, ◌<◌, min}
@@ -10,24 +10,8 @@ use native.Mathlib.Omega.{arith}
 use lib.Dec.{T, leb, ltb, ltb→lt, nltb→le}
 use lib.ListN.{length, get_or, drop}
 use lib.Seq.{drop-cons}
-use borrow.Author.Tests.{le-leb, lt-leb, leb-false, lt-ltb, le-ltb}
-use Rattle.std.specs.Option.{unwrap_or}
-use Rattle.std.specs.List.{position, position_or_len}
-use Rattle.std.proofs.lemmas.Bool.{cases_lt}
-use Rattle.std.proofs.lemmas.List.Recursion.{is_position_or_len}
-use Rattle.lists.specs.Find.{first_index}
-use Rattle.lists.proofs.Find.{first-le}
+use borrow.Author.Tests.{le-leb, lt-leb, leb-false}
 use Rattle.decimals.specs.Digits.{among, digit_value, not_digit, numeral}
-
--- ---- a run
--- the first place that passes a test, as a search through a slice gives it
-pub position_first : (p : ℕ → Bool) (xs : List ℕ) → unwrap_or (position p xs) (length xs) ≡ first_index p xs
-unfolding first_index
-position_first p xs =
-    let n = position_or_len p xs in
-    let same : first_index p xs ≡ n = is_position_or_len (first_index p) p refl (λ x xs. ap (λ (k : ℕ). cond (p x) 0 k) (omega arith)) xs in
-    let most = first-le p xs in
-    elim (cases_lt n (length xs)) [ inl h ↦ rw (lt-ltb n (length xs) h) (sym same) | inr h ↦ rw (le-ltb n (length xs) h) (omega arith) ]
 
 -- ---- a byte
 inside : (first last b : ℕ) → first ≤ b → b ≤ last → among first last b ≡ true

@@ -59,7 +59,7 @@ fn digit(n: u64) -> u8
 }
 
 // The last digits of n, as many as there are lent bytes.
-pub fn put_digits(n: u64, base: u64, out: &mut [u8])
+pub(crate) fn put_digits(n: u64, base: u64, out: &mut [u8])
     requires { (1 ≤ base) × (base ≤ 16) }
     ensures { out.new ≡ digits_in base (length out.old) n }
 {
@@ -76,6 +76,7 @@ pub(crate) fn count_places(n: u64) -> usize
 {
     let mut left = n;
     let mut count = 1;
+    // By the value that is left: how often it is divided is what is asked.
     while 10 <= left {
         left /= 10;
         count += 1;

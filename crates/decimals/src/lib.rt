@@ -7,13 +7,12 @@ mod printing;
 mod reading;
 mod rounding;
 
-ghost use Rattle.std.specs.Prelude.{◌≡◌};
+ghost use Rattle.std.specs.Prelude.{◌≡◌, ◌≤◌, IfOk, length, take};
 ghost use Rattle.decimals.specs.Digits.{digits_in, decimal_digits};
 ghost use Rattle.decimals.specs.Number.{number_of};
 ghost use Rattle.decimals.specs.Print.{printed, laid, fixed_printed, fixed_out};
 
-pub use digits::put_digits;
-use digits::{count_places, read_digits};
+use digits::{count_places, put_digits, read_digits};
 use doubles::double;
 use printing::{in_millionths, write_millionths};
 use reading::{decimal, is_pattern};
@@ -59,7 +58,8 @@ pub fn read_number(word: &[u8]) -> Result<f64, NumberFault>
 // The last `digits` hexadecimal digits of n, in lower case: 16 are the bits of a double, 8 a word of a deck. The length of a printed text is
 // returned: it stands in the first lent bytes.
 pub fn write_hex(n: u64, digits: usize, out: &mut [u8]) -> Result<usize, PrintFault>
-    ensures { (result ≡ printed (digits_in 16 digits n) out.old) × (out.new ≡ laid (digits_in 16 digits n) out.old) }
+    ensures answer { (result ≡ printed (digits_in 16 digits n) out.old) × (out.new ≡ laid (digits_in 16 digits n) out.old) }
+    ensures front { IfOk result (λ size. (size ≤ length out.old) × (take size out.new ≡ digits_in 16 digits n)) }
 {
     if out.len() < digits {
         return Err(PrintFault::TooShort);
@@ -70,7 +70,8 @@ pub fn write_hex(n: u64, digits: usize, out: &mut [u8]) -> Result<usize, PrintFa
 
 // A natural number in decimal digits.
 pub fn write_count(n: u64, out: &mut [u8]) -> Result<usize, PrintFault>
-    ensures { (result ≡ printed (decimal_digits n) out.old) × (out.new ≡ laid (decimal_digits n) out.old) }
+    ensures answer { (result ≡ printed (decimal_digits n) out.old) × (out.new ≡ laid (decimal_digits n) out.old) }
+    ensures front { IfOk result (λ size. (size ≤ length out.old) × (take size out.new ≡ decimal_digits n)) }
 {
     let count = count_places(n);
     if out.len() < count {

@@ -6,8 +6,6 @@ pub mod Decks
 pub mod Beginning
 pub mod Walk
 pub mod Faults
-pub mod Searches
-pub mod Asked
 pub mod Laying
 pub mod FirstRun
 pub mod Neighbours

@@ -28,6 +28,7 @@ pub(crate) fn pack(form: DeckForm, configuration: &[u8], words: &mut [u32]) -> u
     }
     .bits();
     let mut count = 1;
+    // A `while`: how many positions a word stands for is known only where it begins.
     let mut at = 0;
     while at < configuration.len() {
         let run = run_at(form, configuration, at);

@@ -14,7 +14,7 @@ use Rattle.model.specs.Model.{Model, Friend, friends_at}
 use Rattle.model.specs.Search.{options_at}
 use Rattle.ensemble.specs.Layout.{OptionRows, BondCells, option_in}
 use Rattle.ensemble.specs.Ring.{ClosingCells}
-use Rattle.ensemble.proofs.Options.{count-is, option_is}
+use Rattle.ensemble.proofs.OptionRows.{count-is, option_is}
 use Rattle.design.specs.Design.{Design, strands, strand_bond_in, scaffold_bond_in, model_of}
 use Rattle.design.specs.Checks.{Admitted, TablesPass}
 use Rattle.design.specs.Filling.{NullNowhere, Holds, PairsHeld, ClosingHeld, SitesHeld}

@@ -1,4 +1,3 @@
-pub mod Searches
 pub mod Sizes
 pub mod Parts
 pub mod Optioned

@@ -137,6 +137,10 @@ is_friend d i strand = not (blocked d i) && befriends (scaffold_glue d i) d.glue
 abbrev pub friends_of : Design → ℕ → List ℕ
 friends_of d = friends_in d.scaffold d.marks d.glues d.dg d.ds (strands d)
 
+-- a design with other marks
+abbrev pub remarked : Design → List ℕ → Design
+remarked d marks = design d.scaffold marks d.glues d.dg d.ds d.potentials d.ambient
+
 -- the model that a design gives
 unfoldable pub model_of : Design → Model
 unfolding tabulate friends_to scaffold_bond strand_bond

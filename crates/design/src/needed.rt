@@ -1,32 +1,12 @@
 // The bonds that a search reads, in lent cells, row first, as wide as there are strands: where positions have few friends these are few. The value
 // of a cell depends on its row and column alone, so a cell that is written twice keeps it.
 ghost use Rattle.std.specs.Prelude.{◌≡◌, ℕ, ◌+◌, ◌*◌, ◌-◌, ◌<◌, ◌≤◌, length, get_or, take, drop, Float};
-ghost use Rattle.ensemble.specs.Layout.{Searchable};
 ghost use Rattle.design.specs.Design.{strands, strand_bond_in, scaffold_bond_in};
 ghost use Rattle.design.specs.Filling.{Among, GivesAt, Kept, HeldAt, PairsHeld, ClosingHeld, SitesHeld};
 
 use super::Design;
 use super::tables::fill_strand_bonds;
-
-// The options of a position.
-fn options_at<'a>(rows: &'a [u8], counts: &[u8], position: usize) -> &'a [u8]
-    requires searchable { (strands : ℕ) × Searchable strands rows.now counts.now }
-    requires position_in_bounds { position < length counts.now }
-    ensures { result.now ≡ take (get_or counts.now position 0) (drop (64 * position) rows.now) }
-{
-    let first = 64 * position;
-    &rows[first..first + usize::from(counts[position])]
-}
-
-// The friends of a position: its options without empty, the last.
-fn friends_at<'a>(rows: &'a [u8], counts: &[u8], position: usize) -> &'a [u8]
-    requires searchable { (strands : ℕ) × Searchable strands rows.now counts.now }
-    requires position_in_bounds { position < length counts.now }
-    ensures { result.now ≡ take (get_or counts.now position 0 - 1) (drop (64 * position) rows.now) }
-{
-    let first = 64 * position;
-    &rows[first..first + usize::from(counts[position]) - 1]
-}
+use ensemble::options::Options;
 
 // The bonds of a row with each of the strands that are listed.
 fn fill_cells<F: Fn(u8) -> f64>(
@@ -70,18 +50,14 @@ fn fill_neighbours(design: &Design, left: &[u8], friends: &[u8], cells: &mut [f6
 }
 
 // The strand bonds that a search over these options reads.
-pub fn fill_needed_strand_bonds(design: &Design, rows: &[u8], counts: &[u8], cells: &mut [f64])
-    requires searchable { Searchable (strands design.now) rows.now counts.now }
+pub fn fill_needed_strand_bonds(design: &Design, options: &Options, cells: &mut [f64])
+    requires same_strands { options.now.strands ≡ strands design.now }
     requires strands_in_bounds { strands design.now * strands design.now ≤ length cells.old }
-    ensures { PairsHeld (strand_bond_in design.now) (strands design.now) cells.new rows.now counts.now (length counts.now - 1) }
+    ensures { PairsHeld (strand_bond_in design.now) (strands design.now) cells.new options.now.rows.now options.now.counts.now (length options.now.counts.now - 1) }
 {
-    for right in 1..counts.len() {
-        fill_neighbours(
-            design,
-            options_at(rows, counts, right - 1),
-            friends_at(rows, counts, right),
-            cells,
-        );
+    // By number, as in the next two loops: what is asked of two neighbours, or of a position, is asked by it.
+    for right in 1..options.counts.len() {
+        fill_neighbours(design, options.of(right - 1), options.friends(right), cells);
     }
 }
 
@@ -99,50 +75,45 @@ fn pairs_read(counts: &[u8]) -> usize
 }
 
 // The same bonds, by the whole table where a search reads more than half as many as that has.
-pub fn fill_read_strand_bonds(design: &Design, rows: &[u8], counts: &[u8], cells: &mut [f64])
-    requires searchable { Searchable (strands design.now) rows.now counts.now }
+pub fn fill_read_strand_bonds(design: &Design, options: &Options, cells: &mut [f64])
+    requires same_strands { options.now.strands ≡ strands design.now }
     requires strands_in_bounds { strands design.now * strands design.now ≤ length cells.old }
-    ensures { PairsHeld (strand_bond_in design.now) (strands design.now) cells.new rows.now counts.now (length counts.now - 1) }
+    ensures { PairsHeld (strand_bond_in design.now) (strands design.now) cells.new options.now.rows.now options.now.counts.now (length options.now.counts.now - 1) }
 {
     let strands = design.strands();
-    if strands * strands < 2 * pairs_read(counts) {
+    if strands * strands < 2 * pairs_read(options.counts) {
         fill_strand_bonds(design, cells);
     } else {
-        fill_needed_strand_bonds(design, rows, counts, cells);
+        fill_needed_strand_bonds(design, options, cells);
     }
 }
 
 // The strand bonds by which a ring over these options is closed: from the last position to the first. What was filled stays.
-pub fn fill_closing_bonds(design: &Design, rows: &[u8], counts: &[u8], cells: &mut [f64])
-    requires searchable { Searchable (strands design.now) rows.now counts.now }
-    requires counts_nonzero { 0 < length counts.now }
+pub fn fill_closing_bonds(design: &Design, options: &Options, cells: &mut [f64])
+    requires same_strands { options.now.strands ≡ strands design.now }
+    requires counts_nonzero { 0 < length options.now.counts.now }
     requires strands_in_bounds { strands design.now * strands design.now ≤ length cells.old }
     ensures kept { Kept (strand_bond_in design.now) (strands design.now) cells.old cells.new }
-    ensures closing_held { ClosingHeld (strand_bond_in design.now) (strands design.now) cells.new rows.now counts.now }
+    ensures closing_held { ClosingHeld (strand_bond_in design.now) (strands design.now) cells.new options.now.rows.now options.now.counts.now }
 {
-    let last = counts.len() - 1;
-    fill_neighbours(
-        design,
-        options_at(rows, counts, last),
-        friends_at(rows, counts, 0),
-        cells,
-    );
+    let last = options.counts.len() - 1;
+    fill_neighbours(design, options.of(last), options.friends(0), cells);
 }
 
 // The scaffold bonds that a search over these options reads.
-pub fn fill_needed_scaffold_bonds(design: &Design, rows: &[u8], counts: &[u8], cells: &mut [f64])
-    requires searchable { Searchable (strands design.now) rows.now counts.now }
-    requires strands_in_bounds { length counts.now * strands design.now ≤ length cells.old }
-    ensures { SitesHeld (scaffold_bond_in design.now) (strands design.now) cells.new rows.now counts.now (length counts.now) }
+pub fn fill_needed_scaffold_bonds(design: &Design, options: &Options, cells: &mut [f64])
+    requires same_strands { options.now.strands ≡ strands design.now }
+    requires strands_in_bounds { length options.now.counts.now * strands design.now ≤ length cells.old }
+    ensures { SitesHeld (scaffold_bond_in design.now) (strands design.now) cells.new options.now.rows.now options.now.counts.now (length options.now.counts.now) }
 {
     let strands = design.strands();
-    for position in 0..counts.len() {
+    for position in 0..options.counts.len() {
         let scaffold_glue = design.scaffold_glue(position);
         fill_cells(
             |strand| design.scaffold_bond(scaffold_glue, strand),
             position,
             strands,
-            friends_at(rows, counts, position),
+            options.friends(position),
             cells,
         );
     }

@@ -1,5 +1,6 @@
 // The options of each position, into lent rows of 64: its friends in rising order, then 0 for empty. A blocked position has no friends.
 ghost use Rattle.std.specs.Prelude.{◌≡◌, false, ◌++◌, ◌+◌, ◌*◌, ◌<◌, ◌≤◌, length, drop};
+ghost use Rattle.model.specs.Model.{Model};
 ghost use Rattle.ensemble.specs.Layout.{Searchable, OptionRows};
 ghost use Rattle.design.specs.Design.{positions, strands, befriends, friends_to, friends_of, scaffold_glue, model_of};
 ghost use Rattle.design.specs.Filling.{NullNowhere, Optioned};
@@ -13,6 +14,7 @@ pub fn write_friends(design: &Design, scaffold_glue: u8, entries: &mut [u8]) -> 
     ensures value { result ≡ length (friends_to scaffold_glue design.now.glues design.now.dg design.now.ds (strands design.now)) }
     ensures entries_after { entries.new ≡ friends_to scaffold_glue design.now.glues design.now.dg design.now.ds (strands design.now) ++ drop (length (friends_to scaffold_glue design.now.glues design.now.dg design.now.ds (strands design.now))) entries.old }
 {
+    // By number, which is what is written: a strand is a number, and there is no slice of strands.
     let mut count = 0;
     for strand in 0..design.strands() as u8 {
         if design.is_friend(scaffold_glue, strand) {
@@ -49,10 +51,11 @@ pub fn fill_options(design: &Design, rows: &mut [u8], counts: &mut [u8])
     requires counts_len { length counts.old ≡ positions design.now }
     requires null_nowhere { NullNowhere design.now.scaffold design.now.glues design.now.dg design.now.ds }
     ensures searchable { Searchable (strands design.now) rows.new counts.new }
-    ensures option_rows { OptionRows (model_of design.now) rows.new counts.new }
+    ensures option_rows { (m : Model) → m.friends ≡ (model_of design.now).friends → OptionRows m rows.new counts.new }
     ensures rows_len_unchanged { length rows.new ≡ length rows.old }
     ensures counts_len_unchanged { length counts.new ≡ length counts.old }
 {
+    // By number: a position's glue and mark are the design's to tell, and a row is a part of one slice.
     for position in 0..design.positions() {
         let row = 64 * position;
         counts[position] = fill_row(design, position, &mut rows[row..row + 64]);

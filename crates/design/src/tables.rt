@@ -27,6 +27,7 @@ fn fill_rows<F: Fn(u8, u8) -> f64>(bond: F, rows: usize, strands: usize, cells: 
     requires cells_in_bounds { rows * strands ≤ length cells.old }
     ensures { (f : ℕ → ℕ → Float) → Gives (F.post bond) f → Grid f nan strands (length cells.old) rows 0 cells.new }
 {
+    // By number, which the bond asks; and there may be no strands, where `chunks_exact_mut` has no size to go by.
     for row in 0..rows {
         let start = row * strands;
         let end = start + strands;

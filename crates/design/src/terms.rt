@@ -1,7 +1,7 @@
 // The terms that the places of a configuration add to its energies.
-ghost use Rattle.std.specs.Prelude.{◌≤◌, length};
+ghost use Rattle.std.specs.Prelude.{List, ℕ, ◌≤◌, length};
 ghost use Rattle.ensemble.specs.Layout.{PlaceTerms};
-ghost use Rattle.design.specs.Design.{model_of};
+ghost use Rattle.design.specs.Design.{remarked, model_of};
 
 use super::Design;
 use super::reads::byte_at;
@@ -18,7 +18,7 @@ pub fn fill_terms(
     requires configuration_in_bounds { length configuration.now ≤ length sites.old }
     requires configuration_in_bounds_2 { length configuration.now ≤ length pairs.old }
     requires configuration_in_bounds_3 { length configuration.now ≤ length logs.old }
-    ensures { PlaceTerms (model_of design.now) configuration.now sites.new pairs.new logs.new }
+    ensures { (marks : List ℕ) → PlaceTerms (model_of (remarked design.now marks)) configuration.now sites.new pairs.new logs.new }
 {
     for (position, &strand) in configuration.iter().enumerate() {
         let right = byte_at(configuration, position + 1);

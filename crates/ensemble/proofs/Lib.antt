@@ -1,11 +1,11 @@
 pub mod Products
-pub mod Options
+pub mod OptionRows
 pub mod Choosing
 pub mod Attachments
 pub mod Rest
 pub mod Vector
 pub mod Passing
-pub mod Lent
+pub mod LentParts
 pub mod LastLeast
 pub mod Ringed
 pub mod FirstOccupants

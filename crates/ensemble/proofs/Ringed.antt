@@ -24,8 +24,8 @@ use Rattle.ensemble.specs.Ring.{ClosingCells}
 use Rattle.ensemble.specs.inner.Entries.{Chosen, Known, table_bond, choice_in, traced_back}
 use Rattle.ensemble.specs.inner.Ring.{closed_in, first_entry, FoundFrom}
 use Rattle.ensemble.specs.inner.Passed.{OptionsOf, Left, Table}
-use Rattle.ensemble.proofs.Lent.{part}
-use Rattle.ensemble.proofs.Options.{count-is, option_is}
+use Rattle.ensemble.proofs.LentParts.{part}
+use Rattle.ensemble.proofs.OptionRows.{count-is, option_is}
 use Rattle.ensemble.proofs.Passing.{found-over}
 
 -- past position 0 the options are the model's

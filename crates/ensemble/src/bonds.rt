@@ -1,10 +1,11 @@
-// A table of strand bonds, row first.
-ghost use Rattle.std.specs.Prelude.{◌≡◌, ℕ, ◌*◌, ◌<◌, ◌≤◌, length, get_or};
+// Bonds as they are lent: strand bonds in a table of strands by strands, scaffold bonds in one of positions by strands, both row first; and potentials.
+ghost use Rattle.std.specs.Prelude.{◌≡◌, ℕ, ◌+◌, ◌*◌, ◌<◌, ◌≤◌, length, get_or};
 ghost use Rattle.std.specs.Float.{nan};
 ghost use Rattle.ensemble.specs.inner.Entries.{table_bond};
 
+// A table of strand bonds.
 #[derive(Clone, Copy)]
-pub(crate) struct StrandBonds<'a> {
+pub struct StrandBonds<'a> {
     pub cells: &'a [f64],
     pub strands: usize,
     ghost few: { strands ≤ 64 },
@@ -13,7 +14,7 @@ pub(crate) struct StrandBonds<'a> {
 
 impl<'a> StrandBonds<'a> {
     // The bond of a left and a right strand.
-    pub(crate) fn between(&self, left: u8, right: usize) -> f64
+    pub fn between(&self, left: u8, right: usize) -> f64
         requires left_known { left < self.now.strands }
         requires right_known { right < self.now.strands }
         ensures { result ≡ table_bond self.now.strands self.now.cells.now left right }
@@ -30,5 +31,47 @@ impl<'a> StrandBonds<'a> {
         let start = usize::from(left) * self.strands;
         let end = start + self.strands;
         &self.cells[start..end]
+    }
+}
+
+// The bonds and the potentials of so many strands.
+#[derive(Clone, Copy)]
+pub struct Bonds<'a> {
+    pub strand_bonds: StrandBonds<'a>,
+    pub scaffold_bonds: &'a [f64],
+    pub potentials: &'a [f64],
+    ghost a_potential_each: { length potentials.now ≡ strand_bonds.strands },
+}
+
+impl<'a> Bonds<'a> {
+    // As a function of its own it gives all three slices one lifetime.
+    pub fn new(strand_bonds: &'a [f64], scaffold_bonds: &'a [f64], potentials: &'a [f64]) -> Self
+        requires few { length potentials.now ≤ 64 }
+        requires square { length potentials.now * length potentials.now ≤ length strand_bonds.now }
+        ensures strand_bonds { result.strand_bonds.cells.now ≡ strand_bonds.now }
+        ensures strands { result.strand_bonds.strands ≡ length potentials.now }
+        ensures scaffold_bonds { result.scaffold_bonds.now ≡ scaffold_bonds.now }
+        ensures potentials { result.potentials.now ≡ potentials.now }
+    {
+        let strand_bonds = StrandBonds {
+            cells: strand_bonds,
+            strands: potentials.len(),
+        };
+        Bonds {
+            strand_bonds,
+            scaffold_bonds,
+            potentials,
+        }
+    }
+
+    // The scaffold bonds of a position, by strand.
+    pub(crate) fn sites(&self, position: usize) -> &'a [f64]
+        requires { position * self.now.strand_bonds.strands + self.now.strand_bonds.strands ≤ length self.now.scaffold_bonds.now }
+        ensures sized { length result.now ≡ self.now.strand_bonds.strands }
+        ensures cells { (x : ℕ) → x < self.now.strand_bonds.strands → get_or result.now x nan ≡ get_or self.now.scaffold_bonds.now (position * self.now.strand_bonds.strands + x) nan }
+    {
+        let start = position * self.strand_bonds.strands;
+        let end = start + self.strand_bonds.strands;
+        &self.scaffold_bonds[start..end]
     }
 }

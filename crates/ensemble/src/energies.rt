@@ -10,11 +10,11 @@ ghost use Rattle.ensemble.specs.Ring.{ClosingTerm};
 
 // The places of a configuration: the occupant of each, the bond and the potential of that, and the bond of each place with its right neighbour.
 #[derive(Clone, Copy)]
-struct Places<'a> {
-    configuration: &'a [u8],
-    sites: &'a [f64],
-    pairs: &'a [f64],
-    logs: &'a [f64],
+pub struct Places<'a> {
+    pub configuration: &'a [u8],
+    pub sites: &'a [f64],
+    pub pairs: &'a [f64],
+    pub logs: &'a [f64],
     ghost a_site_each: { length configuration.now ≤ length sites.now },
     ghost a_pair_each: { length configuration.now ≤ length pairs.now },
     ghost a_log_each: { length configuration.now ≤ length logs.now },
@@ -56,66 +56,42 @@ impl Places<'_> {
         let pair = self.pairs[left];
         sum + pair + site - potential
     }
-}
 
-// The sum of `g_system` over all places, before the product with RT.
-pub fn state_sum(configuration: &[u8], sites: &[f64], pairs: &[f64], logs: &[f64]) -> f64
-    requires configuration_in_bounds { length configuration.now ≤ length sites.now }
-    requires configuration_in_bounds_2 { length configuration.now ≤ length pairs.now }
-    requires configuration_in_bounds_3 { length configuration.now ≤ length logs.now }
-    ensures { (m : Model) → PlaceTerms m configuration.now sites.now pairs.now logs.now → result ≡ sum_from zero (state_terms m 0 configuration.now) }
-{
-    let places = Places {
-        configuration,
-        sites,
-        pairs,
-        logs,
-    };
-    let mut sum = 0.0;
-    for id in 0..configuration.len() {
-        sum = places.add_state_place(sum, id);
+    // The sum of `g_system` over all places, before the product with RT.
+    pub fn state_sum(&self) -> f64
+        ensures { (m : Model) → PlaceTerms m self.now.configuration.now self.now.sites.now self.now.pairs.now self.now.logs.now → result ≡ sum_from zero (state_terms m 0 self.now.configuration.now) }
+    {
+        // By number: a place reads its right neighbour too.
+        let mut sum = 0.0;
+        for id in 0..self.configuration.len() {
+            sum = self.add_state_place(sum, id);
+        }
+        sum
     }
-    sum
-}
 
-// The chain sum over all places, before the product with RT.
-pub fn chain_sum(configuration: &[u8], sites: &[f64], pairs: &[f64], logs: &[f64]) -> f64
-    requires configuration_in_bounds { length configuration.now ≤ length sites.now }
-    requires configuration_in_bounds_2 { length configuration.now ≤ length pairs.now }
-    requires configuration_in_bounds_3 { length configuration.now ≤ length logs.now }
-    ensures { (m : Model) → PlaceTerms m configuration.now sites.now pairs.now logs.now → result ≡ chain_energy m configuration.now }
-{
-    let places = Places {
-        configuration,
-        sites,
-        pairs,
-        logs,
-    };
-    let mut sum = 0.0;
-    for position in 0..configuration.len() {
-        sum = places.add_chain_place(sum, position);
+    // The chain sum over all places, before the product with RT.
+    pub fn chain_sum(&self) -> f64
+        ensures { (m : Model) → PlaceTerms m self.now.configuration.now self.now.sites.now self.now.pairs.now self.now.logs.now → result ≡ chain_energy m self.now.configuration.now }
+    {
+        // By number: a place reads its left neighbour too.
+        let mut sum = 0.0;
+        for position in 0..self.configuration.len() {
+            sum = self.add_chain_place(sum, position);
+        }
+        sum
     }
-    sum
-}
 
-// The ring's sum over all places, before the product with RT: the chain's, and the bond from the last to the first occupant where both places are occupied.
-pub fn ring_sum(
-    configuration: &[u8],
-    sites: &[f64],
-    pairs: &[f64],
-    logs: &[f64],
-    closing: f64,
-) -> f64
-    requires configuration_nonzero { 0 < length configuration.now }
-    requires configuration_in_bounds { length configuration.now ≤ length sites.now }
-    requires configuration_in_bounds_2 { length configuration.now ≤ length pairs.now }
-    requires configuration_in_bounds_3 { length configuration.now ≤ length logs.now }
-    ensures { (m : Model) → PlaceTerms m configuration.now sites.now pairs.now logs.now → ClosingTerm m configuration.now closing → result ≡ closed m (get_or configuration.now 0 0) (get_or configuration.now (length configuration.now - 1) 0) (chain_energy m configuration.now) }
-{
-    let sum = chain_sum(configuration, sites, pairs, logs);
-    let last = configuration.len() - 1;
-    if configuration[0] == 0 || configuration[last] == 0 {
-        return sum;
+    // The ring's sum over all places, before the product with RT: the chain's, and the bond from the last to the first occupant where both places are
+    // occupied.
+    pub fn ring_sum(&self, closing: f64) -> f64
+        requires some { 0 < length self.now.configuration.now }
+        ensures { (m : Model) → PlaceTerms m self.now.configuration.now self.now.sites.now self.now.pairs.now self.now.logs.now → ClosingTerm m self.now.configuration.now closing → result ≡ closed m (get_or self.now.configuration.now 0 0) (get_or self.now.configuration.now (length self.now.configuration.now - 1) 0) (chain_energy m self.now.configuration.now) }
+    {
+        let sum = self.chain_sum();
+        let last = self.configuration.len() - 1;
+        if self.configuration[0] == 0 || self.configuration[last] == 0 {
+            return sum;
+        }
+        sum + closing
     }
-    sum + closing
 }

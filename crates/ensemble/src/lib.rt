@@ -3,10 +3,12 @@
 #![tactic(auto)]
 
 mod attach;
-mod bonds;
+pub mod bonds;
 mod choices;
 pub mod energies;
+pub mod lent;
 pub mod lowest;
+pub mod options;
 mod positions;
 pub mod rings;
 pub mod states;

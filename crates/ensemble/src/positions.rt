@@ -8,80 +8,11 @@ ghost use Rattle.ensemble.specs.inner.Entries.{Known, table_bond, Attachments, L
 ghost use Rattle.ensemble.specs.inner.Passed.{OptionsOf, Passed};
 
 use super::attach::{Entries, attach_each};
-use super::bonds::StrandBonds;
 use super::choices::Choices;
+use super::lent::LentModel;
 use super::sums::attach_all;
 
-// What is lent to a search: the options of each position, the bonds and the potentials.
-#[derive(Clone, Copy)]
-pub(crate) struct Lent<'a> {
-    pub rows: &'a [u8],
-    pub counts: &'a [u8],
-    pub bonds: StrandBonds<'a>,
-    pub scaffold_bonds: &'a [f64],
-    pub potentials: &'a [f64],
-    ghost searchable: { Searchable bonds.strands rows.now counts.now },
-    ghost a_potential_each: { length potentials.now ≡ bonds.strands },
-    ghost a_row_each: { length counts.now * bonds.strands ≤ length scaffold_bonds.now },
-}
-
-impl<'a> Lent<'a> {
-    // As a function of its own it gives all five slices one lifetime.
-    pub(crate) fn new(
-        rows: &'a [u8],
-        counts: &'a [u8],
-        strand_bonds: &'a [f64],
-        scaffold_bonds: &'a [f64],
-        potentials: &'a [f64],
-    ) -> Self
-        requires searchable { Searchable (length potentials.now) rows.now counts.now }
-        requires square { length potentials.now * length potentials.now ≤ length strand_bonds.now }
-        requires a_row_each { length counts.now * length potentials.now ≤ length scaffold_bonds.now }
-        ensures rows { result.rows.now ≡ rows.now }
-        ensures counts { result.counts.now ≡ counts.now }
-        ensures strand_bonds { result.bonds.cells.now ≡ strand_bonds.now }
-        ensures strands { result.bonds.strands ≡ length potentials.now }
-        ensures scaffold_bonds { result.scaffold_bonds.now ≡ scaffold_bonds.now }
-        ensures potentials { result.potentials.now ≡ potentials.now }
-    {
-        let bonds = StrandBonds {
-            cells: strand_bonds,
-            strands: potentials.len(),
-        };
-        Lent {
-            rows,
-            counts,
-            bonds,
-            scaffold_bonds,
-            potentials,
-        }
-    }
-
-    // The options of a position: its friends, and then 0 for empty.
-    pub(crate) fn options(&self, position: usize) -> &'a [u8]
-        requires { position < length self.now.counts.now }
-        ensures row { result.now ≡ take (get_or self.now.counts.now position 0) (drop (64 * position) self.now.rows.now) }
-        ensures sized { length result.now ≡ get_or self.now.counts.now position 0 }
-        ensures some { 0 < length result.now }
-        ensures few { length result.now ≤ 64 }
-        ensures known { Known self.now.bonds.strands result.now }
-    {
-        let start = 64 * position;
-        let end = start + usize::from(self.counts[position]);
-        &self.rows[start..end]
-    }
-
-    // The scaffold bonds of a position, by strand.
-    pub(crate) fn sites(&self, position: usize) -> &'a [f64]
-        requires { position < length self.now.counts.now }
-        ensures sized { length result.now ≡ self.now.bonds.strands }
-        ensures cells { (x : ℕ) → x < self.now.bonds.strands → get_or result.now x nan ≡ get_or self.now.scaffold_bonds.now (position * self.now.bonds.strands + x) nan }
-    {
-        let start = position * self.bonds.strands;
-        let end = start + self.bonds.strands;
-        &self.scaffold_bonds[start..end]
-    }
-
+impl<'a> LentModel<'a, '_> {
     // Goes over the positions from one on. `left` and `energies` are the entries to its left; afterwards what is given and `energies` are those of the
     // last position, and `choices` has the left choices of all that were passed.
     pub(crate) fn pass(
@@ -91,27 +22,27 @@ impl<'a> Lent<'a> {
         energies: &mut [f64; 64],
         choices: &mut Choices,
     ) -> &'a [u8]
-        requires place { first ≤ length self.now.counts.now }
+        requires place { first ≤ length self.now.options.counts.now }
         requires few { length left.now ≤ 64 }
-        requires known { Known self.now.bonds.strands left.now }
+        requires known { Known self.now.options.strands left.now }
         ensures few { length result.now ≤ 64 }
-        ensures known { Known self.now.bonds.strands result.now }
-        ensures passed { (m : Model) (options : ℕ → List ℕ) → OptionRows m self.now.rows.now self.now.counts.now → BondCells m self.now.bonds.strands self.now.bonds.cells.now self.now.scaffold_bonds.now self.now.potentials.now → OptionsOf m options → ((i : ℕ) → first ≤ i → options i ≡ options_at m i) → Passed m options first left.now energies.old choices.old.friends choices.old.empty → Passed m options (length self.now.counts.now) result.now energies.new choices.new.friends choices.new.empty }
+        ensures known { Known self.now.options.strands result.now }
+        ensures passed { (m : Model) (options : ℕ → List ℕ) → OptionRows m self.now.options.rows.now self.now.options.counts.now → BondCells m self.now.options.strands self.now.bonds.strand_bonds.cells.now self.now.bonds.scaffold_bonds.now self.now.bonds.potentials.now → OptionsOf m options → ((i : ℕ) → first ≤ i → options i ≡ options_at m i) → Passed m options first left.now energies.old choices.old.friends choices.old.empty → Passed m options (length self.now.options.counts.now) result.now energies.new choices.new.friends choices.new.empty }
     {
         let mut best = [0.0; 64];
-        for position in first..self.counts.len() {
-            let options = self.options(position);
+        for position in first..self.options.counts.len() {
+            let options = self.options.of(position);
             let friends = &options[..options.len() - 1];
             let entries = Entries {
                 options: left,
                 energies: &energies[..],
-                bonds: self.bonds,
+                bonds: self.bonds.strand_bonds,
             };
             best_energies(&entries, friends, &mut best, &mut choices.friends[position]);
             let empty = entries.least_for_empty();
             mfe_next_vector(
-                self.sites(position),
-                self.potentials,
+                self.bonds.sites(position),
+                self.bonds.potentials,
                 friends,
                 &best,
                 energies,

@@ -1,15 +1,15 @@
-// A design's calls as C functions. A design is lent as sdc1d takes it, marks after the scaffold, the ambient as its three doubles.
+// A design's calls as C callers have them.
 ghost use Rattle.std.specs.Prelude.{◌≡◌};
 ghost use Rattle.design.specs.Answers.{strand_bond_answer, scaffold_bond_answer, friends_answer, friends_entries, count_answer, rank_answer, rank_entries, state_energy_answer, chain_energy_answer};
-ghost use Rattle.exports.specs.Lent.{ambient_of, lent_at};
+ghost use Rattle.exports.specs.Lent.{ambient_of};
 ghost use Rattle.exports.specs.Told.{Told, chain_of};
 
 use super::answers::{tell, tell_chain, tell_energy};
 use design::Design;
 use units::{Ambient, KcalPerMol, Kelvin};
 
-// The ambient out of its three doubles.
-pub(crate) fn ambient(rt: f64, strand_excess: f64, scaffold_excess: f64) -> Ambient
+// The ambient out of the three doubles that C lends.
+pub fn ambient(rt: f64, strand_excess: f64, scaffold_excess: f64) -> Ambient
     ensures { result ≡ ambient_of rt strand_excess scaffold_excess }
 {
     Ambient {
@@ -20,64 +20,24 @@ pub(crate) fn ambient(rt: f64, strand_excess: f64, scaffold_excess: f64) -> Ambi
 }
 
 // The bond between strand x and strand y to the east of it.
-pub fn mj_strand_bond(
-    scaffold: &[u8],
-    marks: &[u8],
-    glues: &[u8],
-    dg: &[f64],
-    ds: &[f64],
-    potentials: &[f64],
-    rt: f64,
-    strand_excess: f64,
-    scaffold_excess: f64,
-    x: u8,
-    y: u8,
-    place: &mut u64,
-    bond: &mut f64,
-) -> u32
-    ensures { Told (strand_bond_answer (lent_at scaffold.entry marks.entry glues.entry dg.entry ds.entry potentials.entry rt strand_excess scaffold_excess) x y) result place.new bond.new }
+pub fn mj_strand_bond(design: &Design, x: u8, y: u8, place: &mut u64, bond: &mut f64) -> u32
+    ensures { Told (strand_bond_answer design.now x y) result place.new bond.new }
 {
-    let design = Design {
-        scaffold,
-        marks,
-        glues,
-        dg,
-        ds,
-        potentials,
-        ambient: ambient(rt, strand_excess, scaffold_excess),
-    };
-    tell(sdc1d::bond_between_strands(&design, x, y), 0.0, place, bond)
+    tell(sdc1d::bond_between_strands(design, x, y), 0.0, place, bond)
 }
 
 // The bond between the scaffold at a position and a strand.
 pub fn mj_scaffold_bond(
-    scaffold: &[u8],
-    marks: &[u8],
-    glues: &[u8],
-    dg: &[f64],
-    ds: &[f64],
-    potentials: &[f64],
-    rt: f64,
-    strand_excess: f64,
-    scaffold_excess: f64,
+    design: &Design,
     position: usize,
     strand: u8,
     place: &mut u64,
     bond: &mut f64,
 ) -> u32
-    ensures { Told (scaffold_bond_answer (lent_at scaffold.entry marks.entry glues.entry dg.entry ds.entry potentials.entry rt strand_excess scaffold_excess) position strand) result place.new bond.new }
+    ensures { Told (scaffold_bond_answer design.now position strand) result place.new bond.new }
 {
-    let design = Design {
-        scaffold,
-        marks,
-        glues,
-        dg,
-        ds,
-        potentials,
-        ambient: ambient(rt, strand_excess, scaffold_excess),
-    };
     tell(
-        sdc1d::bond_with_scaffold(&design, position, strand),
+        sdc1d::bond_with_scaffold(design, position, strand),
         0.0,
         place,
         bond,
@@ -86,34 +46,17 @@ pub fn mj_scaffold_bond(
 
 // The friends of a position, into 64 lent entries, and how many there are.
 pub fn mj_friends(
-    scaffold: &[u8],
-    marks: &[u8],
-    glues: &[u8],
-    dg: &[f64],
-    ds: &[f64],
-    potentials: &[f64],
-    rt: f64,
-    strand_excess: f64,
-    scaffold_excess: f64,
+    design: &Design,
     position: usize,
     entries: &mut [u8],
     place: &mut u64,
     count: &mut u64,
 ) -> u32
-    ensures told { Told (friends_answer (lent_at scaffold.entry marks.entry glues.entry dg.entry ds.entry potentials.entry rt strand_excess scaffold_excess) position entries.old) result place.new count.new }
-    ensures entries_after { entries.new ≡ friends_entries (lent_at scaffold.entry marks.entry glues.entry dg.entry ds.entry potentials.entry rt strand_excess scaffold_excess) position entries.old }
+    ensures told { Told (friends_answer design.now position entries.old) result place.new count.new }
+    ensures entries_after { entries.new ≡ friends_entries design.now position entries.old }
 {
-    let design = Design {
-        scaffold,
-        marks,
-        glues,
-        dg,
-        ds,
-        potentials,
-        ambient: ambient(rt, strand_excess, scaffold_excess),
-    };
     tell(
-        sdc1d::friends_btm(&design, position, entries),
+        sdc1d::friends_btm(design, position, entries),
         0,
         place,
         count,
@@ -121,62 +64,19 @@ pub fn mj_friends(
 }
 
 // How many states there are.
-pub fn mj_states(
-    scaffold: &[u8],
-    marks: &[u8],
-    glues: &[u8],
-    dg: &[f64],
-    ds: &[f64],
-    potentials: &[f64],
-    rt: f64,
-    strand_excess: f64,
-    scaffold_excess: f64,
-    place: &mut u64,
-    count: &mut u64,
-) -> u32
-    ensures { Told (count_answer (lent_at scaffold.entry marks.entry glues.entry dg.entry ds.entry potentials.entry rt strand_excess scaffold_excess)) result place.new count.new }
+pub fn mj_states(design: &Design, place: &mut u64, count: &mut u64) -> u32
+    ensures { Told (count_answer design.now) result place.new count.new }
 {
-    let design = Design {
-        scaffold,
-        marks,
-        glues,
-        dg,
-        ds,
-        potentials,
-        ambient: ambient(rt, strand_excess, scaffold_excess),
-    };
-    tell(sdc1d::number_of_states(&design), 0, place, count)
+    tell(sdc1d::number_of_states(design), 0, place, count)
 }
 
 // The state at a rank, into one lent entry for each position.
-pub fn mj_state(
-    scaffold: &[u8],
-    marks: &[u8],
-    glues: &[u8],
-    dg: &[f64],
-    ds: &[f64],
-    potentials: &[f64],
-    rt: f64,
-    strand_excess: f64,
-    scaffold_excess: f64,
-    rank: u64,
-    entries: &mut [u8],
-    place: &mut u64,
-) -> u32
-    ensures told { Told (rank_answer (lent_at scaffold.entry marks.entry glues.entry dg.entry ds.entry potentials.entry rt strand_excess scaffold_excess) rank entries.old) result place.new tt }
-    ensures entries_after { entries.new ≡ rank_entries (lent_at scaffold.entry marks.entry glues.entry dg.entry ds.entry potentials.entry rt strand_excess scaffold_excess) rank entries.old }
+pub fn mj_state(design: &Design, rank: u64, entries: &mut [u8], place: &mut u64) -> u32
+    ensures told { Told (rank_answer design.now rank entries.old) result place.new tt }
+    ensures entries_after { entries.new ≡ rank_entries design.now rank entries.old }
 {
-    let design = Design {
-        scaffold,
-        marks,
-        glues,
-        dg,
-        ds,
-        potentials,
-        ambient: ambient(rt, strand_excess, scaffold_excess),
-    };
     tell(
-        sdc1d::state_at_rank(&design, rank, entries),
+        sdc1d::state_at_rank(design, rank, entries),
         (),
         place,
         &mut (),
@@ -185,62 +85,28 @@ pub fn mj_state(
 
 // The state energy of a configuration.
 pub fn mj_state_energy(
-    scaffold: &[u8],
-    marks: &[u8],
-    glues: &[u8],
-    dg: &[f64],
-    ds: &[f64],
-    potentials: &[f64],
-    rt: f64,
-    strand_excess: f64,
-    scaffold_excess: f64,
+    design: &Design,
     configuration: &[u8],
     place: &mut u64,
     energy: &mut f64,
 ) -> u32
-    ensures { Told (state_energy_answer (lent_at scaffold.entry marks.entry glues.entry dg.entry ds.entry potentials.entry rt strand_excess scaffold_excess) configuration.now) result place.new energy.new }
+    ensures { Told (state_energy_answer design.now configuration.now) result place.new energy.new }
 {
-    let design = Design {
-        scaffold,
-        marks,
-        glues,
-        dg,
-        ds,
-        potentials,
-        ambient: ambient(rt, strand_excess, scaffold_excess),
-    };
-    tell_energy(sdc1d::g_system(&design, configuration), place, energy)
+    tell_energy(sdc1d::g_system(design, configuration), place, energy)
 }
 
 // The chain energy of a configuration, as it is and times RT.
 pub fn mj_chain_energy(
-    scaffold: &[u8],
-    marks: &[u8],
-    glues: &[u8],
-    dg: &[f64],
-    ds: &[f64],
-    potentials: &[f64],
-    rt: f64,
-    strand_excess: f64,
-    scaffold_excess: f64,
+    design: &Design,
     configuration: &[u8],
     place: &mut u64,
     sum: &mut f64,
     energy: &mut f64,
 ) -> u32
-    ensures { Told (chain_energy_answer (lent_at scaffold.entry marks.entry glues.entry dg.entry ds.entry potentials.entry rt strand_excess scaffold_excess) configuration.now) result place.new (chain_of sum.new energy.new) }
+    ensures { Told (chain_energy_answer design.now configuration.now) result place.new (chain_of sum.new energy.new) }
 {
-    let design = Design {
-        scaffold,
-        marks,
-        glues,
-        dg,
-        ds,
-        potentials,
-        ambient: ambient(rt, strand_excess, scaffold_excess),
-    };
     tell_chain(
-        sdc1d::chain_energy(&design, configuration),
+        sdc1d::chain_energy(design, configuration),
         place,
         sum,
         energy,

@@ -1,11 +1,12 @@
 // Answers on sequences, loops and temperatures as C takes them. A refusal has no figure: 0, and of a double all bits.
-// A name says the kind of answer (dg_ds, dg, ambient), then the figure, or `tell`: the reply number is the result, the figures go through
+// A name says the kind of answer (dg_ds, figure, dg, ambient), then the figure, or `tell`: the reply number is the result, the figures go through
 // pointers.
 ghost use Rattle.std.specs.Prelude.{◌≡◌};
 ghost use Rattle.std.specs.Float.Ieee as Ieee;
 ghost use Rattle.std.specs.Float.{binary64};
 ghost use Rattle.units.specs.Ambient.{ambient_figures};
 ghost use Rattle.utils.specs.Answers.{dg_ds_figures, dg_figures};
+ghost use Rattle.exports.specs.Told.{placeless_figures};
 
 use doubles::bits;
 use reply::{ANSWERED, Refusal};
@@ -26,20 +27,14 @@ pub(crate) fn dg_ds_reply(answer: Result<DgDs, Refusal>) -> u32
 pub(crate) fn dg_ds_dg(answer: Result<DgDs, Refusal>) -> u64
     ensures { result ≡ Ieee.to_bits binary64 (dg_ds_figures answer).dg }
 {
-    match answer {
-        Ok(given) => bits(given.dg.0),
-        Err(_) => 0,
-    }
+    bits(answer.map_or(0.0, |given| given.dg.0))
 }
 
 // Their dS.
 pub(crate) fn dg_ds_ds(answer: Result<DgDs, Refusal>) -> u64
     ensures { result ≡ Ieee.to_bits binary64 (dg_ds_figures answer).ds }
 {
-    match answer {
-        Ok(given) => bits(given.ds.0),
-        Err(_) => 0,
-    }
+    bits(answer.map_or(0.0, |given| given.ds.0))
 }
 
 // Their reply number, dG and dS.
@@ -62,21 +57,29 @@ pub(crate) fn dg_ds_tell(answer: Result<DgDs, Refusal>, dg: &mut f64, ds: &mut f
     }
 }
 
+// The reply number and the one figure of a call whose refusals have no place, a blank figure where it refuses.
+pub(crate) fn figure_tell<T: Copy>(answer: Result<T, Refusal>, blank: T, figure: &mut T) -> u32
+    ensures value { result ≡ (placeless_figures blank answer).number }
+    ensures figure_after { figure.new ≡ (placeless_figures blank answer).figure }
+{
+    match answer {
+        Ok(given) => {
+            *figure = given;
+            ANSWERED
+        }
+        Err(refusal) => {
+            *figure = blank;
+            refusal.number()
+        }
+    }
+}
+
 // The reply number and the dG of a loop or a strength.
 pub(crate) fn dg_tell(answer: Result<KcalPerMol, Refusal>, dg: &mut f64) -> u32
     ensures value { result ≡ (dg_figures answer).number }
     ensures dg_after { dg.new ≡ (dg_figures answer).dg }
 {
-    match answer {
-        Ok(given) => {
-            *dg = given.0;
-            ANSWERED
-        }
-        Err(refusal) => {
-            *dg = 0.0;
-            refusal.number()
-        }
-    }
+    figure_tell(answer.map(|dg| dg.0), 0.0, dg)
 }
 
 // The reply number of the ambient, its RT and its two excesses.

@@ -1,4 +1,5 @@
-// The calls as C functions, which include/mujplesten.h declares; in this file those on sequences and temperatures.
+// The calls that include/mujplesten.h declares as C callers have them, but that a design and tables of bonds are each lent as one, which exports_c
+// puts together out of the parts that C lends; in this file those on sequences and temperatures.
 // One function is one call: it answers the reply number and writes places and figures through pointers. Of one and of two sequences there is
 // also a function for the reply number and one for each double, as its 64 bits.
 #![tactic(auto)]

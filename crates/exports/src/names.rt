@@ -1,4 +1,4 @@
-// Names and the numbers of strand glues as C functions.
+// Names and the numbers of strand glues as C callers have them.
 ghost use Rattle.std.specs.Prelude.{◌≡◌, length};
 ghost use Rattle.sdc_common.specs.Lent.{names_of};
 ghost use Rattle.sdc_common.specs.Calls.{name_figures, self_and_inverse, strand_glues, glues_after};

@@ -1,4 +1,4 @@
-// `from_params` as a C function. A build is a number: 0 an ordinary one, 1 the archive's; any other is refused with 1.
+// `from_params` as C callers have it. A build is a number: 0 an ordinary one, 1 the archive's; any other is refused with 1.
 ghost use Rattle.std.specs.Prelude.{◌≡◌};
 ghost use Rattle.sdc1d_params.specs.Params.{outcome_of, params_of, lent_of};
 ghost use Rattle.exports.specs.Builds.{build_numbered, built_in};
@@ -8,7 +8,7 @@ use reply::{ANSWERED, Refusal};
 use sdc1d_params::{Build, Copied, Copies, Penalty};
 use units::{KcalPerMol, KcalPerMolKelvin};
 
-// The build that a number names: 0 and 1 name one each.
+// The build that a number names: 0 and 1 name one each. Only C names one by a number, so that `Build` has no `TryFrom`.
 fn build_of(number: u32) -> Option<Build>
     ensures { result ≡ build_numbered number }
 {

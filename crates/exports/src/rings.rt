@@ -1,73 +1,37 @@
-// The calls on ring scaffolds as C functions.
+// The calls on ring scaffolds as C callers have them.
 ghost use Rattle.std.specs.Prelude.{◌≡◌};
 ghost use Rattle.ring.specs.Answers.{ring_energy_answer, ring_search_answer, ring_search_entries};
-ghost use Rattle.exports.specs.Lent.{lent_at};
 ghost use Rattle.exports.specs.Lowest.{LowestRingTold};
 ghost use Rattle.exports.specs.Told.{Told};
 
 use super::answers::tell_energy;
-use super::designs::ambient;
 use design::Design;
 
 // The ring energy of a configuration.
 pub fn mj_ring_energy(
-    scaffold: &[u8],
-    marks: &[u8],
-    glues: &[u8],
-    dg: &[f64],
-    ds: &[f64],
-    potentials: &[f64],
-    rt: f64,
-    strand_excess: f64,
-    scaffold_excess: f64,
+    design: &Design,
     configuration: &[u8],
     place: &mut u64,
     energy: &mut f64,
 ) -> u32
-    ensures { Told (ring_energy_answer (lent_at scaffold.entry marks.entry glues.entry dg.entry ds.entry potentials.entry rt strand_excess scaffold_excess) configuration.now) result place.new energy.new }
+    ensures { Told (ring_energy_answer design.now configuration.now) result place.new energy.new }
 {
-    let design = Design {
-        scaffold,
-        marks,
-        glues,
-        dg,
-        ds,
-        potentials,
-        ambient: ambient(rt, strand_excess, scaffold_excess),
-    };
-    tell_energy(ring::ring_energy(&design, configuration), place, energy)
+    tell_energy(ring::ring_energy(design, configuration), place, energy)
 }
 
 // The lowest ring, into one lent entry for each position, and its energy.
 pub fn mj_ring_search(
-    scaffold: &[u8],
-    marks: &[u8],
-    glues: &[u8],
-    dg: &[f64],
-    ds: &[f64],
-    potentials: &[f64],
-    rt: f64,
-    strand_excess: f64,
-    scaffold_excess: f64,
+    design: &Design,
     configuration: &mut [u8],
     place: &mut u64,
     energy: &mut f64,
 ) -> u32
-    ensures told { Told (ring_search_answer (lent_at scaffold.entry marks.entry glues.entry dg.entry ds.entry potentials.entry rt strand_excess scaffold_excess) configuration.old) result place.new energy.new }
-    ensures configuration_after { configuration.new ≡ ring_search_entries (lent_at scaffold.entry marks.entry glues.entry dg.entry ds.entry potentials.entry rt strand_excess scaffold_excess) configuration.old }
-    ensures lowest_ring_told { LowestRingTold (lent_at scaffold.entry marks.entry glues.entry dg.entry ds.entry potentials.entry rt strand_excess scaffold_excess) result configuration.new energy.new }
+    ensures told { Told (ring_search_answer design.now configuration.old) result place.new energy.new }
+    ensures configuration_after { configuration.new ≡ ring_search_entries design.now configuration.old }
+    ensures lowest_ring_told { LowestRingTold design.now result configuration.new energy.new }
 {
-    let design = Design {
-        scaffold,
-        marks,
-        glues,
-        dg,
-        ds,
-        potentials,
-        ambient: ambient(rt, strand_excess, scaffold_excess),
-    };
     tell_energy(
-        ring::ring_configuration(&design, configuration),
+        ring::ring_configuration(design, configuration),
         place,
         energy,
     )

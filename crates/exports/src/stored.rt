@@ -1,4 +1,4 @@
-// Stored configurations as C functions. A form is a number: 0 document 01's, 1 with runs; any other is refused with 1.
+// Stored configurations as C callers have them. A form is a number: 0 document 01's, 1 with runs; any other is refused with 1.
 ghost use Rattle.std.specs.Prelude.{◌≡◌, take};
 ghost use Rattle.reply.specs.Number.{answered};
 ghost use Rattle.deck.specs.Reading.{read_figures_of};
@@ -7,11 +7,12 @@ ghost use Rattle.deck.specs.Moving.{move_figures_of};
 ghost use Rattle.exports.specs.Place.{place_number};
 ghost use Rattle.exports.specs.Stored.{form_numbered, read_in, entries_in, write_in, words_in, move_from, moved_from, MovesFrom};
 
-use super::place;
+use super::answers::tell;
+use super::figures::figure_tell;
 use deck::DeckForm;
-use reply::{ANSWERED, Refusal, Refused};
+use reply::{Refusal, Refused};
 
-// The form that a number names: 0 and 1 name one each.
+// The form that a number names: 0 and 1 name one each. Only C names one by a number, so that `DeckForm` has no `TryFrom`.
 fn form_of(number: u32) -> Option<DeckForm>
     ensures { result ≡ form_numbered number }
 {
@@ -28,18 +29,7 @@ fn tell_read(answer: Result<usize, Refused>, place: &mut u64, count: &mut u64) -
     ensures place_after { place.new ≡ place_number (read_figures_of answer).place }
     ensures count_after { count.new ≡ (read_figures_of answer).count }
 {
-    match answer {
-        Ok(given) => {
-            *place = place::NOWHERE;
-            *count = given as u64;
-            ANSWERED
-        }
-        Err(refused) => {
-            *place = place::number(refused.place);
-            *count = 0;
-            refused.refusal.number()
-        }
-    }
+    tell(answer.map(|count| count as u64), 0, place, count)
 }
 
 // The reply number of writing, and the number of words.
@@ -47,16 +37,7 @@ fn tell_written(answer: Result<usize, Refusal>, count: &mut u64) -> u32
     ensures value { result ≡ (write_figures_of answer).number }
     ensures count_after { count.new ≡ (write_figures_of answer).count }
 {
-    match answer {
-        Ok(given) => {
-            *count = given as u64;
-            ANSWERED
-        }
-        Err(refusal) => {
-            *count = 0;
-            refusal.number()
-        }
-    }
+    figure_tell(answer.map(|count| count as u64), 0, count)
 }
 
 // The reply number of moving, the place of a fault, and the number of words.
@@ -65,18 +46,7 @@ fn tell_moved(answer: Result<usize, Refused>, place: &mut u64, count: &mut u64) 
     ensures place_after { place.new ≡ place_number (move_figures_of answer).place }
     ensures count_after { count.new ≡ (move_figures_of answer).count }
 {
-    match answer {
-        Ok(given) => {
-            *place = place::NOWHERE;
-            *count = given as u64;
-            ANSWERED
-        }
-        Err(refused) => {
-            *place = place::number(refused.place);
-            *count = 0;
-            refused.refusal.number()
-        }
-    }
+    tell(answer.map(|count| count as u64), 0, place, count)
 }
 
 // Reads a deck into 128 lent entries, and tells how many positions it has. Replies 1, 14.

@@ -1,15 +1,14 @@
-// Sums over the states of a design as C functions. Weights are lent as their digits and their exponents, row first, one of each for each position and
-// strand, and for each left and right strand; a sum is told in the same two parts.
-ghost use Rattle.std.specs.Prelude.{◌≡◌, length};
+// Sums over the states of a design as C callers have them. Weights are lent as their digits and their exponents, row first, one of each for each
+// position and strand, and for each left and right strand; a sum is told in the same two parts.
+ghost use Rattle.std.specs.Prelude.{◌≡◌};
+ghost use Rattle.design.specs.Design.{strands};
 ghost use Rattle.fractions.specs.Weight.{weight};
 ghost use Rattle.partition_sums.specs.Layout.{lent_weights};
 ghost use Rattle.state_sums.specs.Sizes.{lent_lists};
 ghost use Rattle.state_sums.specs.Answers.{sum_figures, free_answer, constrained_answer};
-ghost use Rattle.exports.specs.Lent.{lent_at};
 ghost use Rattle.exports.specs.Sums.{FreeTold, ConstrainedTold};
 ghost use Rattle.exports.specs.Told.{Told};
 
-use super::designs::ambient;
 use super::place;
 use design::Design;
 use fractions::Weight;
@@ -43,15 +42,7 @@ fn tell_sum(
 
 // The sum over all states.
 pub fn mj_free_sum(
-    scaffold: &[u8],
-    marks: &[u8],
-    glues: &[u8],
-    dg: &[f64],
-    ds: &[f64],
-    potentials: &[f64],
-    rt: f64,
-    strand_excess: f64,
-    scaffold_excess: f64,
+    design: &Design,
     place_digits: &[u32],
     place_powers: &[i32],
     pair_digits: &[u32],
@@ -60,26 +51,11 @@ pub fn mj_free_sum(
     digits: &mut u32,
     power: &mut i32,
 ) -> u32
-    ensures told { Told (free_answer (lent_at scaffold.entry marks.entry glues.entry dg.entry ds.entry potentials.entry rt strand_excess scaffold_excess) (lent_weights (length potentials.now) place_digits.entry place_powers.entry pair_digits.entry pair_powers.entry)) result place.new (weight digits.new power.new) }
-    ensures free_told { FreeTold (lent_at scaffold.entry marks.entry glues.entry dg.entry ds.entry potentials.entry rt strand_excess scaffold_excess) (lent_weights (length potentials.now) place_digits.entry place_powers.entry pair_digits.entry pair_powers.entry) result (weight digits.new power.new) }
+    ensures told { Told (free_answer design.now (lent_weights (strands design.now) place_digits.entry place_powers.entry pair_digits.entry pair_powers.entry)) result place.new (weight digits.new power.new) }
+    ensures free_told { FreeTold design.now (lent_weights (strands design.now) place_digits.entry place_powers.entry pair_digits.entry pair_powers.entry) result (weight digits.new power.new) }
 {
-    let design = Design {
-        scaffold,
-        marks,
-        glues,
-        dg,
-        ds,
-        potentials,
-        ambient: ambient(rt, strand_excess, scaffold_excess),
-    };
     tell_sum(
-        state_sums::free_sum(
-            &design,
-            place_digits,
-            place_powers,
-            pair_digits,
-            pair_powers,
-        ),
+        state_sums::free_sum(design, place_digits, place_powers, pair_digits, pair_powers),
         place,
         digits,
         power,
@@ -88,15 +64,7 @@ pub fn mj_free_sum(
 
 // The sum over the states that lists of allowed occupants leave.
 pub fn mj_constrained_sum(
-    scaffold: &[u8],
-    marks: &[u8],
-    glues: &[u8],
-    dg: &[f64],
-    ds: &[f64],
-    potentials: &[f64],
-    rt: f64,
-    strand_excess: f64,
-    scaffold_excess: f64,
+    design: &Design,
     place_digits: &[u32],
     place_powers: &[i32],
     pair_digits: &[u32],
@@ -108,21 +76,12 @@ pub fn mj_constrained_sum(
     digits: &mut u32,
     power: &mut i32,
 ) -> u32
-    ensures told { Told (constrained_answer (lent_at scaffold.entry marks.entry glues.entry dg.entry ds.entry potentials.entry rt strand_excess scaffold_excess) (lent_weights (length potentials.now) place_digits.entry place_powers.entry pair_digits.entry pair_powers.entry) (lent_lists numbers.entry starts.entry lengths.entry)) result place.new (weight digits.new power.new) }
-    ensures constrained_told { ConstrainedTold (lent_at scaffold.entry marks.entry glues.entry dg.entry ds.entry potentials.entry rt strand_excess scaffold_excess) (lent_weights (length potentials.now) place_digits.entry place_powers.entry pair_digits.entry pair_powers.entry) (lent_lists numbers.entry starts.entry lengths.entry) result (weight digits.new power.new) }
+    ensures told { Told (constrained_answer design.now (lent_weights (strands design.now) place_digits.entry place_powers.entry pair_digits.entry pair_powers.entry) (lent_lists numbers.entry starts.entry lengths.entry)) result place.new (weight digits.new power.new) }
+    ensures constrained_told { ConstrainedTold design.now (lent_weights (strands design.now) place_digits.entry place_powers.entry pair_digits.entry pair_powers.entry) (lent_lists numbers.entry starts.entry lengths.entry) result (weight digits.new power.new) }
 {
-    let design = Design {
-        scaffold,
-        marks,
-        glues,
-        dg,
-        ds,
-        potentials,
-        ambient: ambient(rt, strand_excess, scaffold_excess),
-    };
     tell_sum(
         state_sums::constrained_sum(
-            &design,
+            design,
             place_digits,
             place_powers,
             pair_digits,

@@ -5,6 +5,9 @@ ghost use Rattle.design.specs.Answers.{strand_bond_answer, scaffold_bond_answer,
 ghost use Rattle.exports.specs.Lent.{lent_at};
 ghost use Rattle.exports.specs.Told.{Told, chain_of};
 
+use design::Design;
+use exports::designs::ambient;
+
 // The bond between strand x and strand y to the east of it.
 #[unsafe(no_mangle)]
 pub extern "C" fn mj_strand_bond(
@@ -24,21 +27,16 @@ pub extern "C" fn mj_strand_bond(
 ) -> u32
     ensures { Told (strand_bond_answer (lent_at scaffold.entry marks.entry glues.entry dg.entry ds.entry potentials.entry rt strand_excess scaffold_excess) x y) result place.new bond.new }
 {
-    exports::designs::mj_strand_bond(
+    let design = Design {
         scaffold,
         marks,
         glues,
         dg,
         ds,
         potentials,
-        rt,
-        strand_excess,
-        scaffold_excess,
-        x,
-        y,
-        place,
-        bond,
-    )
+        ambient: ambient(rt, strand_excess, scaffold_excess),
+    };
+    exports::designs::mj_strand_bond(&design, x, y, place, bond)
 }
 
 // The bond between the scaffold at a position and a strand.
@@ -60,21 +58,16 @@ pub extern "C" fn mj_scaffold_bond(
 ) -> u32
     ensures { Told (scaffold_bond_answer (lent_at scaffold.entry marks.entry glues.entry dg.entry ds.entry potentials.entry rt strand_excess scaffold_excess) position strand) result place.new bond.new }
 {
-    exports::designs::mj_scaffold_bond(
+    let design = Design {
         scaffold,
         marks,
         glues,
         dg,
         ds,
         potentials,
-        rt,
-        strand_excess,
-        scaffold_excess,
-        position,
-        strand,
-        place,
-        bond,
-    )
+        ambient: ambient(rt, strand_excess, scaffold_excess),
+    };
+    exports::designs::mj_scaffold_bond(&design, position, strand, place, bond)
 }
 
 // The friends of a position, into 64 lent entries, and how many there are.
@@ -97,21 +90,16 @@ pub extern "C" fn mj_friends(
     ensures told { Told (friends_answer (lent_at scaffold.entry marks.entry glues.entry dg.entry ds.entry potentials.entry rt strand_excess scaffold_excess) position entries.old) result place.new count.new }
     ensures entries_after { entries.new ≡ friends_entries (lent_at scaffold.entry marks.entry glues.entry dg.entry ds.entry potentials.entry rt strand_excess scaffold_excess) position entries.old }
 {
-    exports::designs::mj_friends(
+    let design = Design {
         scaffold,
         marks,
         glues,
         dg,
         ds,
         potentials,
-        rt,
-        strand_excess,
-        scaffold_excess,
-        position,
-        entries,
-        place,
-        count,
-    )
+        ambient: ambient(rt, strand_excess, scaffold_excess),
+    };
+    exports::designs::mj_friends(&design, position, entries, place, count)
 }
 
 // How many states there are.
@@ -131,19 +119,16 @@ pub extern "C" fn mj_states(
 ) -> u32
     ensures { Told (count_answer (lent_at scaffold.entry marks.entry glues.entry dg.entry ds.entry potentials.entry rt strand_excess scaffold_excess)) result place.new count.new }
 {
-    exports::designs::mj_states(
+    let design = Design {
         scaffold,
         marks,
         glues,
         dg,
         ds,
         potentials,
-        rt,
-        strand_excess,
-        scaffold_excess,
-        place,
-        count,
-    )
+        ambient: ambient(rt, strand_excess, scaffold_excess),
+    };
+    exports::designs::mj_states(&design, place, count)
 }
 
 // The state at a rank, into one lent entry for each position.
@@ -165,20 +150,16 @@ pub extern "C" fn mj_state(
     ensures told { Told (rank_answer (lent_at scaffold.entry marks.entry glues.entry dg.entry ds.entry potentials.entry rt strand_excess scaffold_excess) rank entries.old) result place.new tt }
     ensures entries_after { entries.new ≡ rank_entries (lent_at scaffold.entry marks.entry glues.entry dg.entry ds.entry potentials.entry rt strand_excess scaffold_excess) rank entries.old }
 {
-    exports::designs::mj_state(
+    let design = Design {
         scaffold,
         marks,
         glues,
         dg,
         ds,
         potentials,
-        rt,
-        strand_excess,
-        scaffold_excess,
-        rank,
-        entries,
-        place,
-    )
+        ambient: ambient(rt, strand_excess, scaffold_excess),
+    };
+    exports::designs::mj_state(&design, rank, entries, place)
 }
 
 // The state energy of a configuration.
@@ -199,20 +180,16 @@ pub extern "C" fn mj_state_energy(
 ) -> u32
     ensures { Told (state_energy_answer (lent_at scaffold.entry marks.entry glues.entry dg.entry ds.entry potentials.entry rt strand_excess scaffold_excess) configuration.now) result place.new energy.new }
 {
-    exports::designs::mj_state_energy(
+    let design = Design {
         scaffold,
         marks,
         glues,
         dg,
         ds,
         potentials,
-        rt,
-        strand_excess,
-        scaffold_excess,
-        configuration,
-        place,
-        energy,
-    )
+        ambient: ambient(rt, strand_excess, scaffold_excess),
+    };
+    exports::designs::mj_state_energy(&design, configuration, place, energy)
 }
 
 // The chain energy of a configuration, as it is and times RT.
@@ -234,19 +211,14 @@ pub extern "C" fn mj_chain_energy(
 ) -> u32
     ensures { Told (chain_energy_answer (lent_at scaffold.entry marks.entry glues.entry dg.entry ds.entry potentials.entry rt strand_excess scaffold_excess) configuration.now) result place.new (chain_of sum.new energy.new) }
 {
-    exports::designs::mj_chain_energy(
+    let design = Design {
         scaffold,
         marks,
         glues,
         dg,
         ds,
         potentials,
-        rt,
-        strand_excess,
-        scaffold_excess,
-        configuration,
-        place,
-        sum,
-        energy,
-    )
+        ambient: ambient(rt, strand_excess, scaffold_excess),
+    };
+    exports::designs::mj_chain_energy(&design, configuration, place, sum, energy)
 }

@@ -1,5 +1,5 @@
 // The C functions that include/mujplesten.h declares, each a call of the function of its name in the crate exports, under the same contract;
-// a crate is a library or the archive that C links, not both.
+// C lends a design and tables of bonds by their parts, which are put together here. A crate is a library or the archive that C links, not both.
 #![tactic(auto)]
 
 mod designs;

@@ -6,6 +6,9 @@ ghost use Rattle.exports.specs.Lent.{lent_at};
 ghost use Rattle.exports.specs.Lowest.{LowestRingTold};
 ghost use Rattle.exports.specs.Told.{Told};
 
+use design::Design;
+use exports::designs::ambient;
+
 // The ring energy of a configuration.
 #[unsafe(no_mangle)]
 pub extern "C" fn mj_ring_energy(
@@ -24,20 +27,16 @@ pub extern "C" fn mj_ring_energy(
 ) -> u32
     ensures { Told (ring_energy_answer (lent_at scaffold.entry marks.entry glues.entry dg.entry ds.entry potentials.entry rt strand_excess scaffold_excess) configuration.now) result place.new energy.new }
 {
-    exports::rings::mj_ring_energy(
+    let design = Design {
         scaffold,
         marks,
         glues,
         dg,
         ds,
         potentials,
-        rt,
-        strand_excess,
-        scaffold_excess,
-        configuration,
-        place,
-        energy,
-    )
+        ambient: ambient(rt, strand_excess, scaffold_excess),
+    };
+    exports::rings::mj_ring_energy(&design, configuration, place, energy)
 }
 
 // The lowest ring, into one lent entry for each position, and its energy.
@@ -60,18 +59,14 @@ pub extern "C" fn mj_ring_search(
     ensures configuration_after { configuration.new ≡ ring_search_entries (lent_at scaffold.entry marks.entry glues.entry dg.entry ds.entry potentials.entry rt strand_excess scaffold_excess) configuration.old }
     ensures lowest_ring_told { LowestRingTold (lent_at scaffold.entry marks.entry glues.entry dg.entry ds.entry potentials.entry rt strand_excess scaffold_excess) result configuration.new energy.new }
 {
-    exports::rings::mj_ring_search(
+    let design = Design {
         scaffold,
         marks,
         glues,
         dg,
         ds,
         potentials,
-        rt,
-        strand_excess,
-        scaffold_excess,
-        configuration,
-        place,
-        energy,
-    )
+        ambient: ambient(rt, strand_excess, scaffold_excess),
+    };
+    exports::rings::mj_ring_search(&design, configuration, place, energy)
 }

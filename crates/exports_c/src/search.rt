@@ -6,6 +6,9 @@ ghost use Rattle.exports.specs.Lent.{lent_at};
 ghost use Rattle.exports.specs.Lowest.{LowestTold};
 ghost use Rattle.exports.specs.Told.{Told};
 
+use design::Design;
+use exports::designs::ambient;
+
 // The lowest configuration, into one lent entry for each position, and its energy.
 #[unsafe(no_mangle)]
 pub extern "C" fn mj_search(
@@ -26,18 +29,14 @@ pub extern "C" fn mj_search(
     ensures configuration_after { configuration.new ≡ search_entries (lent_at scaffold.entry marks.entry glues.entry dg.entry ds.entry potentials.entry rt strand_excess scaffold_excess) configuration.old }
     ensures lowest_told { LowestTold (lent_at scaffold.entry marks.entry glues.entry dg.entry ds.entry potentials.entry rt strand_excess scaffold_excess) result configuration.new energy.new }
 {
-    exports::search::mj_search(
+    let design = Design {
         scaffold,
         marks,
         glues,
         dg,
         ds,
         potentials,
-        rt,
-        strand_excess,
-        scaffold_excess,
-        configuration,
-        place,
-        energy,
-    )
+        ambient: ambient(rt, strand_excess, scaffold_excess),
+    };
+    exports::search::mj_search(&design, configuration, place, energy)
 }

@@ -10,6 +10,9 @@ ghost use Rattle.exports.specs.Lent.{lent_at};
 ghost use Rattle.exports.specs.Sums.{FreeTold, ConstrainedTold};
 ghost use Rattle.exports.specs.Told.{Told};
 
+use design::Design;
+use exports::designs::ambient;
+
 // The sum over all states.
 #[unsafe(no_mangle)]
 pub extern "C" fn mj_free_sum(
@@ -33,16 +36,17 @@ pub extern "C" fn mj_free_sum(
     ensures told { Told (free_answer (lent_at scaffold.entry marks.entry glues.entry dg.entry ds.entry potentials.entry rt strand_excess scaffold_excess) (lent_weights (length potentials.now) place_digits.entry place_powers.entry pair_digits.entry pair_powers.entry)) result place.new (weight digits.new power.new) }
     ensures free_told { FreeTold (lent_at scaffold.entry marks.entry glues.entry dg.entry ds.entry potentials.entry rt strand_excess scaffold_excess) (lent_weights (length potentials.now) place_digits.entry place_powers.entry pair_digits.entry pair_powers.entry) result (weight digits.new power.new) }
 {
-    exports::sums::mj_free_sum(
+    let design = Design {
         scaffold,
         marks,
         glues,
         dg,
         ds,
         potentials,
-        rt,
-        strand_excess,
-        scaffold_excess,
+        ambient: ambient(rt, strand_excess, scaffold_excess),
+    };
+    exports::sums::mj_free_sum(
+        &design,
         place_digits,
         place_powers,
         pair_digits,
@@ -79,16 +83,17 @@ pub extern "C" fn mj_constrained_sum(
     ensures told { Told (constrained_answer (lent_at scaffold.entry marks.entry glues.entry dg.entry ds.entry potentials.entry rt strand_excess scaffold_excess) (lent_weights (length potentials.now) place_digits.entry place_powers.entry pair_digits.entry pair_powers.entry) (lent_lists numbers.entry starts.entry lengths.entry)) result place.new (weight digits.new power.new) }
     ensures constrained_told { ConstrainedTold (lent_at scaffold.entry marks.entry glues.entry dg.entry ds.entry potentials.entry rt strand_excess scaffold_excess) (lent_weights (length potentials.now) place_digits.entry place_powers.entry pair_digits.entry pair_powers.entry) (lent_lists numbers.entry starts.entry lengths.entry) result (weight digits.new power.new) }
 {
-    exports::sums::mj_constrained_sum(
+    let design = Design {
         scaffold,
         marks,
         glues,
         dg,
         ds,
         potentials,
-        rt,
-        strand_excess,
-        scaffold_excess,
+        ambient: ambient(rt, strand_excess, scaffold_excess),
+    };
+    exports::sums::mj_constrained_sum(
+        &design,
         place_digits,
         place_powers,
         pair_digits,

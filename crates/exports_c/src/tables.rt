@@ -6,6 +6,10 @@ ghost use Rattle.exports.specs.Lent.{lent_at};
 ghost use Rattle.exports.specs.Tables.{LowestToldOver};
 ghost use Rattle.exports.specs.Told.{Told};
 
+use bond_tables::BondTables;
+use design::Design;
+use exports::designs::ambient;
+
 // Fills both tables with the bonds of a design.
 #[unsafe(no_mangle)]
 pub extern "C" fn mj_bond_tables(
@@ -26,20 +30,16 @@ pub extern "C" fn mj_bond_tables(
     ensures strand_bonds_after { strand_bonds.new ≡ filled_strands (lent_at scaffold.entry marks.entry glues.entry dg.entry ds.entry potentials.entry rt strand_excess scaffold_excess) strand_bonds.old scaffold_bonds.old }
     ensures scaffold_bonds_after { scaffold_bonds.new ≡ filled_scaffold (lent_at scaffold.entry marks.entry glues.entry dg.entry ds.entry potentials.entry rt strand_excess scaffold_excess) strand_bonds.old scaffold_bonds.old }
 {
-    exports::tables::mj_bond_tables(
+    let design = Design {
         scaffold,
         marks,
         glues,
         dg,
         ds,
         potentials,
-        rt,
-        strand_excess,
-        scaffold_excess,
-        strand_bonds,
-        scaffold_bonds,
-        place,
-    )
+        ambient: ambient(rt, strand_excess, scaffold_excess),
+    };
+    exports::tables::mj_bond_tables(&design, strand_bonds, scaffold_bonds, place)
 }
 
 // The state energy of a configuration over lent bonds.
@@ -62,22 +62,20 @@ pub extern "C" fn mj_state_energy_over(
 ) -> u32
     ensures { Told (energy_over_answer (lent_at scaffold.entry marks.entry glues.entry dg.entry ds.entry potentials.entry rt strand_excess scaffold_excess) strand_bonds.now scaffold_bonds.now configuration.now) result place.new energy.new }
 {
-    exports::tables::mj_state_energy_over(
+    let design = Design {
         scaffold,
         marks,
         glues,
         dg,
         ds,
         potentials,
-        rt,
-        strand_excess,
-        scaffold_excess,
+        ambient: ambient(rt, strand_excess, scaffold_excess),
+    };
+    let tables = BondTables {
         strand_bonds,
         scaffold_bonds,
-        configuration,
-        place,
-        energy,
-    )
+    };
+    exports::tables::mj_state_energy_over(&design, &tables, configuration, place, energy)
 }
 
 // How many states there are.
@@ -99,21 +97,20 @@ pub extern "C" fn mj_states_over(
 ) -> u32
     ensures { Told (count_over_answer (lent_at scaffold.entry marks.entry glues.entry dg.entry ds.entry potentials.entry rt strand_excess scaffold_excess) strand_bonds.now scaffold_bonds.now) result place.new count.new }
 {
-    exports::tables::mj_states_over(
+    let design = Design {
         scaffold,
         marks,
         glues,
         dg,
         ds,
         potentials,
-        rt,
-        strand_excess,
-        scaffold_excess,
+        ambient: ambient(rt, strand_excess, scaffold_excess),
+    };
+    let tables = BondTables {
         strand_bonds,
         scaffold_bonds,
-        place,
-        count,
-    )
+    };
+    exports::tables::mj_states_over(&design, &tables, place, count)
 }
 
 // The state at a rank, into one lent entry for each position.
@@ -137,22 +134,20 @@ pub extern "C" fn mj_state_over(
     ensures told { Told (rank_over_answer (lent_at scaffold.entry marks.entry glues.entry dg.entry ds.entry potentials.entry rt strand_excess scaffold_excess) strand_bonds.now scaffold_bonds.now rank entries.old) result place.new tt }
     ensures entries_after { entries.new ≡ rank_over_entries (lent_at scaffold.entry marks.entry glues.entry dg.entry ds.entry potentials.entry rt strand_excess scaffold_excess) strand_bonds.now scaffold_bonds.now rank entries.old }
 {
-    exports::tables::mj_state_over(
+    let design = Design {
         scaffold,
         marks,
         glues,
         dg,
         ds,
         potentials,
-        rt,
-        strand_excess,
-        scaffold_excess,
+        ambient: ambient(rt, strand_excess, scaffold_excess),
+    };
+    let tables = BondTables {
         strand_bonds,
         scaffold_bonds,
-        rank,
-        entries,
-        place,
-    )
+    };
+    exports::tables::mj_state_over(&design, &tables, rank, entries, place)
 }
 
 // The lowest configuration over lent bonds, into one lent entry for each position, and its energy.
@@ -177,20 +172,18 @@ pub extern "C" fn mj_search_over(
     ensures configuration_after { configuration.new ≡ search_over_entries (lent_at scaffold.entry marks.entry glues.entry dg.entry ds.entry potentials.entry rt strand_excess scaffold_excess) strand_bonds.now scaffold_bonds.now configuration.old }
     ensures lowest_told_over { LowestToldOver (lent_at scaffold.entry marks.entry glues.entry dg.entry ds.entry potentials.entry rt strand_excess scaffold_excess) strand_bonds.now scaffold_bonds.now result configuration.new energy.new }
 {
-    exports::tables::mj_search_over(
+    let design = Design {
         scaffold,
         marks,
         glues,
         dg,
         ds,
         potentials,
-        rt,
-        strand_excess,
-        scaffold_excess,
+        ambient: ambient(rt, strand_excess, scaffold_excess),
+    };
+    let tables = BondTables {
         strand_bonds,
         scaffold_bonds,
-        configuration,
-        place,
-        energy,
-    )
+    };
+    exports::tables::mj_search_over(&design, &tables, configuration, place, energy)
 }

@@ -5,6 +5,9 @@ ghost use Rattle.ceiling.specs.Answers.{ceiling_answer, ceiling_entries};
 ghost use Rattle.exports.specs.Lent.{lent_at};
 ghost use Rattle.exports.specs.Told.{Told};
 
+use design::Design;
+use exports::designs::ambient;
+
 // The first state in listing order whose state energy is at most the ceiling, into one lent entry for each position, and its energy.
 #[unsafe(no_mangle)]
 pub extern "C" fn mj_first_state_under(
@@ -25,19 +28,14 @@ pub extern "C" fn mj_first_state_under(
     ensures told { Told (ceiling_answer (lent_at scaffold.entry marks.entry glues.entry dg.entry ds.entry potentials.entry rt strand_excess scaffold_excess) ceiling entries.old) result place.new energy.new }
     ensures entries_after { entries.new ≡ ceiling_entries (lent_at scaffold.entry marks.entry glues.entry dg.entry ds.entry potentials.entry rt strand_excess scaffold_excess) ceiling entries.old }
 {
-    exports::under::mj_first_state_under(
+    let design = Design {
         scaffold,
         marks,
         glues,
         dg,
         ds,
         potentials,
-        rt,
-        strand_excess,
-        scaffold_excess,
-        ceiling,
-        entries,
-        place,
-        energy,
-    )
+        ambient: ambient(rt, strand_excess, scaffold_excess),
+    };
+    exports::under::mj_first_state_under(&design, ceiling, entries, place, energy)
 }

@@ -12,7 +12,7 @@ use Rattle.model.specs.Model.{Model, State, Friend, friends_at}
 use Rattle.model.specs.States.{states, count, state_at}
 use Rattle.model.proofs.Listing.{listed}
 use Rattle.ensemble.specs.Layout.{Searchable, OptionRows, option_in}
-use Rattle.ensemble.proofs.Options.{count-is, option_is}
+use Rattle.ensemble.proofs.OptionRows.{count-is, option_is}
 
 pub ranked-state : (m : Model) (rank : ℕ) → rank < count m → State m (state_at m rank)
 ranked-state m rank h =

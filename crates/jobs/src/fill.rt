@@ -2,7 +2,7 @@
 ghost use Rattle.std.specs.Prelude.{◌≡◌, map, ℕ, ◌*◌, ◌<◌, ◌≤◌, min, length};
 ghost use Rattle.lists.specs.Build.{product};
 ghost use Rattle.model.specs.Model.{Model};
-ghost use Rattle.ensemble.specs.Layout.{Searchable, OptionRows};
+ghost use Rattle.ensemble.specs.Layout.{OptionRows};
 ghost use Rattle.design.specs.Design.{Design};
 ghost use Rattle.prepared.specs.Layout.{StateCells};
 ghost use Rattle.jobs.specs.Job.{job_number};
@@ -12,6 +12,7 @@ ghost use Rattle.jobs.specs.inner.Settled.{energy_of_word, count_held, count_of_
 use super::job::{Job, read};
 use super::judge::{Judged, job_number};
 use super::settle::{Settled, job_energy};
+use ensemble::lent::LentModel;
 use ensemble::states::MOST_STATES;
 
 // The cell of each job by a rule.
@@ -34,40 +35,14 @@ pub(crate) fn fill_numbers(jobs: &[u32], judged: Judged, numbers: &mut [u32])
 }
 
 // The energy of each job on an admitted design.
-pub(crate) fn fill_energies(
-    jobs: &[u32],
-    rows: &[u8],
-    options: &[u8],
-    strand_bonds: &[f64],
-    scaffold_bonds: &[f64],
-    potentials: &[f64],
-    settled: Settled,
-    energies: &mut [f64],
-)
-    requires searchable { Searchable (length potentials.now) rows.now options.now }
-    requires potentials_nonzero { 0 < length potentials.now }
-    requires option_rows { (m : Model) × OptionRows m rows.now options.now }
-    requires potentials_in_bounds { length potentials.now * length potentials.now ≤ length strand_bonds.now }
-    requires potentials_in_bounds_2 { length options.now * length potentials.now ≤ length scaffold_bonds.now }
-    requires states_value { settled.states ≡ min (product options.now) 1048577 }
+pub(crate) fn fill_energies(jobs: &[u32], lent: &LentModel, settled: Settled, energies: &mut [f64])
+    requires strands_nonzero { 0 < lent.now.options.strands }
+    requires option_rows { (m : Model) × OptionRows m lent.now.options.rows.now lent.now.options.counts.now }
+    requires states_value { settled.states ≡ min (product lent.now.options.counts.now) 1048577 }
     requires energies_len { length energies.old ≡ length jobs.now }
-    ensures { (m : Model) → OptionRows m rows.now options.now → StateCells m (length potentials.now) strand_bonds.now scaffold_bonds.now potentials.now → settled.rt.0 ≡ m.rt → energies.new ≡ map (energy_of_word m settled.least.0) jobs.now }
+    ensures { (m : Model) → OptionRows m lent.now.options.rows.now lent.now.options.counts.now → StateCells m lent.now.options.strands lent.now.bonds.strand_bonds.cells.now lent.now.bonds.scaffold_bonds.now lent.now.bonds.potentials.now → settled.rt.0 ≡ m.rt → energies.new ≡ map (energy_of_word m settled.least.0) jobs.now }
 {
-    fill(
-        jobs,
-        |word| {
-            job_energy(
-                read(word),
-                rows,
-                options,
-                strand_bonds,
-                scaffold_bonds,
-                potentials,
-                settled,
-            )
-        },
-        energies,
-    );
+    fill(jobs, |word| job_energy(read(word), lent, settled), energies);
 }
 
 // The count of a job on an admitted design: 0 where there are too many states.

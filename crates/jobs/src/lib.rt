@@ -11,18 +11,23 @@ ghost use Rattle.std.specs.Prelude.{◌≡◌, ◌||◌, not, map, ℕ, ◌*◌,
 ghost use Rattle.lists.specs.Build.{product};
 ghost use Rattle.reply.specs.First.{bare};
 ghost use Rattle.model.specs.Model.{Model};
-ghost use Rattle.ensemble.specs.Layout.{Searchable, OptionRows};
+ghost use Rattle.ensemble.specs.Layout.{OptionRows};
 ghost use Rattle.design.specs.Design.{positions, strands, model_of};
 ghost use Rattle.design.specs.Checks.{Admitted};
 ghost use Rattle.jobs.specs.Job.{job_energy, job_count};
 ghost use Rattle.jobs.specs.Sheet.{sheet, stretches_of, sheet_reply, sheet_numbers, sheet_energies, sheet_counts, sheet_stretches};
 
 use design::Design;
+use ensemble::bonds::Bonds;
+use ensemble::lent::LentModel;
+use ensemble::lowest::lowest;
+use ensemble::options::Options;
 use fill::{fill_counts, fill_energies, fill_numbers, fill_stretches};
 use judge::judge;
+use prepared::bonds::fill_bonds;
 use reply::limits::POSITIONS;
 use reply::{Refusal, refused_if};
-use settle::{Settled, settle};
+use settle::Settled;
 
 // The most jobs of a sheet.
 const JOBS: usize = 64;
@@ -70,48 +75,35 @@ fn wrong_sheet(
 // The figures of all jobs on an admitted design, and the stretches of its searches.
 fn answer_jobs(
     design: &Design,
-    rows: &[u8],
-    options: &[u8],
+    options: &Options,
     states: u64,
     jobs: &[u32],
     energies: &mut [f64],
     counts: &mut [u64],
     stretches: &mut [u8],
 )
-    requires searchable { Searchable (strands design.now) rows.now options.now }
+    requires same_strands { options.now.strands ≡ strands design.now }
     requires strands_nonzero { 0 < strands design.now }
-    requires option_rows { (m : Model) × OptionRows m rows.now options.now }
-    requires options_len { length options.now ≡ positions design.now }
-    requires states_value { states ≡ min (product options.now) 1048577 }
+    requires option_rows { (m : Model) × OptionRows m options.now.rows.now options.now.counts.now }
+    requires options_len { length options.now.counts.now ≡ positions design.now }
+    requires states_value { states ≡ min (product options.now.counts.now) 1048577 }
     requires jobs_len_bound { length jobs.now ≤ 64 }
     requires energies_len { length energies.old ≡ length jobs.now }
     requires counts_len { length counts.old ≡ length jobs.now }
     requires stretches_len { length stretches.old ≡ length jobs.now * positions design.now }
-    ensures { Admitted design.now → OptionRows (model_of design.now) rows.now options.now → (energies.new ≡ map (job_energy design.now) jobs.now) × (counts.new ≡ map (job_count design.now) jobs.now) × (stretches.new ≡ stretches_of design.now jobs.now stretches.old) }
+    ensures { Admitted design.now → OptionRows (model_of design.now) options.now.rows.now options.now.counts.now → (energies.new ≡ map (job_energy design.now) jobs.now) × (counts.new ≡ map (job_count design.now) jobs.now) × (stretches.new ≡ stretches_of design.now jobs.now stretches.old) }
 {
-    let positions = options.len();
+    let positions = options.counts.len();
     let mut strand_bonds = [0.0; STRAND_BONDS];
     let mut scaffold_bonds = [0.0; SCAFFOLD_BONDS];
     let mut configuration = [0; POSITIONS];
-    let least = settle(
-        design,
-        rows,
-        options,
-        &mut strand_bonds,
-        &mut scaffold_bonds,
-        &mut configuration[..positions],
-    );
-    let rt = design.ambient.rt;
-    fill_energies(
-        jobs,
-        rows,
-        options,
-        &strand_bonds,
-        &scaffold_bonds,
-        design.potentials,
-        Settled { states, rt, least },
-        energies,
-    );
+    fill_bonds(design, options, &mut strand_bonds, &mut scaffold_bonds);
+    let options = *options;
+    let bonds = Bonds::new(&strand_bonds, &scaffold_bonds, design.potentials());
+    let lent = LentModel { options, bonds };
+    let rt = design.rt();
+    let least = lowest(&lent, rt, &mut configuration[..positions]);
+    fill_energies(jobs, &lent, Settled { states, rt, least }, energies);
     fill_counts(jobs, states, counts);
     fill_stretches(jobs, &configuration[..positions], stretches);
 }
@@ -151,10 +143,14 @@ pub fn job_sheet(
         counts.fill(0);
         return Ok(());
     }
+    let options = Options {
+        rows: &rows,
+        counts: &options[..positions],
+        strands: design.strands(),
+    };
     answer_jobs(
         design,
-        &rows,
-        &options[..positions],
+        &options,
         judged.states,
         jobs,
         energies,

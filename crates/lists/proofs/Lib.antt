@@ -9,3 +9,4 @@ pub mod Grid
 pub mod Counted
 pub mod Permuted
 pub mod Places
+pub mod Searches

@@ -9,7 +9,7 @@ use lib.Ieee.{binary64}
 use borrow.Author.Tests.{eq-eqb, eqb-true, not-false}
 use Rattle.doubles.specs.Decimal.{zero}
 use Rattle.doubles.specs.Size.{Within}
-use Rattle.reply.specs.First.{Check, first_of, refuses}
+use Rattle.reply.specs.First.{Check, first_of}
 use Rattle.reply.specs.Figures.{figures_of, entries_of}
 use Rattle.reply.proofs.Figures.{by-reply, number-admitted}
 use Rattle.model.specs.Search as Search

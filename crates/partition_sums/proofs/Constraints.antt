@@ -1,9 +1,10 @@
 -- The lists of a constraint, as they are lent. Assumes nothing.
-use mathlib.Core.Path.{◌≡◌, refl, sym, ap₂}
+use mathlib.Core.Path.{◌≡◌, refl, sym, ap, ap₂}
 use mathlib.Core.Bool.{Bool, true, false, ◌||◌}
 use mathlib.Core.List.{List, [], ◌∷◌}
 use Prim.Native.Nat.{ℕ, ◌+◌, ◌-◌, ◌<◌}
 use native.Mathlib.Nat.{add-sub_cancel_left}
+use native.Mathlib.Omega.{arith}
 use borrow.Author.Tests.{eqb-true, eqb-false, eq-eqb, ne_eqb}
 use lib.Dec.{eqb}
 use Rattle.std.specs.List.{list_any}
@@ -17,6 +18,10 @@ module _ (numbers starts lengths : List ℕ) where
   pub length-lists : length (lists_of numbers starts lengths) ≡ length starts
   unfolding lists_of
   length-lists = length-tabulate (length starts) (list_at numbers starts lengths)
+
+  -- a position has a start where it has a list
+  pub has_start : {lists : List (List ℕ)} (i : ℕ) → lists_of numbers starts lengths ≡ lists → i < length lists → i < length starts
+  has_start i e h = let n = ap length e in omega (arith, length-lists)
 
   -- a list, lent as a part
   pub list-part : (i : ℕ) → i < length starts → take (get_or starts i 0 + get_or lengths i 0 - get_or starts i 0) (drop (get_or starts i 0) numbers) ≡ get_or (lists_of numbers starts lengths) i []

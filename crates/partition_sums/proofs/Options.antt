@@ -8,7 +8,7 @@ use Rattle.lists.proofs.Places.{tabulate-get_or}
 use Rattle.model.specs.Model as Model
 use Rattle.model.specs.Model.{Model, options, options_of}
 use Rattle.ensemble.specs.Layout.{OptionRows}
-use Rattle.ensemble.proofs.Options.{options-are, friends-are}
+use Rattle.ensemble.proofs.OptionRows.{options-are, friends-are}
 use Rattle.partition_sums.specs.Layout.{options_at, options_in, friends_at, friends_in}
 
 module _ {m : Model} {rows counts : List ℕ} (w : OptionRows m rows counts) where

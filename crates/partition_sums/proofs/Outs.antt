@@ -3,7 +3,7 @@ use mathlib.Core.Path.{◌≡◌, refl, sym, ap, ap₂, ◌∙◌}
 use mathlib.Core.Bool.{Bool, true, false, ◌||◌}
 use mathlib.Core.List.{List, [], ◌∷◌}
 use Prim.Native.Nat.{ℕ, zero, suc, ◌+◌, ◌*◌, ◌-◌, ◌≤◌, ◌<◌}
-use native.Mathlib.Nat.{lt_of_not-le, not-suc-le-zero, add-zero}
+use native.Mathlib.Nat.{zero-lt-suc, lt_of_not-le, not-suc-le-zero, add-zero}
 use native.Mathlib.Decide.{dec_le}
 use native.Mathlib.Omega.{arith}
 use lib.ListN.{length, get_or, drop, length-drop}
@@ -17,11 +17,11 @@ use Rattle.ensemble.specs.Layout.{Searchable}
 use Rattle.partition.specs.Weights.{Weights, place_out, pairs_out, places_out_at, pairs_out_at, weights_out}
 use Rattle.partition_sums.specs.Layout.{friends_at, friends_in}
 
--- the library's `any` is the same
-pub list-any : {A : Type 0} (p : A → Bool) (xs : List A) → list_any p xs ≡ any p xs
+-- two tests that agree below a bound, over numbers below it
+pub any-below : (p q : ℕ → Bool) (n : ℕ) (xs : List ℕ) → ((k : ℕ) → k < length xs → get_or xs k 0 < n) → ((x : ℕ) → x < n → p x ≡ q x) → any p xs ≡ any q xs
 unfolding any
-list-any p [] = refl
-list-any p (x ∷ xs) = ap (λ (b : Bool). p x || b) (list-any p xs)
+any-below p q n [] low same = refl
+any-below p q n (x ∷ xs) low same = ap₂ ◌||◌ (same x (low 0 (zero-lt-suc (length xs)))) (any-below p q n xs (λ k h. low (suc k) (omega (arith, h))) same)
 
 any-here-or : (p : ℕ → Bool) (n a : ℕ) → a < n → any p (drop a (up_to n)) ≡ (p a || any p (drop (a + 1) (up_to n)))
 unfolding any

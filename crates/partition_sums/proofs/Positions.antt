@@ -24,8 +24,9 @@ use Rattle.partition.specs.inner.Used.{Weighs, Fit, PlaceFit, PairFit, Used, InU
 use Rattle.partition.proofs.Cuts.{times_cut}
 use Rattle.partition.proofs.Passed.{Usable, passed-holds, whole-holds}
 use Rattle.partition.proofs.Summed.{Few, not-zero, or_left, or_right, usable}
-use Rattle.partition_sums.specs.Layout.{options_at, options_in}
-use Rattle.partition_sums.specs.inner.Lending.{Lending, Sound}
+use Rattle.partition_sums.specs.Layout.{options_at, options_in, options_of, weights_of}
+use Rattle.partition_sums.specs.declared.lent.Lent.{Lent}
+use Rattle.partition_sums.specs.declared.lent.Formed.{Formed}
 use Rattle.partition_sums.specs.inner.Rows.{place_term, pair_term, row_term, joined, Joins, Row}
 use Rattle.partition_sums.proofs.Rowed.{mem_index, sum-fit, sum-terms-same, step-passed}
 
@@ -133,101 +134,111 @@ joined-fit {w} {row} {left} {right} j =
 pub item-in : {items options : List ℕ} (k : ℕ) → items ≡ options → k < length items → Memᴰ (get_or items k 0) options
 item-in {items} k e h = subst (λ (xs : List ℕ). Memᴰ (get_or items k 0) xs) e (mem-get_or 0 items k h)
 
-module _ (l : Lending) where
+module _ (l : Lent) where
   -- the options of a position
   abbrev pub here : ℕ → List ℕ
-  here i = options_at l.rows l.counts i
+  here i = options_at l.options.rows.now l.options.counts.now i
 
   -- the term of an occupant of a position with all that can follow it
   abbrev pub passed_at : ℕ → ℕ → Term
-  passed_at i = passed (place_term l.weights) (pair_term l.weights) i (drop (i + 1) (options_in l.rows l.counts))
+  passed_at i = passed (place_term (weights_of l.weights)) (pair_term (weights_of l.weights)) i (drop (i + 1) (options_of l.options))
 
-module _ (l : Lending) (some : 0 < length l.counts) (sound : Sound l) (u : InUse l.weights 0 (options_in l.rows l.counts)) where
-  used-at : (i : ℕ) → i < length l.counts → InUse l.weights i (drop i (options_in l.rows l.counts))
-  used-at i h = rw (zero-add i) at (used-from (PlaceFit 400000 (place_weight l.weights)) (PairFit 400000 (pair_weight l.weights)) i 0 (options_in l.rows l.counts) u (rw (options-length sound.searchable) h))
+  -- its options are of as many strands as the weights
+  pub searchable : Searchable l.weights.strands l.options.rows.now l.options.counts.now
+  searchable = rw l.same_strands l.options.searchable
+
+module _ (s : Formed) where
+  abbrev l : Lent
+  l = s.lent
+
+  abbrev w : Weights
+  w = weights_of s.lent.weights
+
+  used-at : (i : ℕ) → i < length l.options.counts.now → InUse w i (drop i (options_of l.options))
+  used-at i h = rw (zero-add i) at (used-from (PlaceFit 400000 (place_weight w)) (PairFit 400000 (pair_weight w)) i 0 (options_of l.options) s.in_use (rw (options-length (searchable l)) h))
 
   -- each option's weight at its position is in form, and so is that of two neighbours
-  place-form : (i x : ℕ) → i < length l.counts → Memᴰ x (here l i) → PlaceFit 400000 (place_weight l.weights) i x
-  place-form i x h m = go (drop (i + 1) (options_in l.rows l.counts)) (subst (λ (o : List (List ℕ)). InUse l.weights i o) (options-from sound.searchable i h) (used-at i h))
+  place-form : (i x : ℕ) → i < length l.options.counts.now → Memᴰ x (here l i) → PlaceFit 400000 (place_weight w) i x
+  place-form i x h m = go (drop (i + 1) (options_of l.options)) (subst (λ (o : List (List ℕ)). InUse w i o) (options-from (searchable l) i h) (used-at i h))
     where
-      go : (later : List (List ℕ)) → InUse l.weights i (here l i ∷ later) → PlaceFit 400000 (place_weight l.weights) i x
+      go : (later : List (List ℕ)) → InUse w i (here l i ∷ later) → PlaceFit 400000 (place_weight w) i x
       go [] v = v x m
       go (next ∷ later) v = v.0 x m
 
-  pair-form : (i x y : ℕ) → i + 1 < length l.counts → Memᴰ x (here l i) → Memᴰ y (here l (i + 1)) → PairFit 400000 (pair_weight l.weights) x y
+  pair-form : (i x y : ℕ) → i + 1 < length l.options.counts.now → Memᴰ x (here l i) → Memᴰ y (here l (i + 1)) → PairFit 400000 (pair_weight w) x y
   pair-form i x y h m k =
-      let h' : i < length l.counts = omega arith in
-      let v = subst (λ (o : List (List ℕ)). InUse l.weights i o) (options-from sound.searchable i h' ∙ ap (here l i ∷◌) (options-from sound.searchable (i + 1) h)) (used-at i h') in
+      let h' : i < length l.options.counts.now = omega arith in
+      let v = subst (λ (o : List (List ℕ)). InUse w i o) (options-from (searchable l) i h' ∙ ap (here l i ∷◌) (options-from (searchable l) (i + 1) h)) (used-at i h') in
       v.1 x y m k
 
-  usable_at : (i : ℕ) → i < length l.counts → Usable (place_term l.weights) (pair_term l.weights) 800000 i (here l i) (drop (i + 1) (options_in l.rows l.counts))
+  usable_at : (i : ℕ) → i < length l.options.counts.now → Usable (place_term w) (pair_term w) 800000 i (here l i) (drop (i + 1) (options_of l.options))
   usable_at i h =
-      let o = options_in l.rows l.counts in
-      let split : o ≡ here l 0 ∷ drop 1 o = options-from sound.searchable 0 some in
-      let v = usable 400000 (lit≤ tt) (place_weight l.weights) (pair_weight l.weights) 0 (here l 0) (drop 1 o) (subst (λ (z : List (List ℕ)). InUse l.weights 0 z) split u) (subst (λ (z : List (List ℕ)). Few z) split (few-options sound.searchable)) (subst (λ (z : List (List ℕ)). none_left z ≡ false) split (some-options sound.searchable)) in
-      let n : suc (length (drop 1 o)) ≡ length l.counts = sym (ap length split) ∙ options-length sound.searchable in
-      let g = usable-from (place_term l.weights) (pair_term l.weights) 800000 i 0 (here l 0) (drop 1 o) v (omega arith) in
+      let o = options_of l.options in
+      let split : o ≡ here l 0 ∷ drop 1 o = options-from (searchable l) 0 s.some in
+      let v = usable 400000 (lit≤ tt) (place_weight w) (pair_weight w) 0 (here l 0) (drop 1 o) (subst (λ (z : List (List ℕ)). InUse w 0 z) split s.in_use) (subst (λ (z : List (List ℕ)). Few z) split (few-options (searchable l))) (subst (λ (z : List (List ℕ)). none_left z ≡ false) split (some-options (searchable l))) in
+      let n : suc (length (drop 1 o)) ≡ length l.options.counts.now = sym (ap length split) ∙ options-length (searchable l) in
+      let g = usable-from (place_term w) (pair_term w) 800000 i 0 (here l 0) (drop 1 o) v (omega arith) in
       let first : get_or (here l 0 ∷ drop 1 o) i [] ≡ here l i = sym (ap (λ (z : List (List ℕ)). get_or z i []) split) ∙ at i h in
       let rest : drop i (drop 1 o) ≡ drop (i + 1) o = dropped i in
-      subst (λ (z : List (List ℕ)). Usable (place_term l.weights) (pair_term l.weights) 800000 i (here l i) z) rest (subst (λ (z : List ℕ). Usable (place_term l.weights) (pair_term l.weights) 800000 i z (drop i (drop 1 o))) first (rw (zero-add i) at g))
+      subst (λ (z : List (List ℕ)). Usable (place_term w) (pair_term w) 800000 i (here l i) z) rest (subst (λ (z : List ℕ). Usable (place_term w) (pair_term w) 800000 i z (drop i (drop 1 o))) first (rw (zero-add i) at g))
     where
-      at : (i : ℕ) → i < length l.counts → get_or (options_in l.rows l.counts) i [] ≡ here l i
-      at i h = options-at sound.searchable i h
+      at : (i : ℕ) → i < length l.options.counts.now → get_or (options_of l.options) i [] ≡ here l i
+      at i h = options-at (searchable l) i h
 
-      dropped : (i : ℕ) → drop i (drop 1 (options_in l.rows l.counts)) ≡ drop (i + 1) (options_in l.rows l.counts)
-      dropped i = drop-drop i 1 (options_in l.rows l.counts) ∙ ap (λ (k : ℕ). drop k (options_in l.rows l.counts)) (add_comm 1 i)
+      dropped : (i : ℕ) → drop i (drop 1 (options_of l.options)) ≡ drop (i + 1) (options_of l.options)
+      dropped i = drop-drop i 1 (options_of l.options) ∙ ap (λ (k : ℕ). drop k (options_of l.options)) (add_comm 1 i)
 
   -- the terms of a row have their form
-  bounded : (i : ℕ) → i < length l.counts → 800000 + length (drop (i + 1) (options_in l.rows l.counts)) * (2 * 800000 + 125) ≤ 2 ^ 30 - 64
+  bounded : (i : ℕ) → i < length l.options.counts.now → 800000 + length (drop (i + 1) (options_of l.options)) * (2 * 800000 + 125) ≤ 2 ^ 30 - 64
   bounded i h =
-      let n : length (drop (i + 1) (options_in l.rows l.counts)) ≡ length l.counts - (i + 1) = length-drop (i + 1) (options_in l.rows l.counts) ∙ ap (λ (z : ℕ). z - (i + 1)) (options-length sound.searchable) in
-      let short = sound.searchable.short in
+      let n : length (drop (i + 1) (options_of l.options)) ≡ length l.options.counts.now - (i + 1) = length-drop (i + 1) (options_of l.options) ∙ ap (λ (z : ℕ). z - (i + 1)) (options-length (searchable l)) in
+      let short = (searchable l).short in
       omega arith
 
-  pub row-terms : (i : ℕ) (row : List Term) → i < length l.counts → Row l i row → (x : ℕ) → Memᴰ x (here l i) → Fit (2 ^ 30) (row_term row x)
+  pub row-terms : (i : ℕ) (row : List Term) → i < length l.options.counts.now → Row l i row → (x : ℕ) → Memᴰ x (here l i) → Fit (2 ^ 30) (row_term row x)
   row-terms i row h r x m =
-      let f = passed-holds (place_term l.weights) (pair_term l.weights) 800000 i (here l i) (drop (i + 1) (options_in l.rows l.counts)) (usable_at i h) x m in
+      let f = passed-holds (place_term w) (pair_term w) 800000 i (here l i) (drop (i + 1) (options_of l.options)) (usable_at i h) x m in
       let b = bounded i h in
       rw (r.terms x m) (record { form = f.form; low = omega (arith, f.low) })
 
   -- what the factor of a place reads is there
-  pub place-weighs : (i x : ℕ) → i < length l.counts → Memᴰ x (here l i) → eqb x 0 ≡ false → Weighs 400000 (place_weight l.weights i x)
+  pub place-weighs : (i x : ℕ) → i < length l.options.counts.now → Memᴰ x (here l i) → eqb x 0 ≡ false → Weighs 400000 (place_weight w i x)
   place-weighs i x h m e = place-form i x h m (not-zero x e)
 
-  pub place-fit : (i x : ℕ) → i < length l.counts → Memᴰ x (here l i) → Fit 800000 (place_term l.weights i x)
-  place-fit i x h m = factor-fit (eqb x 0) (place_weight l.weights i x) (place-weighs i x h m)
+  pub place-fit : (i x : ℕ) → i < length l.options.counts.now → Memᴰ x (here l i) → Fit 800000 (place_term w i x)
+  place-fit i x h m = factor-fit (eqb x 0) (place_weight w i x) (place-weighs i x h m)
 
   -- and what the factor of a pair and the term of its right occupant read
-  pub joins_at : (i x y : ℕ) (row : List Term) → i + 1 < length l.counts → Memᴰ x (here l i) → Row l (i + 1) row → Memᴰ y (here l (i + 1)) → Joins l.weights row x y
+  pub joins_at : (i x y : ℕ) (row : List Term) → i + 1 < length l.options.counts.now → Memᴰ x (here l i) → Row l (i + 1) row → Memᴰ y (here l (i + 1)) → Joins w row x y
   joins_at i x y row h m r n =
-      let known = known_of sound.searchable (i + 1) y h n in
-      let few = sound.searchable.few in
+      let known = known_of (searchable l) (i + 1) y h n in
+      let few = (searchable l).few in
       record {
-        left-known = known_of sound.searchable i x (omega arith) m;
+        left-known = known_of (searchable l) i x (omega arith) m;
         right-known = known;
         few = omega arith;
         form = λ e. pair-form i x y h m n (not-zero x (or_left (eqb x 0) (eqb y 0) e)) (not-zero y (or_right (eqb x 0) (eqb y 0) e));
         term = row-terms (i + 1) row h r y n;
       }
 
-  pub joined-sum-fit : (i x : ℕ) (row : List Term) → i + 1 < length l.counts → Memᴰ x (here l i) → Row l (i + 1) row → Fit (2 ^ 32) (sum_terms (joined l.weights row x) (here l (i + 1)))
+  pub joined-sum-fit : (i x : ℕ) (row : List Term) → i + 1 < length l.options.counts.now → Memᴰ x (here l i) → Row l (i + 1) row → Fit (2 ^ 32) (sum_terms (joined w row x) (here l (i + 1)))
   joined-sum-fit i x row h m r =
-      sum-fit (joined l.weights row x) (here l (i + 1)) (some_at sound.searchable (i + 1) h) (few-at sound.searchable (i + 1) h)
+      sum-fit (joined w row x) (here l (i + 1)) (some_at (searchable l) (i + 1) h) (few-at (searchable l) (i + 1) h)
       (λ k g. joined-fit (joins_at i x (get_or (here l (i + 1)) k 0) row h m r (mem-get_or 0 (here l (i + 1)) k g)))
 
   -- what is written is the pass's
-  pub last-passed : (i x : ℕ) → i + 1 ≡ length l.counts → place_term l.weights i x ≡ passed_at l i x
+  pub last-passed : (i x : ℕ) → i + 1 ≡ length l.options.counts.now → place_term w i x ≡ passed_at l i x
   unfolding passed
-  last-passed i x e = ap (λ (later : List (List ℕ)). passed (place_term l.weights) (pair_term l.weights) i later x) (sym (options-past sound.searchable (i + 1) (omega arith)))
+  last-passed i x e = ap (λ (later : List (List ℕ)). passed (place_term w) (pair_term w) i later x) (sym (options-past (searchable l) (i + 1) (omega arith)))
 
-  pub next-passed : (i x : ℕ) (row : List Term) → i + 1 < length l.counts → Row l (i + 1) row → times (place_term l.weights i x) (sum_terms (joined l.weights row x) (here l (i + 1))) ≡ passed_at l i x
+  pub next-passed : (i x : ℕ) (row : List Term) → i + 1 < length l.options.counts.now → Row l (i + 1) row → times (place_term w i x) (sum_terms (joined w row x) (here l (i + 1))) ≡ passed_at l i x
   next-passed i x row h r =
-      step-passed l.weights i (here l (i + 1)) (drop (i + 1 + 1) (options_in l.rows l.counts)) row x (λ y k. r.terms y k ∙ ap (λ (j : ℕ). passed (place_term l.weights) (pair_term l.weights) j (drop (i + 1 + 1) (options_in l.rows l.counts)) y) (add-one i))
-      ∙ ap (λ (later : List (List ℕ)). passed (place_term l.weights) (pair_term l.weights) i later x) (sym (options-from sound.searchable (i + 1) h))
+      step-passed w i (here l (i + 1)) (drop (i + 1 + 1) (options_of l.options)) row x (λ y k. r.terms y k ∙ ap (λ (j : ℕ). passed (place_term w) (pair_term w) j (drop (i + 1 + 1) (options_of l.options)) y) (add-one i))
+      ∙ ap (λ (later : List (List ℕ)). passed (place_term w) (pair_term w) i later x) (sym (options-from (searchable l) (i + 1) h))
 
   -- the sum over the first row
   abbrev pub sum_of_row : Term
-  sum_of_row = passed_whole (place_term l.weights) (pair_term l.weights) (here l 0) (drop 1 (options_in l.rows l.counts))
+  sum_of_row = passed_whole (place_term w) (pair_term w) (here l 0) (drop 1 (options_of l.options))
 
   pub row-whole : (row : List Term) → Row l 0 row → sum_terms (row_term row) (here l 0) ≡ sum_of_row
   unfolding passed_whole
@@ -235,15 +246,15 @@ module _ (l : Lending) (some : 0 < length l.counts) (sound : Sound l) (u : InUse
 
   pub sum-bounded : (sum_of_row.digits < 2 ^ 31) × (sum_of_row.power ≤ 2 ^ 30)
   sum-bounded =
-      let f = whole-holds (place_term l.weights) (pair_term l.weights) 800000 (here l 0) (drop 1 (options_in l.rows l.counts)) (usable_at 0 some) in
-      let b = bounded 0 some in
+      let f = whole-holds (place_term w) (pair_term w) 800000 (here l 0) (drop 1 (options_of l.options)) (usable_at 0 s.some) in
+      let b = bounded 0 s.some in
       (f.form.most, omega (arith, f.low))
 
-  pub sum-lowered : lowered 400000 (factors (length l.counts)) sum_of_row ≡ sum_of_weights l.weights (options_in l.rows l.counts)
+  pub sum-lowered : lowered 400000 (factors (length l.options.counts.now)) sum_of_row ≡ sum_of_weights w (options_of l.options)
   unfolding passed_sum summed
   sum-lowered =
-      let o = options_in l.rows l.counts in
-      let split : o ≡ here l 0 ∷ drop 1 o = options-from sound.searchable 0 some in
-      let n : suc (length (drop 1 o)) ≡ length l.counts = sym (ap length split) ∙ options-length sound.searchable in
-      ap (λ (f : ℕ). lowered 400000 (factors f) sum_of_row) (sym n) ∙ ap (passed_sum 400000 (place_weight l.weights) (pair_weight l.weights)) (sym split)
-      ∙ ap (λ (b : Bool). cond b zero_weight (passed_sum 400000 (place_weight l.weights) (pair_weight l.weights) o)) (sym (some-options sound.searchable))
+      let o = options_of l.options in
+      let split : o ≡ here l 0 ∷ drop 1 o = options-from (searchable l) 0 s.some in
+      let n : suc (length (drop 1 o)) ≡ length l.options.counts.now = sym (ap length split) ∙ options-length (searchable l) in
+      ap (λ (f : ℕ). lowered 400000 (factors f) sum_of_row) (sym n) ∙ ap (passed_sum 400000 (place_weight w) (pair_weight w)) (sym split)
+      ∙ ap (λ (b : Bool). cond b zero_weight (passed_sum 400000 (place_weight w) (pair_weight w) o)) (sym (some-options (searchable l)))

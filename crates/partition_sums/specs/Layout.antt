@@ -4,6 +4,8 @@ use Rattle.std.specs.Prelude.{◌≡◌, List, ℕ, ◌+◌, ◌*◌, ◌-◌, �
 use Rattle.std.specs.Borrow.{Bor}
 use Rattle.lists.specs.Build.{tabulate}
 use Rattle.partition.specs.Weights.{Weights}
+use Rattle.ensemble.specs.declared.options.Options.{Options}
+use Rattle.partition_sums.specs.declared.weights.Weights as Lent
 
 -- ---- options: rows of 64, a row for each position, and how many options each position has
 
@@ -25,12 +27,24 @@ unfoldable pub friends_in : List ℕ → List ℕ → List (List ℕ)
 unfolding tabulate
 friends_in rows counts = tabulate (length counts) (friends_at rows counts)
 
+-- of options as a struct
+abbrev pub options_of : Options → List (List ℕ)
+options_of o = options_in o.rows.now o.counts.now
+
+-- and its friends
+abbrev pub friends_of : Options → List (List ℕ)
+friends_of o = friends_in o.rows.now o.counts.now
+
 -- ---- weights
 
 -- the weights of so many strands that a call is lent
 abbrev pub lent_weights : ℕ → Bor (List ℕ) → Bor (List ℤ) → Bor (List ℕ) → Bor (List ℤ) → Weights
 lent_weights strands place_digits place_powers pair_digits pair_powers =
     record { strands = strands; place_digits = place_digits.now; place_powers = place_powers.now; pair_digits = pair_digits.now; pair_powers = pair_powers.now }
+
+-- those of a struct
+abbrev pub weights_of : Lent.Weights → Weights
+weights_of w = lent_weights w.strands w.place_digits w.place_powers w.pair_digits w.pair_powers
 
 -- there is a cell for each position and strand, and for each left and right strand
 pub record Celled (positions : ℕ) (w : Weights) : Type 0 where

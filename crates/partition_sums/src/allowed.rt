@@ -4,7 +4,7 @@ ghost use Rattle.partition.specs.Constraint.{allows};
 ghost use Rattle.partition_sums.specs.inner.Kept.{Kept, KeptRows};
 
 use super::constraint::Constraint;
-use super::lent::Lent;
+use ensemble::options::Options;
 
 // Whether a list allows an occupant: an empty one allows all.
 #[tactic(auto, unfolding(partition::specs::Constraint::allows))]
@@ -20,6 +20,7 @@ fn keep_row(list: &[u8], options: &[u8], row: &mut [u8]) -> u8
     requires row_len { length row.old ≡ 64 }
     ensures { Kept list.now options.now row.new result }
 {
+    // Written by number: of entries that a zip lends to be written nothing is known afterwards.
     let mut count = 0;
     for x in options {
         if list_allows(list, *x) {
@@ -32,21 +33,22 @@ fn keep_row(list: &[u8], options: &[u8], row: &mut [u8]) -> u8
 
 // The options of each position that its list allows, into its row, and how many there are.
 pub(crate) fn keep_allowed(
-    lent: &Lent<'_>,
+    options: &Options<'_>,
     constraint: &Constraint<'_>,
     kept_rows: &mut [u8],
     kept_counts: &mut [u8],
 )
-    requires constraint_len { length constraint.now ≡ length lent.now.counts }
-    requires counts_in_bounds { 64 * length lent.now.counts ≤ length kept_rows.old }
-    requires kept_counts_len { length kept_counts.old ≡ length lent.now.counts }
-    ensures { KeptRows lent.now.rows lent.now.counts constraint.now kept_rows.new kept_counts.new }
+    requires constraint_len { length constraint.now ≡ length options.now.counts.now }
+    requires counts_in_bounds { 64 * length options.now.counts.now ≤ length kept_rows.old }
+    requires kept_counts_len { length kept_counts.old ≡ length options.now.counts.now }
+    ensures { KeptRows options.now.rows.now options.now.counts.now constraint.now kept_rows.new kept_counts.new }
 {
+    // By number, since lists and options are asked for by it.
     for position in 0..kept_counts.len() {
         let row = 64 * position;
         kept_counts[position] = keep_row(
             constraint.list(position),
-            lent.options(position),
+            options.of(position),
             &mut kept_rows[row..row + 64],
         );
     }

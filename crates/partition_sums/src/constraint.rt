@@ -5,10 +5,10 @@ use std::marker::Model;
 
 // All numbers in one slice, and for each position where its list starts and how long it is. A clause sees the lists.
 #[derive(Drop)]
-pub(crate) struct Constraint<'a> {
-    pub(crate) numbers: &'a [u8],
-    pub(crate) starts: &'a [usize],
-    pub(crate) lengths: &'a [usize],
+pub struct Constraint<'a> {
+    pub numbers: &'a [u8],
+    pub starts: &'a [usize],
+    pub lengths: &'a [usize],
 }
 
 impl<'a> Model for Constraint<'a> {
@@ -25,6 +25,7 @@ impl<'a> Model for Constraint<'a> {
 
 impl Constraint<'_> {
     // The list of a position.
+    #[tactic(auto, using(crate::proofs::Constraints::has_start))]
     pub(crate) fn list(&self, position: usize) -> &[u8]
         requires { position < length self.now }
         ensures { result.now ≡ get_or self.now position [] }

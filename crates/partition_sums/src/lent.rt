@@ -1,15 +1,14 @@
 // What a call is lent: the options of each position, and the weights of places and pairs.
 ghost use Rattle.std.specs.Prelude.{◌≡◌, ◌||◌, ℕ, ◌<◌, eqb, false, length};
-ghost use Rattle.partition.specs.Weights as Weights;
-ghost use Rattle.partition.specs.inner.Used.{Weighs};
-ghost use Rattle.partition_sums.specs.Layout.{options_at, friends_at};
-ghost use Rattle.partition_sums.specs.inner.Lending.{Sound};
-ghost use Rattle.partition_sums.specs.inner.Rows.{place_term, pair_term};
+ghost use Rattle.partition.specs.inner.Used.{InUse, Weighs};
+ghost use Rattle.partition.specs.Weights.{weight_at, place_weight, pair_weight};
+ghost use Rattle.partition_sums.specs.Layout.{options_of, weights_of, Celled};
+ghost use Rattle.partition_sums.specs.inner.Props.{in_use_prop};
 
 use super::terms::lifted;
-use fractions::Weight;
+use super::weights::{WeightRow, Weights};
+use ensemble::options::Options;
 use partition::Term;
-use std::marker::Model;
 
 // The factor of an empty place, and of a pair with one: 2^30 2^-30, the exponent 400,000 higher.
 const ONE: Term = Term {
@@ -17,90 +16,67 @@ const ONE: Term = Term {
     power: 399970,
 };
 
-// Each position has a row of 64 strands, which begins with its options; its friends come before 0. Weights have their digits and their exponents apart,
-// with a cell for each position and strand, and for each left and right strand, row first.
-#[derive(Drop)]
-pub(crate) struct Lent<'a> {
-    pub(crate) rows: &'a [u8],
-    pub(crate) counts: &'a [u8],
-    pub(crate) place_digits: &'a [u32],
-    pub(crate) place_powers: &'a [i32],
-    pub(crate) pair_digits: &'a [u32],
-    pub(crate) pair_powers: &'a [i32],
-    pub(crate) strands: usize,
+// Options and weights of as many strands, with all cells; each lent for its own time, so that weights serve for other options too.
+#[derive(Clone, Copy)]
+pub struct Lent<'a, 'b> {
+    pub options: Options<'a>,
+    pub weights: Weights<'b>,
+    ghost same_strands: { weights.strands ≡ options.strands },
+    ghost celled: { Celled (length options.counts.now) (weights_of weights) },
 }
 
-impl<'a> Model for Lent<'a> {
-    ghost use Rattle.partition_sums.specs.Layout.{lent_weights};
-    ghost use Rattle.partition_sums.specs.inner.Lending.{Lending, Sound};
-
-    ghost Value = { Lending };
-
-    ghost view = { λ a. record { rows = a.rows.now; counts = a.counts.now; weights = lent_weights a.strands a.place_digits a.place_powers a.pair_digits a.pair_powers } };
-
-    ghost invariant = { λ a. Sound (record { rows = a.rows.now; counts = a.counts.now; weights = lent_weights a.strands a.place_digits a.place_powers a.pair_digits a.pair_powers }) };
+// What the pass goes over: one position or more, and each weight that some state uses in its form.
+#[derive(Clone, Copy)]
+pub struct Formed<'a, 'b> {
+    pub lent: Lent<'a, 'b>,
+    ghost some: { 0 < length lent.options.counts.now },
+    ghost in_use: { InUse (weights_of lent.weights) 0 (options_of lent.options) } by { in_use_prop (weights_of lent.weights) 0 (options_of lent.options) },
 }
 
-impl Lent<'_> {
-    // The options of a position.
-    pub(crate) fn options(&self, position: usize) -> &[u8]
-        requires { position < length self.now.counts }
-        ensures value { result.now ≡ options_at self.now.rows self.now.counts position }
-        ensures sound { Sound self.now }
-    {
-        let count = usize::from(self.counts[position]);
-        let row = 64 * position;
-        &self.rows[row..row + count]
-    }
+impl<'a, 'b> Lent<'a, 'b> {
+    ghost use Rattle.partition_sums.specs.inner.Rows.{place_term, pair_term};
 
-    // The friends of a position: its options but 0, which comes last.
-    pub(crate) fn friends(&self, position: usize) -> &[u8]
-        requires { position < length self.now.counts }
-        ensures value { result.now ≡ friends_at self.now.rows self.now.counts position }
-        ensures sound { Sound self.now }
+    // The weights of the strands at a position. A row is lent as a part: with one index for row and column the check of weights took longer by half.
+    pub(crate) fn place_row(&self, position: usize) -> WeightRow<'b>
+        requires { position < length self.now.options.counts.now }
+        ensures sized { length result.digits.now ≡ self.now.weights.strands }
+        ensures weights { (x : ℕ) → x < self.now.weights.strands → weight_at result.digits.now result.powers.now x ≡ place_weight (weights_of self.now.weights) position x }
     {
-        let count = usize::from(self.counts[position]);
-        let row = 64 * position;
-        &self.rows[row..row + count - 1]
-    }
-
-    // The weight of a strand at a position.
-    pub(crate) fn place_weight(&self, position: usize, strand: u8) -> Weight
-        requires position_in_bounds { position < length self.now.counts }
-        requires strand_in_bounds { strand < self.now.weights.strands }
-        ensures { result ≡ Weights.place_weight self.now.weights position strand }
-    {
-        let cell = position * self.strands + usize::from(strand);
-        Weight {
-            digits: self.place_digits[cell],
-            power: self.place_powers[cell],
+        let weights = self.weights;
+        let start = position * weights.strands;
+        let end = start + weights.strands;
+        WeightRow {
+            digits: &weights.place_digits[start..end],
+            powers: &weights.place_powers[start..end],
         }
     }
 
-    // The weight of a left and a right strand.
-    pub(crate) fn pair_weight(&self, left: u8, right: u8) -> Weight
-        requires left_in_bounds { left < self.now.weights.strands }
-        requires right_in_bounds { right < self.now.weights.strands }
-        ensures { result ≡ Weights.pair_weight self.now.weights left right }
+    // The weights of a left strand with the right ones.
+    pub(crate) fn pair_row(&self, left: u8) -> WeightRow<'b>
+        requires { left < self.now.weights.strands }
+        ensures sized { length result.digits.now ≡ self.now.weights.strands }
+        ensures weights { (x : ℕ) → x < self.now.weights.strands → weight_at result.digits.now result.powers.now x ≡ pair_weight (weights_of self.now.weights) left x }
     {
-        let cell = usize::from(left) * self.strands + usize::from(right);
-        Weight {
-            digits: self.pair_digits[cell],
-            power: self.pair_powers[cell],
+        let weights = self.weights;
+        let start = usize::from(left) * weights.strands;
+        let end = start + weights.strands;
+        WeightRow {
+            digits: &weights.pair_digits[start..end],
+            powers: &weights.pair_powers[start..end],
         }
     }
 
     // The factor of a strand at a position: 1 where it stands for an empty place.
     pub(crate) fn place_factor(&self, position: usize, strand: u8) -> Term
-        requires position_in_bounds { position < length self.now.counts }
+        requires position_in_bounds { position < length self.now.options.counts.now }
         requires strand_in_bounds { strand < self.now.weights.strands }
-        requires weighs { eqb strand 0 ≡ false → Weighs 400000 (Weights.place_weight self.now.weights position strand) }
-        ensures { result ≡ place_term self.now.weights position strand }
+        requires weighs { eqb strand 0 ≡ false → Weighs 400000 (place_weight (weights_of self.now.weights) position strand) }
+        ensures { result ≡ place_term (weights_of self.now.weights) position strand }
     {
         if strand == 0 {
             ONE
         } else {
-            lifted(self.place_weight(position, strand))
+            lifted(self.place_row(position).of(strand))
         }
     }
 
@@ -108,13 +84,13 @@ impl Lent<'_> {
     pub(crate) fn pair_factor(&self, left: u8, right: u8) -> Term
         requires left_in_bounds { left < self.now.weights.strands }
         requires right_in_bounds { right < self.now.weights.strands }
-        requires weighs { (eqb left 0 || eqb right 0) ≡ false → Weighs 400000 (Weights.pair_weight self.now.weights left right) }
-        ensures { result ≡ pair_term self.now.weights left right }
+        requires weighs { (eqb left 0 || eqb right 0) ≡ false → Weighs 400000 (pair_weight (weights_of self.now.weights) left right) }
+        ensures { result ≡ pair_term (weights_of self.now.weights) left right }
     {
         if left == 0 || right == 0 {
             ONE
         } else {
-            lifted(self.pair_weight(left, right))
+            lifted(self.pair_row(left).of(right))
         }
     }
 }

@@ -3,9 +3,10 @@
 #![tactic(auto)]
 
 mod allowed;
-mod constraint;
+pub mod constraint;
 pub mod forms;
-mod lent;
+pub mod lent;
 mod rows;
 pub mod sums;
 mod terms;
+pub mod weights;

@@ -2,12 +2,12 @@
 ghost use Rattle.std.specs.Prelude.{◌≡◌, ℕ, ◌+◌, ◌-◌, ◌^◌, ◌<◌, ◌≤◌, length, slice_index};
 ghost use Rattle.partition.specs.declared.Term as Declared;
 ghost use Rattle.partition.specs.Pass as Pass;
-ghost use Rattle.partition.specs.inner.Used.{Fit, InUse};
-ghost use Rattle.partition_sums.specs.Layout.{options_in};
+ghost use Rattle.partition.specs.inner.Used.{Fit};
+ghost use Rattle.partition_sums.specs.Layout.{weights_of};
 ghost use Rattle.partition_sums.specs.inner.Rows as Rows;
 ghost use Rattle.partition_sums.specs.inner.Rows.{Joins, Row};
 
-use super::lent::Lent;
+use super::lent::{Formed, Lent};
 use super::terms::{term_plus, term_times};
 use partition::Term;
 
@@ -34,39 +34,43 @@ pub(crate) fn sum_terms<F: Fn(u8) -> Term>(options: &[u8], term: F) -> Term
 
 // A pair's factor times the term of its right occupant.
 #[tactic(auto, unfolding(crate::specs::inner::Rows::joined))]
-fn joined(lent: &Lent<'_>, row: &[Term; 64], left: u8, right: u8) -> Term
-    requires { Joins lent.now.weights row.now left right }
-    ensures { result ≡ Rows.joined lent.now.weights row.now left right }
+fn joined(lent: &Lent<'_, '_>, row: &[Term; 64], left: u8, right: u8) -> Term
+    requires { Joins (weights_of lent.now.weights) row.now left right }
+    ensures { result ≡ Rows.joined (weights_of lent.now.weights) row.now left right }
 {
     term_times(lent.pair_factor(left, right), row[usize::from(right)])
 }
 
 // The row of the last position, which nothing follows.
-pub(crate) fn last_row(lent: &Lent<'_>) -> [Term; 64]
-    requires counts_nonzero { 0 < length lent.now.counts }
-    requires in_use { InUse lent.now.weights 0 (options_in lent.now.rows lent.now.counts) }
-    ensures { Row lent.now (length lent.now.counts - 1) result }
+pub(crate) fn last_row(formed: &Formed<'_, '_>) -> [Term; 64]
+    ensures { Row formed.now.lent (length formed.now.lent.options.counts.now - 1) result }
 {
-    let position = lent.counts.len() - 1;
+    let lent = &formed.lent;
+    let position = lent.options.counts.len() - 1;
     let mut row = [UNUSED; 64];
-    for x in lent.options(position) {
+    for x in lent.options.of(position) {
         row[usize::from(*x)] = lent.place_factor(position, *x);
     }
     row
 }
 
 // The row of a position, from that of the next one.
-pub(crate) fn row_before(lent: &Lent<'_>, position: usize, next_row: &[Term; 64]) -> [Term; 64]
-    requires next_in_bounds { (position + 1 < length lent.now.counts) × (length lent.now.counts ≤ 128) }
-    requires in_use { InUse lent.now.weights 0 (options_in lent.now.rows lent.now.counts) }
-    requires next { Row lent.now (position + 1) next_row.now }
-    ensures { Row lent.now position result }
+pub(crate) fn row_before(
+    formed: &Formed<'_, '_>,
+    position: usize,
+    next_row: &[Term; 64],
+) -> [Term; 64]
+    requires next_in_bounds { position + 1 < length formed.now.lent.options.counts.now }
+    requires next { Row formed.now.lent (position + 1) next_row.now }
+    ensures { Row formed.now.lent position result }
 {
-    let next = lent.options(position + 1);
+    let lent = &formed.lent;
+    let next = lent.options.of(position + 1);
     let mut row = [UNUSED; 64];
-    for x in lent.options(position) {
+    for x in lent.options.of(position) {
         let sum = sum_terms(next, |y| joined(lent, next_row, *x, y));
-        row[usize::from(*x)] = term_times(lent.place_factor(position, *x), sum);
+        let place = lent.place_factor(position, *x);
+        row[usize::from(*x)] = term_times(place, sum);
     }
     row
 }

@@ -9,7 +9,7 @@ ghost use Rattle.partition.specs.inner.Used.{Weighs};
 use fractions::Weight;
 use partition::Term;
 
-// The product, cut to 31 digits.
+// The product, cut to 31 digits. That a term is normal each call asks for, and no type says: a row holds 0 where no option stands, which is not.
 #[tactic(auto, unfolding(partition::specs::Terms::times))]
 pub(crate) fn term_times(a: Term, b: Term) -> Term
     requires normal { Normal a }

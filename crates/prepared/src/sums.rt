@@ -8,6 +8,7 @@ ghost use Rattle.model.specs.Energy.{state_energy};
 ghost use Rattle.prepared.specs.Layout.{StateCells};
 ghost use Rattle.prepared.specs.inner.Sums.{cell_of, joined_in, begun_in, ended_in};
 
+use ensemble::bonds::Bonds;
 use units::KcalPerMol;
 
 // An occupant, and the state sum up to its scaffold bond. To the left of position 0 there is nobody, and the sum is 0.0.
@@ -30,47 +31,35 @@ impl Begun {
 }
 
 // The sum with what follows the left occupant's scaffold bond, its right neighbour known.
-fn joined(left: Begun, right: u8, strand_bonds: &[f64], potentials: &[f64]) -> f64
-    requires strand_in_bounds { left.strand < length potentials.now }
-    requires right_in_bounds { right < length potentials.now }
-    requires potentials_len_bound { length potentials.now ≤ 64 }
-    requires potentials_in_bounds { length potentials.now * length potentials.now ≤ length strand_bonds.now }
-    ensures { result ≡ joined_in (cell_of (length potentials.now) strand_bonds.now) (λ x. get_or potentials.now x nan) left.strand right left.sum }
+fn joined(left: Begun, right: u8, bonds: &Bonds) -> f64
+    requires left_known { left.strand < bonds.now.strand_bonds.strands }
+    requires right_known { right < bonds.now.strand_bonds.strands }
+    ensures { result ≡ joined_in (cell_of bonds.now.strand_bonds.strands bonds.now.strand_bonds.cells.now) (λ x. get_or bonds.now.potentials.now x nan) left.strand right left.sum }
 {
     if left.strand == 0 {
         return left.sum;
     }
-    let own = usize::from(left.strand);
-    let cell = own * potentials.len() + usize::from(right);
-    left.sum + strand_bonds[cell] - potentials[own]
+    let bond = bonds.strand_bonds.between(left.strand, usize::from(right));
+    left.sum + bond - bonds.potentials[usize::from(left.strand)]
 }
 
 // The sum up to an occupant's scaffold bond, after the occupant to its left.
-pub fn begin(
-    left: Begun,
-    strand: u8,
-    position: usize,
-    strand_bonds: &[f64],
-    scaffold_bonds: &[f64],
-    potentials: &[f64],
-) -> Begun
-    requires strand_in_bounds { left.strand < length potentials.now }
-    requires strand_in_bounds_2 { strand < length potentials.now }
-    requires potentials_len_bound { length potentials.now ≤ 64 }
+pub fn begin(left: Begun, strand: u8, position: usize, bonds: &Bonds) -> Begun
+    requires left_known { left.strand < bonds.now.strand_bonds.strands }
+    requires strand_known { strand < bonds.now.strand_bonds.strands }
     requires position_bound { position < 128 }
-    requires potentials_in_bounds { length potentials.now * length potentials.now ≤ length strand_bonds.now }
-    requires potentials_in_bounds_2 { position * length potentials.now + length potentials.now ≤ length scaffold_bonds.now }
+    requires a_row { position * bonds.now.strand_bonds.strands + bonds.now.strand_bonds.strands ≤ length bonds.now.scaffold_bonds.now }
     ensures strand_value { result.strand ≡ strand }
-    ensures sum_value { result.sum ≡ begun_in (cell_of (length potentials.now) scaffold_bonds.now position) strand (joined_in (cell_of (length potentials.now) strand_bonds.now) (λ x. get_or potentials.now x nan) left.strand strand left.sum) }
+    ensures sum_value { result.sum ≡ begun_in (cell_of bonds.now.strand_bonds.strands bonds.now.scaffold_bonds.now position) strand (joined_in (cell_of bonds.now.strand_bonds.strands bonds.now.strand_bonds.cells.now) (λ x. get_or bonds.now.potentials.now x nan) left.strand strand left.sum) }
 {
-    let sum = joined(left, strand, strand_bonds, potentials);
+    let sum = joined(left, strand, bonds);
     if strand == 0 {
         return Begun { strand, sum };
     }
-    let cell = position * potentials.len() + usize::from(strand);
+    let cell = position * bonds.strand_bonds.strands + usize::from(strand);
     Begun {
         strand,
-        sum: sum + scaffold_bonds[cell],
+        sum: sum + bonds.scaffold_bonds[cell],
     }
 }
 
@@ -86,31 +75,16 @@ pub fn ended(last: Begun, potentials: &[f64]) -> f64
 }
 
 // The state energy of a state.
-pub fn state_energy(
-    state: &[u8],
-    strand_bonds: &[f64],
-    scaffold_bonds: &[f64],
-    potentials: &[f64],
-    rt: KcalPerMol,
-) -> KcalPerMol
-    requires by_index { (i : ℕ) → i < length state.now → get_or state.now i 0 < length potentials.now }
-    requires potentials_nonzero { 0 < length potentials.now }
-    requires potentials_len_bound { length potentials.now ≤ 64 }
+pub fn state_energy(state: &[u8], bonds: &Bonds, rt: KcalPerMol) -> KcalPerMol
+    requires by_index { (i : ℕ) → i < length state.now → get_or state.now i 0 < bonds.now.strand_bonds.strands }
+    requires strands_nonzero { 0 < bonds.now.strand_bonds.strands }
     requires state_len_bound { length state.now ≤ 128 }
-    requires potentials_in_bounds { length potentials.now * length potentials.now ≤ length strand_bonds.now }
-    requires potentials_in_bounds_2 { length state.now * length potentials.now ≤ length scaffold_bonds.now }
-    ensures { (m : Model) → StateCells m (length potentials.now) strand_bonds.now scaffold_bonds.now potentials.now → State m state.now → rt.0 ≡ m.rt → result.0 ≡ state_energy m state.now }
+    requires a_row_each { length state.now * bonds.now.strand_bonds.strands ≤ length bonds.now.scaffold_bonds.now }
+    ensures { (m : Model) → StateCells m bonds.now.strand_bonds.strands bonds.now.strand_bonds.cells.now bonds.now.scaffold_bonds.now bonds.now.potentials.now → State m state.now → rt.0 ≡ m.rt → result.0 ≡ state_energy m state.now }
 {
     let mut begun = Begun::nobody();
     for (position, strand) in state.iter().enumerate() {
-        begun = begin(
-            begun,
-            *strand,
-            position,
-            strand_bonds,
-            scaffold_bonds,
-            potentials,
-        );
+        begun = begin(begun, *strand, position, bonds);
     }
-    rt.scale(ended(begun, potentials))
+    rt.scale(ended(begun, bonds.potentials))
 }

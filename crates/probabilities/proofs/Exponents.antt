@@ -12,7 +12,6 @@ use mir.Val.{to_z, of_z, SFits}
 use mir.Facts.{to_z-of_z}
 use Rattle.fractions.specs.declared.Weight.{Weight}
 use Rattle.fractions.specs.Weight.{weight, InForm}
-use Rattle.partition.specs.Sum.{zero_weight}
 use Rattle.probabilities.specs.Quotient.{Divided, Quotiented, Modest}
 use Rattle.probabilities.proofs.Division.{shift_of, over_digits, digits-right, quotient-right}
 
@@ -45,7 +44,7 @@ module _ (x y : ℤ) (X : mag x ≤ 2 ^ 28) (Y : mag y ≤ 2 ^ 28) where
   difference-is : difference ≡ x -ℤ y
   difference-is = ap₂ ◌-ℤ◌ (held x X) (held y Y)
 
-  pub difference-fits : SFits w32 difference
+  difference-fits : SFits w32 difference
   difference-fits = rw difference-is (record { sfits = omega (arith, difference-size x y, X, Y) })
 
   module _ (s : ℕ) (S : s ≤ 31) where
@@ -55,7 +54,7 @@ module _ (x y : ℤ) (X : mag x ≤ 2 ^ 28) (Y : mag y ≤ 2 ^ 28) where
     shifted-is : shifted ≡ x -ℤ y -ℤ pos s
     shifted-is = ap (λ (z : ℤ). z -ℤ pos s) (to_z-of_z difference-fits ∙ difference-is)
 
-    pub shifted_fits : SFits w32 shifted
+    shifted_fits : SFits w32 shifted
     shifted_fits = rw shifted-is (record { sfits = omega (arith, difference-size (x -ℤ y) (pos s), difference-size x y, X, Y, S) })
 
     pub back : (to_z w32 (of_z w32 shifted) +ℤ pos s) +ℤ y ≡ x
@@ -96,7 +95,3 @@ quotiented v w s S X Y n fw h =
       none = λ z. absurd (n (ap (λ (u : Weight). u.digits) z));
       some = λ fv. divided v w _ s h fv fw (back v.power w.power X Y s S);
     }
-
--- and of zero
-pub quotiented-zero : (v w : Weight) → v.digits ≡ 0 → Quotiented v w zero_weight
-quotiented-zero v w z = record { none = λ e. refl; some = λ fv. absurd (not-le_of_lt (omega (arith, z)) fv.least) }

@@ -2,4 +2,4 @@ pub mod Tests
 pub mod Words
 pub mod Figures
 pub mod Letters
-pub mod Powers
+pub mod Fewest

@@ -1,6 +1,7 @@
 -- The text of a list: parts of it between marks, and numbers as it writes them.
 use Rattle.std.specs.Prelude.{◌≡◌, ℕ, ◌+◌, List, take, drop, nat_eq}
-use Rattle.replay.specs.Digits.{last_digits, IsDigitCount}
+use Rattle.decimals.specs.Digits.{digits_in}
+use Rattle.replay.specs.Digits.{IsDigitCount}
 use Rattle.lists.specs.Find.{first_index}
 
 -- what comes before the first mark, and all of a text that has none
@@ -13,10 +14,11 @@ past mark text = drop (first_index (nat_eq mark) text + 1) text
 
 -- 64 bits as 16 hex digits
 unfoldable pub hex_text : ℕ → List ℕ
-hex_text bits = last_digits 16 16 bits
+unfolding digits_in
+hex_text bits = digits_in 16 16 bits
 
 -- a number in the fewest decimal digits
 pub record Decimal (word : List ℕ) (number : ℕ) : Type 0 where
   pub places : ℕ
   pub fewest : IsDigitCount 10 1 number places
-  pub written : word ≡ last_digits 10 places number
+  pub written : word ≡ digits_in 10 places number

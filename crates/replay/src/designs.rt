@@ -5,7 +5,7 @@ ghost use Rattle.replay.specs.Designs.{StrandBondLine, ScaffoldBondLine, Friends
 
 use crate::numbers::{decimal, small};
 use crate::parts::{past, up_to};
-use crate::places::{is_places, says_first, says_places};
+use crate::places::{is_places, says_places};
 use crate::says::says;
 use design::Design;
 use doubles::bits;
@@ -23,21 +23,7 @@ pub(crate) fn strand_bond(words: &[u8], design: &Design<'_>) -> bool
     };
     let mut place: u64 = 0;
     let mut bond = 0.0;
-    let reply = exports::designs::mj_strand_bond(
-        design.scaffold,
-        design.marks,
-        design.glues,
-        design.dg,
-        design.ds,
-        design.potentials,
-        design.ambient.rt.0,
-        design.ambient.strand_excess.0,
-        design.ambient.scaffold_excess.0,
-        x,
-        y,
-        &mut place,
-        &mut bond,
-    );
+    let reply = exports::designs::mj_strand_bond(design, x, y, &mut place, &mut bond);
     let figures = [bits(bond)];
     says(past(rest, b' '), reply, &figures)
 }
@@ -56,15 +42,7 @@ pub(crate) fn scaffold_bond(words: &[u8], design: &Design<'_>) -> bool
     let mut place: u64 = 0;
     let mut bond = 0.0;
     let reply = exports::designs::mj_scaffold_bond(
-        design.scaffold,
-        design.marks,
-        design.glues,
-        design.dg,
-        design.ds,
-        design.potentials,
-        design.ambient.rt.0,
-        design.ambient.strand_excess.0,
-        design.ambient.scaffold_excess.0,
+        design,
         position as usize,
         strand,
         &mut place,
@@ -84,21 +62,16 @@ pub(crate) fn friends(words: &[u8], design: &Design<'_>, entries: &mut [u8]) -> 
     let mut place: u64 = 0;
     let mut count: u64 = 0;
     let reply = exports::designs::mj_friends(
-        design.scaffold,
-        design.marks,
-        design.glues,
-        design.dg,
-        design.ds,
-        design.potentials,
-        design.ambient.rt.0,
-        design.ambient.strand_excess.0,
-        design.ambient.scaffold_excess.0,
+        design,
         position as usize,
         entries,
         &mut place,
         &mut count,
     );
-    says_first(past(words, b' '), reply, entries, count as usize)
+    match entries.get(..count as usize) {
+        Some(friends) => says_places(past(words, b' '), reply, friends),
+        None => false,
+    }
 }
 
 // The number of states.
@@ -107,19 +80,7 @@ pub(crate) fn count(words: &[u8], design: &Design<'_>) -> bool
 {
     let mut place: u64 = 0;
     let mut count: u64 = 0;
-    let reply = exports::designs::mj_states(
-        design.scaffold,
-        design.marks,
-        design.glues,
-        design.dg,
-        design.ds,
-        design.potentials,
-        design.ambient.rt.0,
-        design.ambient.strand_excess.0,
-        design.ambient.scaffold_excess.0,
-        &mut place,
-        &mut count,
-    );
+    let reply = exports::designs::mj_states(design, &mut place, &mut count);
     let figures = [count];
     says(words, reply, &figures)
 }
@@ -132,20 +93,7 @@ pub(crate) fn state(words: &[u8], design: &Design<'_>, places: &mut [u8]) -> boo
         return false;
     };
     let mut place: u64 = 0;
-    let reply = exports::designs::mj_state(
-        design.scaffold,
-        design.marks,
-        design.glues,
-        design.dg,
-        design.ds,
-        design.potentials,
-        design.ambient.rt.0,
-        design.ambient.strand_excess.0,
-        design.ambient.scaffold_excess.0,
-        rank,
-        places,
-        &mut place,
-    );
+    let reply = exports::designs::mj_state(design, rank, places, &mut place);
     says_places(past(words, b' '), reply, places)
 }
 
@@ -158,20 +106,7 @@ pub(crate) fn state_energy(words: &[u8], design: &Design<'_>, configuration: &[u
     }
     let mut place: u64 = 0;
     let mut energy = 0.0;
-    let reply = exports::designs::mj_state_energy(
-        design.scaffold,
-        design.marks,
-        design.glues,
-        design.dg,
-        design.ds,
-        design.potentials,
-        design.ambient.rt.0,
-        design.ambient.strand_excess.0,
-        design.ambient.scaffold_excess.0,
-        configuration,
-        &mut place,
-        &mut energy,
-    );
+    let reply = exports::designs::mj_state_energy(design, configuration, &mut place, &mut energy);
     let figures = [bits(energy)];
     says(past(words, b' '), reply, &figures)
 }
@@ -187,15 +122,7 @@ pub(crate) fn chain_energy(words: &[u8], design: &Design<'_>, configuration: &[u
     let mut sum = 0.0;
     let mut energy = 0.0;
     let reply = exports::designs::mj_chain_energy(
-        design.scaffold,
-        design.marks,
-        design.glues,
-        design.dg,
-        design.ds,
-        design.potentials,
-        design.ambient.rt.0,
-        design.ambient.strand_excess.0,
-        design.ambient.scaffold_excess.0,
+        design,
         configuration,
         &mut place,
         &mut sum,
@@ -211,20 +138,7 @@ pub(crate) fn search(words: &[u8], design: &Design<'_>, places: &mut [u8]) -> bo
 {
     let mut place: u64 = 0;
     let mut energy = 0.0;
-    let reply = exports::search::mj_search(
-        design.scaffold,
-        design.marks,
-        design.glues,
-        design.dg,
-        design.ds,
-        design.potentials,
-        design.ambient.rt.0,
-        design.ambient.strand_excess.0,
-        design.ambient.scaffold_excess.0,
-        places,
-        &mut place,
-        &mut energy,
-    );
+    let reply = exports::search::mj_search(design, places, &mut place, &mut energy);
     let figures = [bits(energy)];
     says(words, reply, &figures)
 }
@@ -235,19 +149,6 @@ pub(crate) fn settled(words: &[u8], design: &Design<'_>, places: &mut [u8]) -> b
 {
     let mut place: u64 = 0;
     let mut energy = 0.0;
-    let reply = exports::search::mj_search(
-        design.scaffold,
-        design.marks,
-        design.glues,
-        design.dg,
-        design.ds,
-        design.potentials,
-        design.ambient.rt.0,
-        design.ambient.strand_excess.0,
-        design.ambient.scaffold_excess.0,
-        places,
-        &mut place,
-        &mut energy,
-    );
+    let reply = exports::search::mj_search(design, places, &mut place, &mut energy);
     says_places(words, reply, places)
 }

@@ -5,7 +5,6 @@
 
 mod about;
 mod designs;
-mod digits;
 mod kind;
 mod kinds;
 mod numbers;

@@ -3,16 +3,18 @@
 ghost use Rattle.std.specs.Prelude.{◌≡◌, ◌≤◌, true, IfSome};
 ghost use Rattle.replay.specs.Text.{hex_text, Decimal};
 
-use crate::digits::{put_decimal, put_hex};
 use crate::parts::same;
+use decimals::{write_count, write_hex};
 
 // Whether a word is 16 hex digits, and those of x.
 pub(crate) fn is_hex(word: &[u8], x: u64) -> bool
     ensures { result ≡ true → word.now ≡ hex_text x }
 {
     let mut text = [0u8; 16];
-    put_hex(x, &mut text);
-    same(word, &text)
+    match write_hex(x, 16, &mut text) {
+        Ok(size) => same(word, &text[..size]),
+        Err(_) => false,
+    }
 }
 
 // Whether a word is x in decimal.
@@ -20,8 +22,10 @@ pub(crate) fn is_decimal(word: &[u8], x: u64) -> bool
     ensures { result ≡ true → Decimal word.now x }
 {
     let mut text = [0u8; 20];
-    let n = put_decimal(x, &mut text);
-    same(word, &text[..n])
+    match write_count(x, &mut text) {
+        Ok(size) => same(word, &text[..size]),
+        Err(_) => false,
+    }
 }
 
 // Digits of a base, read without care.

@@ -1,4 +1,4 @@
-// A text in parts: a list in lines, a line in words.
+// A text in parts: a list in lines, a line in words. A mark is the byte that is looked for: the newline or the blank behind a part.
 ghost use Rattle.std.specs.Prelude.{◌≡◌, ◌≤◌, true, nat_eq, length, position};
 ghost use Rattle.lists.specs.Find.{first_index};
 ghost use Rattle.replay.specs.Text.{up_to, past};

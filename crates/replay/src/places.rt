@@ -1,6 +1,6 @@
 // Configurations as the list writes them: a byte for each place, 48 and the number of its strand, so that an empty place is 0 and
 // strand 1 is 1. One with no places is written as `-`.
-ghost use Rattle.std.specs.Prelude.{◌≡◌, ◌≤◌, true, map, length, take};
+ghost use Rattle.std.specs.Prelude.{◌≡◌, ◌≤◌, true, map, length};
 ghost use Rattle.replay.specs.Places.{letter, SaysPlaces, Places};
 
 use crate::kinds::letters;
@@ -11,18 +11,11 @@ use crate::says::refused;
 fn are_letters(text: &[u8], places: &[u8]) -> bool
     ensures { result ≡ true → text.now ≡ map letter places.now }
 {
-    if text.len() != places.len() {
-        return false;
-    }
-    for i in 0..text.len() {
-        if 63 < places[i] {
-            return false;
-        }
-        if text[i] != places[i] + 48 {
-            return false;
-        }
-    }
-    true
+    text.len() == places.len()
+        && text
+            .iter()
+            .zip(places)
+            .all(|(letter, place)| *place <= 63 && *letter == *place + 48)
 }
 
 // Whether a word is a configuration.
@@ -55,14 +48,4 @@ pub(crate) fn says_places(words: &[u8], number: u32, places: &[u8]) -> bool
         return false;
     }
     is_places(past(words, b' '), places)
-}
-
-// The same of the first so many of the places.
-pub(crate) fn says_first(words: &[u8], number: u32, places: &[u8], count: usize) -> bool
-    ensures { result ≡ true → SaysPlaces words.now number (take count places.now) }
-{
-    if places.len() < count {
-        return false;
-    }
-    says_places(words, number, &places[..count])
 }

@@ -19,6 +19,7 @@ pub(crate) fn refused(words: &[u8], number: u32) -> bool
 fn has_figure(words: &[u8], at: usize, figure: u64) -> bool
     ensures { result ≡ true → FigureAt words.now at figure }
 {
+    // By lengths, one after the other: a place may be too large for 17 to be added.
     if words.len() < 17 {
         return false;
     }

@@ -4,7 +4,7 @@ use mathlib.Core.Bool.{Bool, true, false}
 use mathlib.Core.List.{List, [], ◌∷◌, ◌++◌}
 use Prim.Native.Nat.{ℕ}
 use native.Mathlib.Omega.{arith}
-use Rattle.std.specs.Prelude.{Option, Ok, Err}
+use Rattle.std.specs.Prelude.{Option, Ok}
 use Rattle.reply.specs.Number.{Reply}
 use Rattle.reply.specs.First.{Check, first_of, refused_if, ◌or_else◌}
 use Rattle.reply.specs.declared.Refusal.{Refusal}

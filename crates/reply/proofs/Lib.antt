@@ -3,3 +3,5 @@ pub mod Lowest
 pub mod First
 pub mod Answer
 pub mod Figures
+pub mod Asked
+pub mod Bare

@@ -8,7 +8,7 @@ use lib.Dec.{eqb}
 use lib.ListN.{length}
 use borrow.Author.Tests.{eq-eqb}
 use Rattle.doubles.specs.Decimal.{zero}
-use Rattle.reply.specs.First.{first_of, refuses}
+use Rattle.reply.specs.First.{first_of}
 use Rattle.reply.proofs.First.{none-holds}
 use Rattle.reply.proofs.Figures.{number-admitted}
 use Rattle.model.specs.Model.{State}

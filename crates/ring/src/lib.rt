@@ -2,8 +2,6 @@
 // has neither. A design is lent as the calls on chains take it.
 #![tactic(auto)]
 
-mod search;
-
 ghost use Rattle.std.specs.Prelude.{◌≡◌};
 ghost use Rattle.design.specs.Answers.{energy_figures};
 ghost use Rattle.ring.specs.Answers.{ring_energy_answer, ring_search_answer, ring_search_entries, LowestRingShown};
@@ -11,11 +9,11 @@ ghost use Rattle.ring.specs.Answers.{ring_energy_answer, ring_search_answer, rin
 use design::Design;
 use design::checks::design_reply;
 use design::terms::fill_terms;
-use ensemble::energies::ring_sum;
+use ensemble::energies::Places;
+use mfe::searched;
 use reply::limits::POSITIONS;
 use reply::{Refusal, Refused, refused_if};
 use sdc1d::energy_reply;
-use search::searched;
 use units::KcalPerMol;
 
 // A ring has no fewer positions.
@@ -34,7 +32,13 @@ pub fn ring_energy(design: &Design, configuration: &[u8]) -> Result<KcalPerMol, 
     let first = configuration[0];
     let last = configuration[configuration.len() - 1];
     let closing = design.strand_bond(last, first);
-    let sum = ring_sum(configuration, &sites, &pairs, &logs, closing);
+    let places = Places {
+        configuration,
+        sites: &sites,
+        pairs: &pairs,
+        logs: &logs,
+    };
+    let sum = places.ring_sum(closing);
     Ok(design.rt().scale(sum))
 }
 
@@ -47,5 +51,5 @@ pub fn ring_configuration(design: &Design, configuration: &mut [u8]) -> Result<K
     design_reply(configuration.len() != design.positions(), design)?;
     refused_if(Refusal::NotARing, design.positions() < LEAST_RING)?;
     design.hold_doubles();
-    Ok(searched(design, configuration))
+    Ok(searched::<true>(design, configuration))
 }

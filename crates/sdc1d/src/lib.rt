@@ -16,7 +16,7 @@ use design::answers::ChainEnergy;
 use design::checks::{design_reply, numbers_reply, tables_reply};
 use design::options::write_friends;
 use design::terms::fill_terms;
-use ensemble::energies::{chain_sum, state_sum};
+use ensemble::energies::Places;
 use ensemble::states::{MOST_STATES, write_state};
 use prepared::options::count_options;
 use reply::limits::{POSITIONS, STRANDS};
@@ -109,7 +109,13 @@ pub fn g_system(design: &Design, attachments: &[u8]) -> Result<KcalPerMol, Refus
     let mut pairs = [0.0; POSITIONS];
     let mut logs = [0.0; POSITIONS];
     fill_terms(design, attachments, &mut sites, &mut pairs, &mut logs);
-    let sumg = state_sum(attachments, &sites, &pairs, &logs);
+    let places = Places {
+        configuration: attachments,
+        sites: &sites,
+        pairs: &pairs,
+        logs: &logs,
+    };
+    let sumg = places.state_sum();
     Ok(design.rt().scale(sumg))
 }
 
@@ -122,7 +128,13 @@ pub fn chain_energy(design: &Design, configuration: &[u8]) -> Result<ChainEnergy
     let mut pairs = [0.0; POSITIONS];
     let mut logs = [0.0; POSITIONS];
     fill_terms(design, configuration, &mut sites, &mut pairs, &mut logs);
-    let sum = chain_sum(configuration, &sites, &pairs, &logs);
+    let places = Places {
+        configuration,
+        sites: &sites,
+        pairs: &pairs,
+        logs: &logs,
+    };
+    let sum = places.chain_sum();
     Ok(ChainEnergy {
         bare: sum,
         times_rt: design.rt().scale(sum),

@@ -13,7 +13,7 @@ use Rattle.reply.proofs.First.{joined}
 use Rattle.sdc1d_params.specs.Params.{Params, Outcome, param_checks, built_from, left_as_lent, any_retired, is_ordinary, from_params}
 use Rattle.sdc1d_params.specs.Builds.{from_params_before, Builds}
 use Rattle.sdc1d_params.specs.declared.Build.{Build}
-use Rattle.std.specs.Prelude.{None, Ok, Err}
+use Rattle.std.specs.Prelude.{Ok, Err}
 use Rattle.sdc1d_params.specs.declared.Build.TheVariants.{Ordinary, Archive}
 
 module _ (p : Params) (lent : Outcome) where

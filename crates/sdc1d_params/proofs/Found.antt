@@ -14,7 +14,6 @@ use Rattle.lists.proofs.Build.{length-tabulate, get_or-tabulate}
 use Rattle.lists.proofs.Counted.{map-tabulate, tabulate-same, any-fails}
 use Rattle.sdc_common.specs.Names.{Name, base_of, stars_of, same_name}
 use Rattle.sdc_common.specs.Lent.{Glue, part_of, names_of, glue_of, glues_of}
-use Rattle.sdc_common.specs.declared.names.LentName.{LentName}
 use Rattle.sdc_common.specs.Numbers.{is_known, number_at, base_number, name_number, glue_number, bases_of, numbers_among}
 use Rattle.sdc_common.specs.Spelled.{is_unknown, spelled_number}
 use Rattle.sdc_common.specs.Calls.{too_many_bases}

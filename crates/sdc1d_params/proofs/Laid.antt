@@ -4,8 +4,8 @@ use mathlib.Core.Bool.{false}
 use mathlib.Core.List.{List, [], ◌∷◌, ◌++◌, append_assoc, append-nil}
 use Prim.Native.Nat.{ℕ, ◌+◌, ◌*◌, ◌-◌, ◌<◌, ◌≤◌}
 use native.Mathlib.Omega.{arith}
-use lib.ListN.{length, get_or, set, take, drop, length-append, length-drop, length-map, get_or-append, drop_of_length-le}
-use lib.Seq.{length-take-le, take_at, drop_at, get_or-drop}
+use lib.ListN.{length, take, drop, length-append, length-drop, length-map, get_or-append, drop_of_length-le}
+use lib.Seq.{length-take-le, take_at, drop_at}
 use borrow.Author.Tests.{eq-eqb}
 use Rattle.sdc_common.specs.Lent.{Names, glue_of, glues_of}
 use Rattle.sdc_common.specs.Numbers.{bases_of, glue_number, numbers_among}

@@ -1,8 +1,8 @@
 -- The conditions of the size check, in the order in which the code looks at them, and what it leaves. Assumes nothing.
-use mathlib.Core.Path.{◌≡◌, refl, ◌∙◌}
-use mathlib.Core.Bool.{Bool, false, not, ◌||◌}
-use mathlib.Core.List.{List}
-use Prim.Native.Nat.{ℕ, ◌*◌, ◌%◌, ◌≤◌}
+use mathlib.Core.Path.{◌≡◌, refl, sym, ap, ◌∙◌}
+use mathlib.Core.Bool.{Bool, true, false, not, ◌||◌}
+use mathlib.Core.List.{List, [], ◌∷◌, map}
+use Prim.Native.Nat.{ℕ, ◌*◌, ◌%◌, ◌<◌, ◌≤◌}
 use native.Mathlib.Omega.{arith}
 use lib.Dec.{eqb, ltb}
 use lib.Ieee.{Float}
@@ -10,26 +10,42 @@ use lib.ListN.{length}
 use borrow.Author.Tests.{le-ltb, eqb-true, eqb-false, ltb-false, not-false}
 use Rattle.lists.specs.Find.{any}
 use Rattle.lists.proofs.Tests.{neither}
+use Rattle.lists.proofs.Build.{length-tabulate}
 use Rattle.lists.proofs.Counted.{any-fails}
 use Rattle.sdc_common.specs.Lent.{unfit_name, unfit_glue, unfit_names}
 use Rattle.sdc_common.specs.Calls.{unfit_strands}
 use Rattle.sdc_common.specs.inner.Fit.{Fit}
 use Rattle.sdc1d_params.specs.Entries.{energy_of, bad_form, unfit_energy, unfit_entry, entry_at, entry_rows, entries_of, unfit_entries}
 use Rattle.sdc1d_params.specs.inner.Cells.{first_of}
-use Rattle.sdc1d_params.specs.inner.Fit.{FitEntries}
 use Rattle.sdc1d_params.specs.Params.{Params, Outcome, unfit_copied, unfit_lent, wrong_size}
 use Rattle.sdc1d_params.specs.declared.Copied.TheVariants.{Strand}
 use Rattle.sdc1d_params.specs.declared.Entry.{Entry}
 
+-- the value of a test or another: where the first holds, and where it does not
+pub joined : {first said value : Bool} (other : Bool) → first ≡ said → said ≡ true → value ≡ said → value ≡ (first || other)
+joined other f s v = v ∙ s ∙ sym (ap (λ (b : Bool). b || other) (f ∙ s))
+
+pub passed-on : {first other said value : Bool} → first ≡ said → said ≡ false → value ≡ other → value ≡ (first || other)
+passed-on {first} {other} f s v = v ∙ sym (ap (λ (b : Bool). b || other) (f ∙ s))
+
+-- a test of what is read off each of a list
+pub any-map : {A B : Type 0} (p : B → Bool) (g : A → B) (xs : List A) → any (λ x. p (g x)) xs ≡ any p (map g xs)
+unfolding any
+any-map p g [] = refl
+any-map p g (x ∷ xs) = ap (λ (b : Bool). p (g x) || b) (any-map p g xs)
+
 -- ---- all conditions
 
-module _ (p : Params) (lent : Outcome) (few : length lent.scaffold_glues ≤ 128) where
-  -- as they are looked at, where the positions are not too many
+entries-out : (x e q r l : Bool) → e ≡ false → (x || e || q || r || l) ≡ (x || q || r || l)
+entries-out true e q r l h = refl
+entries-out false e q r l h = rw h
+
+module _ (p : Params) (lent : Outcome) (few : length lent.scaffold_glues ≤ 128) (fit : unfit_entries p.text p.entries ≡ false) where
+  -- as they are looked at, where the positions are not too many and the entries fit
   abbrev pub looked : Bool
   looked =
       unfit_strands p.users p.text p.strands
       || unfit_names (length lent.scaffold_glues) p.text p.scaffold
-      || unfit_entries p.text p.entries
       || unfit_copied p.users p.quencher
       || unfit_copied p.users p.reporter
       || unfit_lent p lent
@@ -37,6 +53,7 @@ module _ (p : Params) (lent : Outcome) (few : length lent.scaffold_glues ≤ 128
   pub size-looked : wrong_size p lent ≡ looked
   unfolding wrong_size
   size-looked = rw (le-ltb 128 (length lent.scaffold_glues) few)
+      (entries-out (unfit_strands p.users p.text p.strands || unfit_names (length lent.scaffold_glues) p.text p.scaffold) (unfit_entries p.text p.entries) (unfit_copied p.users p.quencher) (unfit_copied p.users p.reporter) (unfit_lent p lent) fit)
 
 -- ---- what the check leaves
 
@@ -94,6 +111,11 @@ module _ (text : List ℕ) (e : Entry) where
     pub energy-fit : unfit_energy text (energy_of e) ≡ false
     energy-fit = parts.1
 
+-- what is known of entries that are fit: two doubles for each row, and each entry fit
+pub record FitEntries (text numbers : List ℕ) (doubles : List Float) : Type 0 where
+  pub many : length doubles ≡ 2 * entry_rows numbers
+  pub each : (k : ℕ) → k < entry_rows numbers → unfit_entry text (entry_at numbers doubles k) ≡ false
+
 pub fit-entries : (text numbers : List ℕ) (doubles : List Float) → unfit_entries text (entries_of numbers doubles) ≡ false → FitEntries text numbers doubles
 unfolding unfit_entries
 fit-entries text numbers doubles e =
@@ -101,3 +123,12 @@ fit-entries text numbers doubles e =
     let w1 = neither (entries_of numbers doubles).ragged (ltb 1024 (length (entries_of numbers doubles).each)) w2.0 in
     let w0 = neither (not (eqb (length numbers % 8) 0)) (not (eqb (length doubles) (2 * entry_rows numbers))) w1.0 in
     record { many = eqb-true _ _ (not-false _ w0.1); each = any-fails (unfit_entry text) (entry_rows numbers) (entry_at numbers doubles) w2.1 }
+
+pub few-entries : (text numbers : List ℕ) (doubles : List Float) → unfit_entries text (entries_of numbers doubles) ≡ false → entry_rows numbers ≤ 1024
+unfolding unfit_entries
+few-entries text numbers doubles e =
+    let w2 = neither _ (any (unfit_entry text) (entries_of numbers doubles).each) e in
+    let w1 = neither (entries_of numbers doubles).ragged (ltb 1024 (length (entries_of numbers doubles).each)) w2.0 in
+    let many = length-tabulate (entry_rows numbers) (entry_at numbers doubles) in
+    let few = ltb-false 1024 (length (entries_of numbers doubles).each) w1.1 in
+    omega (arith, many, few)

@@ -103,11 +103,6 @@ module _ (f : ℕ → Cell) where
   abbrev pub seen_after : ℕ → List Bool
   seen_after i = foldl mark_both (replicate 4096 false) (tabulate i f)
 
-  fold-length : (seen : List Bool) (cs : List Cell) → length (foldl mark_both seen cs) ≡ length seen
-  unfolding foldl
-  fold-length seen [] = refl
-  fold-length seen (c ∷ cs) = fold-length (mark_both seen c) cs ∙ mark-length seen c
-
   fold-marked : (seen : List Bool) (cs : List Cell) (c : Cell) → length seen ≡ 4096 → Inside c → Each Inside cs → is_marked (foldl mark_both seen cs) c ≡ (is_marked seen c || any (same_pair c) cs)
   unfolding foldl any
   fold-marked seen [] c many inc each = sym (or-false (is_marked seen c))
@@ -115,9 +110,6 @@ module _ (f : ℕ → Cell) where
       fold-marked (mark_both seen d) cs c (mark-length seen d ∙ many) inc each.1
       ∙ ap (λ (b : Bool). b || any (same_pair c) cs) (mark-more seen c d many inc each.0)
       ∙ or_assoc (is_marked seen c) (same_pair c d) (any (same_pair c) cs)
-
-  pub seen-length : (i : ℕ) → length (seen_after i) ≡ 4096
-  seen-length i = fold-length (replicate 4096 false) (tabulate i f) ∙ length-replicate 4096 false
 
   pub marked-is : (i : ℕ) → ((k : ℕ) → k < i → ((f k).row < 64) × ((f k).column < 64)) → ((f i).row < 64) × ((f i).column < 64) → is_marked (seen_after i) (f i) ≡ any (same_pair (f i)) (tabulate i f)
   marked-is i h l =

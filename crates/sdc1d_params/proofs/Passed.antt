@@ -1,5 +1,5 @@
 -- The reply at each check, and what the checks leave to the writing. Assumes nothing.
-use mathlib.Core.Path.{◌≡◌, refl, ap, ap₂, sym, ◌∙◌}
+use mathlib.Core.Path.{◌≡◌, refl, ap, sym, ◌∙◌}
 use mathlib.Core.Bool.{Bool, true, false, ◌&&◌}
 use mathlib.Core.List.{List, [], ◌∷◌, map}
 use Prim.Native.Nat.{ℕ, ◌<◌, ◌≤◌}
@@ -14,7 +14,7 @@ use Rattle.lists.proofs.Build.{length-tabulate, get_or-tabulate}
 use Rattle.lists.proofs.Counted.{map-tabulate, tabulate-same}
 use Rattle.reply.specs.First.{Check, ◌if◌, first_of, refuses}
 use Rattle.reply.specs.declared.Refusal.{Refusal}
-use Rattle.reply.specs.declared.Refusal.TheVariants.{WrongSize, NotABase, TooShort, UnknownName, TooManyGlues, DuplicatePair, OutOfRange, TwoStars}
+use Rattle.reply.specs.declared.Refusal.TheVariants.{WrongSize, UnknownName, TooManyGlues, DuplicatePair, OutOfRange, TwoStars}
 use Rattle.reply.proofs.First.{both-pass, reply-append}
 use Rattle.sdc_common.specs.Names.{Name}
 use Rattle.sdc_common.specs.Lent.{names_of, glue_of, glues_of}
@@ -25,11 +25,11 @@ use Rattle.sdc1d_params.specs.Entries.{Cell, cell, energy_of, entry_at, entry_ro
 use Rattle.sdc1d_params.specs.Tables.{Write, write_of, cells_of, duplicated, out_of_range}
 use Rattle.sdc1d_params.specs.inner.Cells.{write_at, InTables}
 use Rattle.sdc1d_params.specs.inner.Cells.{cell_at as cell_among_at}
-use Rattle.sdc1d_params.specs.Params.{Params, Outcome, params_of, energies_of, strand_names, bases, first_name, cell_of_entry, write_of_entry, writes_of, wrong_size, param_checks, is_ordinary, any_retired, build_checks}
+use Rattle.sdc1d_params.specs.Params.{Params, Outcome, energies_of, strand_names, bases, first_name, cell_of_entry, write_of_entry, writes_of, wrong_size, param_checks, is_ordinary, any_retired, build_checks}
 use Rattle.sdc1d_params.specs.inner.Checked.{Checked}
 use Rattle.sdc1d_params.specs.declared.Build.{Build}
-use Rattle.sdc1d_params.specs.declared.Copies.{Copies}
-use Rattle.sdc1d_params.specs.declared.Penalty.{Penalty}
+use Rattle.sdc1d_params.specs.declared.set.ParameterSet.{ParameterSet}
+use Rattle.sdc1d_params.specs.inner.Set.{set_of}
 use Rattle.std.specs.Prelude.{Option, None, Ok}
 use Rattle.sdc1d_params.proofs.Found.{number_small, numbers-length, numbers-spelled, cell-inside}
 
@@ -105,17 +105,24 @@ module _ (p : Params) (held : List Name) (count : ℕ) (many : length held ≡ c
 -- ---- the cells
 
 -- what is lent, and the entries' cells
-module _ (text : List ℕ) (users : ℕ) (strands scaffold entries : List ℕ) (energies : List Float) (penalty : Penalty) (copies : Copies) (held : List Name) (cells : List Cell)
-    (b : held ≡ bases (params_of text users strands scaffold entries energies penalty copies))
-    (c : cells ≡ tabulate (entry_rows entries) (cell_among_at held text entries energies)) where
+module _ (s : ParameterSet) (held : List Name) (cells : List Cell)
+    (b : held ≡ bases (set_of s))
+    (c : cells ≡ tabulate (entry_rows s.entries.now) (cell_among_at held s.text.now s.entries.now s.energies.now)) where
   abbrev pub p : Params
-  p = params_of text users strands scaffold entries energies penalty copies
+  p = set_of s
+
+  -- the rows of numbers and of doubles
+  abbrev entries : List ℕ
+  entries = s.entries.now
+
+  abbrev energies : List Float
+  energies = s.energies.now
 
   pub cells-many : length cells ≡ entry_rows entries
-  cells-many = ap length c ∙ length-tabulate (entry_rows entries) (cell_among_at held text entries energies)
+  cells-many = ap length c ∙ length-tabulate (entry_rows entries) (cell_among_at held s.text.now entries energies)
 
   cells-listed : cells ≡ tabulate (entry_rows entries) (λ k. cell_of_entry p (entry_at entries energies k))
-  cells-listed = c ∙ ap (λ (bs : List Name). tabulate (entry_rows entries) (cell_among_at bs text entries energies)) b
+  cells-listed = c ∙ ap (λ (bs : List Name). tabulate (entry_rows entries) (cell_among_at bs s.text.now entries energies)) b
 
   pub cells-found : (k : ℕ) → k < entry_rows entries → get_or cells k (cell 0 0) ≡ cell_of_entry p (entry_at entries energies k)
   cells-found k h =
@@ -128,7 +135,7 @@ module _ (text : List ℕ) (users : ℕ) (strands scaffold entries : List ℕ) (
       ∙ sym (ap (map (λ (w : Write). w.at)) (map-tabulate (write_of_entry p) (entry_rows entries) (entry_at entries energies))
       ∙ map-tabulate (λ (w : Write). w.at) (entry_rows entries) (λ k. write_of_entry p (entry_at entries energies k))))
 
-  pub writes_found : tabulate (entry_rows entries) (write_at text entries energies penalty.dg.0 penalty.ds.0 cells) ≡ writes_of p
+  pub writes_found : tabulate (entry_rows entries) (write_at s.text.now entries energies s.penalty.dg.0 s.penalty.ds.0 cells) ≡ writes_of p
   writes_found = written p entries energies cells refl cells-found
 
   module _ (few : too_many_bases (strand_names p) ≡ false) where
@@ -138,16 +145,16 @@ module _ (text : List ℕ) (users : ℕ) (strands scaffold entries : List ℕ) (
     pub cells-inside : InTables cells
     cells-inside k h =
         let l : k < entry_rows entries = rw cells-many at h in
-        rw (cells-found k l) (cell-inside (bases p) (first_name p (entry_at entries energies k)) (glue_of text (entry_at entries energies k).second) most)
+        rw (cells-found k l) (cell-inside (bases p) (first_name p (entry_at entries energies k)) (glue_of s.text.now (entry_at entries energies k).second) most)
 
     pub checked :
         (numbers : List ℕ)
-        → numbers ≡ numbers_among (strand_names p) (glues_of text (names_of scaffold))
-        → any (is_unknown (bases p)) (glues_of text (names_of scaffold)) ≡ false
+        → numbers ≡ numbers_among (strand_names p) (glues_of s.text.now (names_of s.scaffold.now))
+        → any (is_unknown (bases p)) (glues_of s.text.now (names_of s.scaffold.now)) ≡ false
         → Checked p entries energies numbers cells
     checked numbers n known = record {
-      spelled = numbers-spelled (strand_names p) text scaffold numbers n known;
-      small = λ k h. number_small (strand_names p) text scaffold numbers n few k (rw (numbers-length (strand_names p) text scaffold numbers n) at h);
+      spelled = numbers-spelled (strand_names p) s.text.now s.scaffold.now numbers n known;
+      small = λ k h. number_small (strand_names p) s.text.now s.scaffold.now numbers n few k (rw (numbers-length (strand_names p) s.text.now s.scaffold.now numbers n) at h);
       many = cells-many;
       cells-at = cells-found;
       inside = cells-inside;

@@ -1,13 +1,11 @@
 -- What the call gives at each return. Assumes nothing.
 use mathlib.Core.Path.{◌≡◌, refl, ap, ap₂, sym, ◌∙◌}
 use mathlib.Core.Bool.{Bool, true, false, not, ◌||◌}
-use mathlib.Core.List.{List, ◌∷◌, map}
-use Prim.Native.Nat.{ℕ, zero, suc, ◌+◌, ◌*◌, ◌-◌, ◌<◌, ◌≤◌}
-use native.Mathlib.Nat.{not-suc-le-zero, le_of_suc-le-suc}
-use native.Mathlib.Omega.{arith}
-use lib.Dec.{eqb, ltb}
+use mathlib.Core.List.{List, map}
+use Prim.Native.Nat.{ℕ, ◌+◌, ◌*◌, ◌<◌}
+use lib.Dec.{eqb}
 use lib.Ieee.{Float}
-use lib.ListN.{length, take, replicate, length-replicate, length-map}
+use lib.ListN.{length, replicate}
 use borrow.Author.Tests.{eqb-true, not-false, lt-ltb}
 use Rattle.doubles.specs.Decimal as doubles
 use Rattle.lists.specs.Find.{any}
@@ -18,12 +16,11 @@ use Rattle.reply.specs.Number.{number_of, answered, Reply}
 use Rattle.reply.specs.First.{first_of, refused_if, answer, refuses}
 use Rattle.reply.specs.declared.Refusal.{Refusal}
 use Rattle.reply.specs.declared.Refusal.TheVariants.{WrongSize, NotABase, TooShort, UnknownName, TooManyGlues, DuplicatePair, OutOfRange}
-use Rattle.sdc_common.specs.Lent.{glue_of, glues_of}
+use Rattle.sdc_common.specs.Lent.{glues_of}
 use Rattle.sdc_common.specs.Numbers.{numbers_among}
 use Rattle.sdc_common.specs.Spelled.{is_unknown, spelled_number}
 use Rattle.sdc_common.specs.Calls.{unfit_strands, too_many_bases}
-use Rattle.sdc_common.proofs.Fit.{as_many}
-use Rattle.sdc1d_params.specs.Entries.{Cell, entry_at, entry_rows, unfit_entry, unfit_entries, has_bad_base, is_short}
+use Rattle.sdc1d_params.specs.Entries.{Cell, entry_at, entry_rows, unfit_entries, has_bad_base, is_short}
 use Rattle.sdc1d_params.specs.Tables.{Write, cells_of, duplicated, out_of_range, write_dg, write_ds, empty_table, dg_table, ds_table}
 use Rattle.sdc1d_params.specs.inner.Cells.{write_at}
 use Rattle.sdc1d_params.specs.Params.{Params, Outcome, outcome_of, energies_of, strand_names, bases, writes_of, unfit_copied, unfit_lent, unfit_scaffold, wrong_size, param_checks, build_checks, with_copies, strand_glues_of, from_params}
@@ -75,11 +72,6 @@ module _ (p : Params) (lent : Outcome) where
 
   module _ (entries : List ℕ) (energies : List Float) (same : p.entries.each ≡ tabulate (entry_rows entries) (entry_at entries energies))
       (numbers : List ℕ) (cells : List Cell) (w : Checked p entries energies numbers cells) where
-    pub as-many-positions : Sized p lent → length lent.scaffold_glues ≡ length numbers
-    unfolding glues_of
-    as-many-positions fit =
-        sym (ap length w.spelled ∙ length-map (glues_of p.text p.scaffold) (spelled_number (bases p)) ∙ length-map p.scaffold.each (glue_of p.text) ∙ as_many (length lent.scaffold_glues) p.text p.scaffold fit.scaffold)
-
     writes : tabulate (entry_rows entries) (write_at p.text entries energies p.penalty_dg p.penalty_ds cells) ≡ writes_of p
     writes = written p entries energies cells same w.cells-at
 
@@ -126,16 +118,11 @@ entries-hold true x e q r l h = refl
 entries-hold false true e q r l h = refl
 entries-hold false false e q r l h = rw h
 
-over-limit : (ragged many unfit : Bool) → many ≡ true → (ragged || many || unfit) ≡ true
-over-limit true many unfit h = refl
-over-limit false many unfit h = rw h
-
 module _ (p : Params) (lent : Outcome) where
-  many-entries : 1024 < length p.entries.each → wrong_size p lent ≡ true
-  unfolding wrong_size unfit_entries
-  many-entries h =
-      entries-hold (unfit_strands p.users p.text p.strands) (unfit_scaffold p lent) (unfit_entries p.text p.entries) (unfit_copied p.users p.quencher) (unfit_copied p.users p.reporter) (unfit_lent p lent)
-      (over-limit p.entries.ragged (ltb 1024 (length p.entries.each)) (any (unfit_entry p.text) p.entries.each) (lt-ltb 1024 (length p.entries.each) h))
+  unfit-size : unfit_entries p.text p.entries ≡ true → wrong_size p lent ≡ true
+  unfolding wrong_size
+  unfit-size h =
+      entries-hold (unfit_strands p.users p.text p.strands) (unfit_scaffold p lent) (unfit_entries p.text p.entries) (unfit_copied p.users p.quencher) (unfit_copied p.users p.reporter) (unfit_lent p lent) h
 
   many-positions : 128 < length lent.scaffold_glues → wrong_size p lent ≡ true
   unfolding wrong_size
@@ -143,22 +130,8 @@ module _ (p : Params) (lent : Outcome) where
       let over : unfit_scaffold p lent ≡ true = rw (lt-ltb 128 (length lent.scaffold_glues) h) in
       positions-hold (unfit_strands p.users p.text p.strands) (unfit_scaffold p lent) (unfit_entries p.text p.entries) (unfit_copied p.users p.quencher) (unfit_copied p.users p.reporter) (unfit_lent p lent) over
 
-  pub entries-refused : (build : Build) → 1024 < length p.entries.each → outcome_of (number_of WrongSize) lent.strand_glues lent.scaffold_glues lent.dg lent.ds ≡ from_params build p lent
-  entries-refused build h = kept p lent build WrongSize (sym (build-refused build p lent WrongSize (reply-size p lent (many-entries h))))
+  pub entries-refused : (build : Build) → unfit_entries p.text p.entries ≡ true → outcome_of (number_of WrongSize) lent.strand_glues lent.scaffold_glues lent.dg lent.ds ≡ from_params build p lent
+  entries-refused build h = kept p lent build WrongSize (sym (build-refused build p lent WrongSize (reply-size p lent (unfit-size h))))
 
   pub positions-refused : (build : Build) → 128 < length lent.scaffold_glues → outcome_of (number_of WrongSize) lent.strand_glues lent.scaffold_glues lent.dg lent.ds ≡ from_params build p lent
   positions-refused build h = kept p lent build WrongSize (sym (build-refused build p lent WrongSize (reply-size p lent (many-positions h))))
-
--- ---- the parts of local arrays that are lent
-
-pub repeated-part : (most n v : ℕ) → n ≤ most → take (n - 0) (replicate most v) ≡ replicate n v
-repeated-part most n v h = let same : n - 0 ≡ n = omega arith in ap (λ (k : ℕ). take k (replicate most v)) same ∙ go most n h
-  where
-    go : (m k : ℕ) → k ≤ m → take k (replicate m v) ≡ replicate k v
-    go zero zero l = refl
-    go zero (suc k) l = absurd (not-suc-le-zero l)
-    go (suc m) zero l = refl
-    go (suc m) (suc k) l = ap (v ∷◌) (go m k (le_of_suc-le-suc l))
-
-pub part_length : (most n v : ℕ) → n ≤ most → length (take (n - 0) (replicate most v)) ≡ n
-part_length most n v h = ap length (repeated-part most n v h) ∙ length-replicate n v

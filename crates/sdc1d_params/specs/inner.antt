@@ -1,5 +1,4 @@
 -- What contracts of inner functions are stated by. No public call is.
-pub mod Fit
 pub mod Cells
 pub mod Scaffold
 pub mod Set

@@ -5,13 +5,15 @@ ghost use Rattle.sdc1d_params.specs.Entries.{entry_rows};
 ghost use Rattle.sdc1d_params.specs.inner.Set.{set_of};
 ghost use Rattle.sdc1d_params.specs.Params.{lent_of, outcome_of, from_params};
 
+use crate::Build;
 use crate::cells::Cell;
 use crate::checks::check;
 use crate::retired::refuses_names;
 use crate::scaffold::write_scaffold;
+use crate::set::ParameterSet;
+use crate::sizes::Lent;
 use crate::strands::write_strands;
 use crate::tables::fill_tables;
-use crate::{Build, ParameterSet};
 use reply::{Refusal, refused_if};
 
 // What is written where no check holds. The last two slices have room for a number of each scaffold name and a cell of each entry.
@@ -29,20 +31,18 @@ pub(crate) fn build_all(
     requires cells_len { length cells.old ≡ entry_rows set.now.entries.now }
     ensures { outcome_of (result_number result) strand_glues.new scaffold_glues.new dg.new ds.new ≡ from_params build (set_of set.now) (lent_of strand_glues.old scaffold_glues.old dg.old ds.old) }
 {
-    check(set, strand_glues, scaffold_glues, dg, ds, numbers, cells)?;
+    let lent = Lent {
+        strand_glues,
+        scaffold_glues,
+        dg,
+        ds,
+    };
+    check(set, &lent, numbers, cells)?;
     refused_if(Refusal::TwoStars, refuses_names(build, set))?;
     write_strands(set, strand_glues);
     write_scaffold(numbers, scaffold_glues);
     dg.fill(0.0);
     ds.fill(0.0);
-    fill_tables(
-        set.text,
-        set.entries,
-        set.energies,
-        set.penalty,
-        cells,
-        dg,
-        ds,
-    );
+    fill_tables(set, cells, dg, ds);
     Ok(())
 }

@@ -1,13 +1,13 @@
 // Where entries are written: one name or a pair, from the numbers of the names to a cell of the tables.
-ghost use Rattle.std.specs.Prelude.{◌≡◌, false, ◌<◌, ◌≤◌, length};
+ghost use Rattle.std.specs.Prelude.{◌≡◌, ◌<◌, ◌≤◌, length};
 ghost use Rattle.lists.specs.Build.{tabulate};
-ghost use Rattle.sdc1d_params.specs.Entries.{is_written, entry_rows, unfit_entry};
+ghost use Rattle.sdc1d_params.specs.Entries.{is_written, entry_rows};
 ghost use Rattle.sdc1d_params.specs.Tables.{duplicated, place_of};
 ghost use Rattle.sdc1d_params.specs.inner.Cells.{one_cell, mirror, cell_among, cell_at, InTables, mark_both, is_marked};
-ghost use Rattle.sdc1d_params.specs.inner.Fit.{FitEntries};
 
-use crate::Entry;
-use crate::entries::{ROW, entry_at, first_name};
+use crate::entries::first_name;
+use crate::fit::FitEntry;
+use crate::set::ParameterSet;
 use reply::limits::{CELLS, GLUES};
 use sdc_common::table::BaseTable;
 
@@ -63,37 +63,31 @@ fn one_cell(number: usize) -> Cell
     }
 }
 
-// The cell of an entry, from a table of at most 31 bases.
-fn cell_of(text: &[u8], bases: &BaseTable, entry: Entry) -> Cell
-    requires few { length bases.now ≤ 31 }
-    requires fit { unfit_entry text.now entry ≡ false }
-    ensures { result ≡ cell_among bases.now text.now entry }
-{
-    let first = bases.number(first_name(entry).bytes(text));
-    match entry.second.bytes(text) {
-        None => one_cell(first),
-        Some(second) => Cell {
-            row: first,
-            column: bases.number(Some(second)),
-        },
+impl FitEntry<'_> {
+    // The cell of an entry, from a table of at most 31 bases.
+    fn cell(&self, bases: &BaseTable) -> Cell
+        requires { length bases.now ≤ 31 }
+        ensures { result ≡ cell_among bases.now self.now.text.now self.now.entry }
+    {
+        let first = bases.number(first_name(self.entry).bytes(self.text));
+        match self.entry.second.bytes(self.text) {
+            None => one_cell(first),
+            Some(second) => Cell {
+                row: first,
+                column: bases.number(Some(second)),
+            },
+        }
     }
 }
 
 // The cell of each entry, from a table of at most 31 bases.
-pub(crate) fn fill_cells(
-    text: &[u8],
-    bases: &BaseTable,
-    entries: &[usize],
-    energies: &[f64],
-    cells: &mut [Cell],
-)
+pub(crate) fn fill_cells(set: &ParameterSet, bases: &BaseTable, cells: &mut [Cell])
     requires few { length bases.now ≤ 31 }
-    requires fit_entries { FitEntries text.now entries.now energies.now }
-    requires cells_len { length cells.old ≡ entry_rows entries.now }
-    ensures { cells.new ≡ tabulate (entry_rows entries.now) (cell_at bases.now text.now entries.now energies.now) }
+    requires cells_len { length cells.old ≡ entry_rows set.now.entries.now }
+    ensures { cells.new ≡ tabulate (entry_rows set.now.entries.now) (cell_at bases.now set.now.text.now set.now.entries.now set.now.energies.now) }
 {
-    for i in 0..entries.len() / ROW {
-        cells[i] = cell_of(text, bases, entry_at(entries, energies, i));
+    for (i, cell) in cells.iter_mut().enumerate() {
+        *cell = set.entry(i).cell(bases);
     }
 }
 

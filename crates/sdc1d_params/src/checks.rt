@@ -2,15 +2,15 @@
 ghost use Rattle.std.specs.Prelude.{◌≡◌, ◌≤◌, length, Ok};
 ghost use Rattle.reply.specs.First.{bare, first_of};
 ghost use Rattle.sdc1d_params.specs.Entries.{entry_rows};
-ghost use Rattle.sdc1d_params.specs.inner.Set.{set_of};
-ghost use Rattle.sdc1d_params.specs.Params.{lent_of, param_checks};
+ghost use Rattle.sdc1d_params.specs.inner.Set.{set_of, as_lent};
+ghost use Rattle.sdc1d_params.specs.Params.{param_checks};
 ghost use Rattle.sdc1d_params.specs.inner.Checked.{Checked};
 
-use crate::ParameterSet;
 use crate::cells::{Cell, any_repeated, fill_cells};
-use crate::entries::{any_bad_base, any_short};
+use crate::fit::{any_bad_base, any_short};
 use crate::scaffold::any_unknown;
-use crate::sizes::wrong_size;
+use crate::set::ParameterSet;
+use crate::sizes::{Lent, wrong_size};
 use crate::tables::any_out;
 use reply::{Refusal, refused_if};
 use sdc_common::MOST_BASES;
@@ -19,31 +19,24 @@ use sdc_common::table::BaseTable;
 // The first check that holds. Where none does, the numbers of the scaffold's names and the cells of the entries are left for the writing.
 pub(crate) fn check(
     set: &ParameterSet,
-    strand_glues: &[u8],
-    scaffold_glues: &[u8],
-    dg: &[f64],
-    ds: &[f64],
+    lent: &Lent,
     numbers: &mut [usize],
     cells: &mut [Cell],
 ) -> Result<(), Refusal>
-    requires scaffold_glues_len_bound { (length scaffold_glues.now ≤ 128) × (length numbers.old ≡ length scaffold_glues.now) }
+    requires scaffold_glues_len_bound { (length lent.now.scaffold_glues.now ≤ 128) × (length numbers.old ≡ length lent.now.scaffold_glues.now) }
     requires cells_len { length cells.old ≡ entry_rows set.now.entries.now }
-    ensures value { result ≡ bare (first_of (param_checks (set_of set.now) (lent_of strand_glues.now scaffold_glues.now dg.now ds.now))) }
+    ensures value { result ≡ bare (first_of (param_checks (set_of set.now) (as_lent lent.now))) }
     ensures checked { result ≡ Ok tt → Checked (set_of set.now) set.now.entries.now set.now.energies.now numbers.new cells.new }
 {
-    let wrong = wrong_size(set, strand_glues, scaffold_glues, dg, ds);
-    refused_if(Refusal::WrongSize, wrong)?;
-    let bad_base = any_bad_base(set.text, set.entries, set.energies);
-    refused_if(Refusal::NotABase, bad_base)?;
-    let short = any_short(set.text, set.entries, set.energies);
-    refused_if(Refusal::TooShort, short)?;
+    refused_if(Refusal::WrongSize, wrong_size(set, lent))?;
+    refused_if(Refusal::NotABase, any_bad_base(set))?;
+    refused_if(Refusal::TooShort, any_short(set))?;
     let bases = BaseTable::new(set.text, set.strands);
     bases.fill_numbers(set.text, set.scaffold, numbers);
     let unknown = any_unknown(set.text, set.scaffold, numbers);
     refused_if(Refusal::UnknownName, unknown)?;
     refused_if(Refusal::TooManyGlues, MOST_BASES < bases.len())?;
-    fill_cells(set.text, &bases, set.entries, set.energies, cells);
+    fill_cells(set, &bases, cells);
     refused_if(Refusal::DuplicatePair, any_repeated(cells))?;
-    let out = any_out(set.text, set.entries, set.energies, set.penalty, cells);
-    refused_if(Refusal::OutOfRange, out)
+    refused_if(Refusal::OutOfRange, any_out(set, cells))
 }

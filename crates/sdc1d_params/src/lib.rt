@@ -5,8 +5,10 @@ mod building;
 mod cells;
 mod checks;
 mod entries;
+mod fit;
 mod retired;
 mod scaffold;
+mod set;
 mod sizes;
 mod strands;
 mod tables;
@@ -17,10 +19,11 @@ ghost use Rattle.sdc1d_params.specs.Params.{params_of, lent_of, outcome_of, from
 
 use building::build_all;
 use cells::NO_CELL;
-use entries::{MOST_ENTRIES, ROW};
+use entries::{MOST_ENTRIES, ROW, unfit_entries};
 use reply::limits::POSITIONS;
 use reply::{Refusal, refused_if};
 use sdc_common::names::LentName;
+use set::ParameterSet;
 use units::{KcalPerMol, KcalPerMolKelvin};
 
 // Which names are taken: an ordinary build refuses strand and entry names that end in two or more stars, the archive's takes old designs.
@@ -66,19 +69,6 @@ pub struct Entry {
     pub ds: f64,
 }
 
-// A parameter set as `from_params` takes it: its names and entries are rows of numbers, the form in which C lends them.
-#[derive(Drop)]
-pub(crate) struct ParameterSet<'a> {
-    pub(crate) text: &'a [u8],
-    pub(crate) users: usize,
-    pub(crate) strands: &'a [usize],
-    pub(crate) scaffold: &'a [usize],
-    pub(crate) entries: &'a [usize],
-    pub(crate) energies: &'a [f64],
-    pub(crate) penalty: Penalty,
-    pub(crate) copies: Copies,
-}
-
 // The glues of the strands and of the scaffold, and the two glue tables, into the lent slices. A name is a row of three numbers: its mark,
 // its start and its length. An entry is a row of eight, start and length of its first name, mark, start and length of its second, its form,
 // and start and length of its sequence, and a row of two doubles, dG and dS.
@@ -99,8 +89,8 @@ pub fn from_params(
 ) -> Result<(), Refusal>
     ensures { outcome_of (result_number result) strand_glues.new scaffold_glues.new dg.new ds.new ≡ from_params build (params_of text.now users strands.now scaffold.now entries.now energies.now penalty copies) (lent_of strand_glues.old scaffold_glues.old dg.old ds.old) }
 {
-    let count = entries.len() / ROW;
-    refused_if(Refusal::WrongSize, MOST_ENTRIES < count)?;
+    let unfit = unfit_entries(text, entries, energies);
+    refused_if(Refusal::WrongSize, unfit)?;
     let positions = scaffold_glues.len();
     refused_if(Refusal::WrongSize, POSITIONS < positions)?;
     let set = ParameterSet {
@@ -115,6 +105,7 @@ pub fn from_params(
     };
     let mut numbers = [0usize; POSITIONS];
     let mut cells = [NO_CELL; MOST_ENTRIES];
+    let count = entries.len() / ROW;
     build_all(
         build,
         &set,

@@ -1,13 +1,22 @@
 // Whether what is lent is as long as it should be, and what it names is there.
 ghost use Rattle.std.specs.Prelude.{◌≡◌, ◌≤◌, length};
-ghost use Rattle.sdc1d_params.specs.Params.{lent_of, unfit_copied, unfit_lengths, wrong_size};
-ghost use Rattle.sdc1d_params.specs.inner.Set.{set_of};
+ghost use Rattle.sdc1d_params.specs.Params.{unfit_copied, unfit_lengths, wrong_size};
+ghost use Rattle.sdc1d_params.specs.inner.Set.{set_of, as_lent};
 
-use crate::entries::unfit_entries;
-use crate::{Copied, ParameterSet};
+use crate::Copied;
+use crate::set::ParameterSet;
 use reply::limits::CELLS;
 use sdc_common::names::unfit_names;
 use sdc_common::unfit_strands;
+
+// What is lent to be written: the glues of the strands and of the scaffold, and both tables.
+#[derive(Clone, Copy)]
+pub(crate) struct Lent<'a> {
+    pub(crate) strand_glues: &'a [u8],
+    pub(crate) scaffold_glues: &'a [u8],
+    pub(crate) dg: &'a [f64],
+    pub(crate) ds: &'a [f64],
+}
 
 // Whether a quencher or a reporter is no user strand.
 pub(crate) fn unfit_copied(users: usize, copied: Copied) -> bool
@@ -27,32 +36,15 @@ pub(crate) fn unfit_lengths(users: usize, glues: usize, dg: usize, ds: usize) ->
     glues != 3 * (users + 3) || dg != CELLS || ds != CELLS
 }
 
-// Whether something is outside its limits, or not as long as it should be.
-pub(crate) fn wrong_size(
-    set: &ParameterSet,
-    strand_glues: &[u8],
-    scaffold_glues: &[u8],
-    dg: &[f64],
-    ds: &[f64],
-) -> bool
-    requires { length scaffold_glues.now ≤ 128 }
-    ensures { result ≡ wrong_size (set_of set.now) (lent_of strand_glues.now scaffold_glues.now dg.now ds.now) }
+// Whether something is outside its limits, or not as long as it should be. The entries of a set were looked at before.
+pub(crate) fn wrong_size(set: &ParameterSet, lent: &Lent) -> bool
+    requires { length lent.now.scaffold_glues.now ≤ 128 }
+    ensures { result ≡ wrong_size (set_of set.now) (as_lent lent.now) }
 {
-    // One test after the other: in a longer chain of `||` the proof did not close.
-    if unfit_strands(set.text, set.users, set.strands) {
-        return true;
-    }
-    if unfit_names(scaffold_glues.len(), set.text, set.scaffold) {
-        return true;
-    }
-    if unfit_entries(set.text, set.entries, set.energies) {
-        return true;
-    }
-    if unfit_copied(set.users, set.copies.quencher) {
-        return true;
-    }
-    if unfit_copied(set.users, set.copies.reporter) {
-        return true;
-    }
-    unfit_lengths(set.users, strand_glues.len(), dg.len(), ds.len())
+    let glues = lent.strand_glues.len();
+    unfit_strands(set.text, set.users, set.strands)
+        || unfit_names(lent.scaffold_glues.len(), set.text, set.scaffold)
+        || unfit_copied(set.users, set.copies.quencher)
+        || unfit_copied(set.users, set.copies.reporter)
+        || unfit_lengths(set.users, glues, lent.dg.len(), lent.ds.len())
 }

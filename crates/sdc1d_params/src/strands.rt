@@ -5,7 +5,8 @@ ghost use Rattle.sdc_common.specs.Numbers.{numbers_among};
 ghost use Rattle.sdc_common.specs.Calls.{unfit_strands, too_many_bases};
 ghost use Rattle.sdc1d_params.specs.Params.{unfit_copied, quencher_glues, reporter_glues, with_copies};
 
-use crate::{Copied, ParameterSet};
+use crate::Copied;
+use crate::set::ParameterSet;
 use reply::limits::SIDES;
 use sdc_common::strand_glues;
 

@@ -1,16 +1,16 @@
 -- Bases and equal names, as loops meet them. Assumes nothing.
 use mathlib.Core.Path.{◌≡◌, refl, ap, ◌∙◌}
-use mathlib.Core.Bool.{Bool, true, false, cond, ◌&&◌, and-false}
+use mathlib.Core.Bool.{Bool, false, cond, ◌&&◌, and-false}
 use mathlib.Core.List.{[], ◌∷◌, ◌++◌}
 use Prim.Native.Nat.{ℕ, suc, ◌+◌, ◌<◌, ◌≤◌}
 use native.Mathlib.Numerals.{add-one}
 use native.Mathlib.Omega.{arith}
 use lib.Dec.{eqb}
-use lib.ListN.{length, get_or, take, drop, drop_of_length-le}
-use lib.Seq.{take-suc, drop-cons, length-take-le}
-use borrow.Author.Tests.{eq-eqb, ne_eqb}
+use lib.ListN.{length, get_or, take}
+use lib.Seq.{take-suc, length-take-le}
+use borrow.Author.Tests.{ne_eqb}
 use Rattle.lists.proofs.Find.{first-le-step}
-use Rattle.sdc_common.specs.Names.{Name, is_star, base_length, same_name}
+use Rattle.sdc_common.specs.Names.{Name, is_star, base_length}
 
 -- ---- bases
 

@@ -1,24 +1,18 @@
 -- Parts of the text, and what is learnt and numbered. Assumes nothing.
-use mathlib.Core.Path.{◌≡◌, refl, ap, sym, ◌∙◌}
+use mathlib.Core.Path.{◌≡◌, refl, ap, ◌∙◌}
 use mathlib.Core.Bool.{Bool, true, false, not, ◌&&◌, ◌||◌}
 use mathlib.Core.List.{List, [], ◌∷◌, ◌++◌}
 use mathlib.Core.Option.{none, some}
-use Prim.Native.Nat.{ℕ, ◌+◌, ◌-◌, ◌%◌, ◌<◌, ◌≤◌}
-use native.Mathlib.Nat.{ne_of_lt}
-use native.Mathlib.Numerals.{add-one}
+use Prim.Native.Nat.{ℕ, ◌+◌, ◌-◌, ◌%◌, ◌≤◌}
 use native.Mathlib.Omega.{arith}
 use lib.Dec.{eqb, ltb}
-use lib.ListN.{length, get_or, set, take, drop, length-drop, length-set}
-use lib.Seq.{length-take-le, take-take, get_or-set_same, get_or-set_other}
-use borrow.Author.Count.{below_more}
+use lib.ListN.{length, take, drop, length-drop}
+use lib.Seq.{length-take-le}
 use borrow.Author.Tests.{ltb-false, eq-eqb, ne_eqb}
 use Rattle.lists.specs.Find.{first_index}
 use Rattle.lists.proofs.Tests.{neither}
-use Rattle.lists.proofs.Find.{any-true, any_false}
-use Rattle.lists.proofs.Build.{length-tabulate}
-use Rattle.lists.proofs.Counted.{tabulate-suc, tabulate-same}
 use Rattle.sdc_common.specs.Names.{Name, base_length, base_of, stars_of, is_from, same_name}
-use Rattle.sdc_common.specs.Lent.{part_of, unfit_name, unfit_glue, is_absent, is_present, name_at, glue_of}
+use Rattle.sdc_common.specs.Lent.{part_of, unfit_name, unfit_glue, is_absent, is_present, glue_of}
 use Rattle.sdc_common.specs.declared.names.LentName.{LentName}
 use Rattle.sdc_common.specs.inner.Fit.{Fit}
 use Rattle.sdc_common.specs.Numbers.{is_known, learn, number_at, base_number, name_number, glue_number}

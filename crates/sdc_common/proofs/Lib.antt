@@ -1,4 +1,3 @@
-pub mod Asked
 pub mod Bases
 pub mod Held
 pub mod Rows

@@ -1,8 +1,7 @@
 -- Rows of names, and bases as the code finds them. Assumes nothing.
-use mathlib.Core.Path.{◌≡◌, refl, ap, ap₂, sym, ◌∙◌}
-use mathlib.Core.Bool.{Bool, true, false, not, cond, ◌&&◌}
+use mathlib.Core.Path.{◌≡◌, refl, ap, sym, ◌∙◌}
+use mathlib.Core.Bool.{Bool, true, false, cond, ◌&&◌}
 use mathlib.Core.List.{List, [], ◌∷◌, ◌++◌, map}
-use mathlib.Core.Option.{none, some}
 use Prim.Native.Nat.{ℕ, zero, suc, ◌+◌, ◌*◌, ◌/◌, ◌<◌, ◌≤◌}
 use native.Mathlib.Numerals.{add-one}
 use native.Mathlib.Omega.{arith}
@@ -10,19 +9,18 @@ use lib.Dec.{eqb, ltb}
 use lib.ListN.{length, get_or, set, take, drop, length-map}
 use lib.Seq.{get_or-drop, take-suc-set, length-take-le}
 use lib.Pointwise.{pointwise}
-use borrow.Author.Tests.{lt-ltb, le-ltb, ltb-true, ltb-false}
+use borrow.Author.Tests.{ltb-true, ltb-false}
 use denote.Ref.{Bor}
 use Rattle.std.specs.Prelude.{Option, None, Some, is_some}
 use Rattle.std.specs.Simd.{first_chunks}
 use Rattle.std.specs.List.{position_or_len}
 use Rattle.std.proofs.lemmas.List.{get_or-take, map-append, drop-drop}
-use Rattle.std.proofs.lemmas.List.Recursion.{is_position_or_len}
 use Rattle.lists.specs.Find.{first_index}
-use Rattle.lists.proofs.Find.{any-true, any_false}
+use Rattle.lists.proofs.Find.{any-true, any_false, first-map, first-same}
+use Rattle.lists.proofs.Searches.{first_is}
 use Rattle.sdc_common.specs.Names.{Name, same_name}
 use Rattle.sdc_common.specs.Lent.{name_at}
 use Rattle.sdc_common.specs.Numbers.{is_known}
-use Rattle.sdc_common.specs.declared.names.LentName.{LentName}
 use Rattle.sdc_common.specs.inner.Table.{Found}
 
 -- ---- rows of three numbers
@@ -62,12 +60,9 @@ module _ (base : Name) where
   abbrev pub has_bytes : Bor Name → Bool
   has_bytes known = pointwise eqb base known.now
 
-  one-more : (n : ℕ) → suc n ≡ 1 + n
-  one-more n = omega arith
-
   place-is : (held : List (Bor Name)) → first_index (same_name base) (map bytes held) ≡ position_or_len has_bytes held
-  unfolding first_index
-  place-is held = is_position_or_len (λ (xs : List (Bor Name)). first_index (same_name base) (map bytes xs)) has_bytes refl (λ x xs. ap (λ (t : Bool). cond t 0 (suc (first_index (same_name base) (map bytes xs)))) (sym (same-bytes base x.now)) ∙ ap (cond (has_bytes x) 0) (one-more (first_index (same_name base) (map bytes xs)))) held
+  place-is held =
+      first-map (same_name base) bytes held ∙ first-same (λ b. same_name base b.now) has_bytes (λ b. sym (same-bytes base b.now)) held ∙ first_is has_bytes held
 
   found-step :
       (bases : List Name) (place n : ℕ)

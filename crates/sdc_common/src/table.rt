@@ -17,8 +17,8 @@ const ROOM: usize = 183;
 // The bases of names, each once, in the order of their first appearance.
 #[derive(Drop)]
 pub struct BaseTable<'a> {
-    bases: [&'a [u8]; ROOM],
-    count: usize,
+    pub bases: [&'a [u8]; ROOM],
+    pub count: usize,
 }
 
 impl<'a> Model for BaseTable<'a> {
@@ -32,7 +32,8 @@ impl<'a> Model for BaseTable<'a> {
 }
 
 impl<'a> BaseTable<'a> {
-    // The bases of the names.
+    // The bases of the names. Text and names are two parameters here and below: as one struct, with the fact that the names are fit, each caller would
+    // build it for a call or two, and the contracts would be no shorter.
     pub fn new(text: &'a [u8], names: &[usize]) -> BaseTable<'a>
         requires fit_names { FitNames text.now names.now }
         requires names_len_bound { length names.now / 3 ≤ 183 }

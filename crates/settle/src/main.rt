@@ -10,6 +10,7 @@ mod lines;
 mod place;
 mod reads;
 mod report;
+mod rows;
 mod settle;
 mod unfit;
 
@@ -17,7 +18,7 @@ ghost use Rattle.std.specs.Prelude.{◌≡◌, length};
 
 use answers::print::Style;
 use answers::reasons::Why;
-use answers::{Spot, unreadable};
+use answers::{DesignFile, Found, unreadable};
 use reads::first;
 use sdc1d_params::Build;
 use std::env::{Env, FillError};
@@ -40,9 +41,17 @@ fn room() -> [u8; 1048577]
     [0; 1048577]
 }
 
+// What the first two arguments ask for.
+#[derive(Clone, Copy)]
+struct Asked {
+    style: Style,
+    which: Build,
+}
+
 // A file that can't be had. Answers that it was not settled.
-fn failed<W: Write>(out: &mut W, style: Style, path: &[u8], why: Why) -> io::Result<bool> {
-    unreadable(out, style, path, b"", Spot::default(), why)?;
+fn failed<W: Write>(out: &mut W, asked: Asked, path: &[u8], why: Why) -> io::Result<bool> {
+    let file = DesignFile { path, text: b"" };
+    unreadable(out, asked.style, file, Found::nowhere(why))?;
     Ok(false)
 }
 
@@ -50,14 +59,17 @@ fn failed<W: Write>(out: &mut W, style: Style, path: &[u8], why: Why) -> io::Res
 fn settle_file<R: Files, W: Write>(
     rt: &R,
     out: &mut W,
-    style: Style,
-    which: Build,
+    asked: Asked,
     path: &[u8],
-    text: &mut [u8],
+    room: &mut [u8],
 ) -> io::Result<bool> {
-    match file::read(rt, path, text) {
-        Err(why) => failed(out, style, path, why),
-        Ok(size) => settle::settle(out, style, which, path, first(text, size)),
+    match file::read(rt, path, room) {
+        Err(why) => failed(out, asked, path, why),
+        Ok(size) => {
+            let text = first(room, size);
+            let outcome = settle::settle(asked.which, text);
+            report::report(out, asked.style, DesignFile { path, text }, outcome)
+        }
     }
 }
 
@@ -65,15 +77,14 @@ fn settle_file<R: Files, W: Write>(
 fn settle_argument<R: Env + Files, W: Write>(
     rt: &R,
     out: &mut W,
-    style: Style,
-    which: Build,
+    asked: Asked,
     i: usize,
-    text: &mut [u8],
+    room: &mut [u8],
 ) -> io::Result<bool> {
     let mut path = [0u8; 4096];
     match rt.arg(i, &mut path) {
-        Ok(size) => settle_file(rt, out, style, which, first(&path, size), text),
-        Err(_) => failed(out, style, b"", Why::NoSuchFile),
+        Ok(size) => settle_file(rt, out, asked, first(&path, size), room),
+        Err(_) => failed(out, asked, b"", Why::NoSuchFile),
     }
 }
 
@@ -90,16 +101,15 @@ fn is_given<R: Env>(rt: &R, i: usize) -> bool {
 fn settle_all<R: Env + Files, W: Write>(
     rt: &R,
     out: &mut W,
-    style: Style,
-    which: Build,
-    text: &mut [u8],
+    asked: Asked,
+    room: &mut [u8],
 ) -> io::Result<bool> {
     let mut all = true;
     for i in 3..usize::MAX {
         if !is_given(rt, i) {
             return Ok(all);
         }
-        if !settle_argument(rt, out, style, which, i, text)? {
+        if !settle_argument(rt, out, asked, i, room)? {
             all = false;
         }
     }
@@ -134,9 +144,9 @@ fn main(rt: HostRuntime) -> io::Result<ExitCode> {
     } else {
         Build::Ordinary
     };
-    let mut text = room();
+    let mut room = room();
     let mut out = io::writer(&rt);
-    match settle_all(&rt, &mut out, style, which, &mut text) {
+    match settle_all(&rt, &mut out, Asked { style, which }, &mut room) {
         Ok(true) => tell(&rt, b"0"),
         Ok(false) => tell(&rt, b"1"),
         Err(error) => {

@@ -1,29 +1,58 @@
-// From a file's bytes to what is printed of it.
-use crate::build::{MOST_ENTRIES, MOST_POSITIONS, MOST_USERS, build};
-use crate::place::{Found, nowhere};
+// From a file's text to the configuration in which its strands settle.
+use crate::build::{Tables, build, glue_count};
 use crate::reads::{first, first_mut};
-use crate::report::report;
-use crate::{place, unfit};
-use answers::print::Style;
+use crate::rows::{Sheet, at_line, on_line};
 use answers::reasons::Why;
-use answers::{Spot, refused, unreadable};
+use answers::{Found, Spot};
 use design::Design;
 use mfe::mfe_configuration;
 use reply::{Refusal, Refused};
 use sdc1d::number_of_states;
 use sdc1d_params::Build;
 use sheet::faults::{Counts, SheetFault};
-use sheet::rows::{Group, rows_of};
-use sheet::{once, parts};
+use sheet::once;
+use sheet::rows::{Chosen, Group, rows_of};
 use statements::ReadFault;
 use statements::grammar::Kind;
 use statements::statement::Row;
-use std::io;
-use std::io::Write;
+use statements::words::Word;
 use units::{Ambient, KcalPerMol, Kelvin};
 
-// More rows than any design has.
-const ROWS: usize = 2048;
+// Why a file gives no settled configuration: it can't be read, or a call refuses its design.
+#[derive(Clone, Copy)]
+pub(crate) enum Unsettled {
+    Unreadable(Found),
+    Refused(Refusal, Found),
+}
+
+// A settled design, of each array as much as it has positions or strands.
+#[derive(Clone, Copy)]
+pub(crate) struct Settled {
+    pub(crate) counts: Counts,
+    // The glues of the positions and the names of the strands, words of the text.
+    pub(crate) glues: [Word; 128],
+    pub(crate) strand_names: [Word; 61],
+    // 1 where a position is blocked.
+    pub(crate) marks: [u8; 128],
+    pub(crate) configuration: [u8; 128],
+    pub(crate) energy: KcalPerMol,
+    // How many states it has, where so many are counted.
+    pub(crate) states: Option<u64>,
+}
+
+// Why the lines of a text can't be read.
+fn of_lines(fault: ReadFault) -> Unsettled {
+    match fault {
+        ReadFault::Unreadable(line, fault) => Unsettled::Unreadable(Found {
+            spot: Spot::at(Some(line), fault.word),
+            why: Why::Line(fault.reason),
+        }),
+        ReadFault::TooManyRows(line) => {
+            Unsettled::Refused(Refusal::WrongSize, at_line(line, Why::TooManyRows))
+        }
+        ReadFault::TooLong => Unsettled::Unreadable(Found::nowhere(Why::TooLong)),
+    }
+}
 
 // What is too many, by the group of its rows.
 fn too_many(group: Group) -> Why {
@@ -35,185 +64,40 @@ fn too_many(group: Group) -> Why {
     }
 }
 
-// Prints a refusal, and answers that the file was not settled.
-fn refuse<W: Write>(
-    out: &mut W,
-    style: Style,
-    path: &[u8],
-    text: &[u8],
-    refusal: Refusal,
-    found: Found,
-) -> io::Result<bool> {
-    refused(out, style, path, text, refusal, found.spot, found.why)?;
-    Ok(false)
-}
-
-// A reason that lies in a line.
-fn at_line(line: usize, why: Why) -> Found {
-    Found {
-        spot: Spot {
-            line: Some(line),
-            word: None,
-        },
-        why,
+// Why the lines make no sheet.
+fn of_sheet(text: &[u8], fault: SheetFault) -> Unsettled {
+    match fault {
+        SheetFault::NameTwice(line, word) => Unsettled::Unreadable(Found {
+            spot: Spot::at(Some(line), word),
+            why: Why::NameTwice,
+        }),
+        SheetFault::GivenTwice(line, _) => {
+            Unsettled::Unreadable(on_line(text, line, 1, Why::GivenTwice))
+        }
+        SheetFault::TooMany(line, group) => {
+            Unsettled::Refused(Refusal::WrongSize, at_line(line, too_many(group)))
+        }
+        SheetFault::NoAmbient => Unsettled::Unreadable(Found::nowhere(Why::NoAmbient)),
     }
 }
 
-// A file that can't be read. Answers that it was not settled.
-fn complain<W: Write>(
-    out: &mut W,
-    style: Style,
-    path: &[u8],
-    text: &[u8],
-    found: Found,
-) -> io::Result<bool> {
-    unreadable(out, style, path, text, found.spot, found.why)?;
-    Ok(false)
-}
-
-// The text of a file. Answers whether its configuration was settled and printed.
-pub(crate) fn settle<W: Write>(
-    out: &mut W,
-    style: Style,
-    which: Build,
-    path: &[u8],
-    text: &[u8],
-) -> io::Result<bool> {
-    let mut rows = [Row::blank(Kind::Kelvin, 0); 2048];
-    match statements::read(text, &mut rows) {
-        Ok(n) => {
-            if ROWS < n {
-                return refuse(
-                    out,
-                    style,
-                    path,
-                    text,
-                    Refusal::WrongSize,
-                    nowhere(Why::TooManyRows),
-                );
-            }
-            settle_rows(out, style, which, path, text, &rows[..n])
-        }
-        Err(ReadFault::Unreadable(line, fault)) => {
-            let found = Found {
-                spot: Spot::at(Some(line), fault.word),
-                why: Why::Line(fault.reason),
-            };
-            complain(out, style, path, text, found)
-        }
-        Err(ReadFault::TooManyRows(line)) => refuse(
-            out,
-            style,
-            path,
-            text,
-            Refusal::WrongSize,
-            at_line(line, Why::TooManyRows),
-        ),
-        Err(ReadFault::TooLong) => complain(out, style, path, text, nowhere(Why::TooLong)),
-    }
-}
-
-// A file whose every line can be read.
-fn settle_rows<W: Write>(
-    out: &mut W,
-    style: Style,
-    which: Build,
-    path: &[u8],
-    text: &[u8],
-    rows: &[Row],
-) -> io::Result<bool> {
-    match sheet::faults::check(text, rows) {
-        Ok(counts) => settle_sheet(out, style, which, path, text, rows, counts),
-        Err(SheetFault::NameTwice(line, word)) => {
-            let found = Found {
-                spot: Spot::at(Some(line), word),
-                why: Why::NameTwice,
-            };
-            complain(out, style, path, text, found)
-        }
-        Err(SheetFault::GivenTwice(line, _)) => {
-            let found = place::on_line(text, Some(line), 1, Why::GivenTwice);
-            complain(out, style, path, text, found)
-        }
-        Err(SheetFault::TooMany(line, group)) => refuse(
-            out,
-            style,
-            path,
-            text,
-            Refusal::WrongSize,
-            at_line(line, too_many(group)),
-        ),
-        Err(SheetFault::NoAmbient) => complain(out, style, path, text, nowhere(Why::NoAmbient)),
-    }
-}
-
-// Builds the design.
-fn settle_sheet<W: Write>(
-    out: &mut W,
-    style: Style,
-    which: Build,
-    path: &[u8],
-    text: &[u8],
-    rows: &[Row],
-    counts: Counts,
-) -> io::Result<bool> {
-    let Counts {
-        strands: users,
-        positions,
-        entries,
-    } = counts;
-    if MOST_USERS < users || MOST_POSITIONS < positions || MOST_ENTRIES < entries {
-        return refuse(
-            out,
-            style,
-            path,
-            text,
-            Refusal::WrongSize,
-            nowhere(Why::TooManyRows),
-        );
-    }
-    let glue_count = 3 * (users + 3);
-    let mut room = [0usize; 61];
-    rows_of(rows, Group::Strand, first_mut(&mut room, users));
-    let strand_rows = first(&room, users);
-    let mut glues = [0u8; 192];
-    let mut scaffold = [0u8; 128];
-    let mut dg = [0.0; 4096];
-    let mut ds = [0.0; 4096];
-    match build(
-        which,
+// The text of a file.
+pub(crate) fn settle(which: Build, text: &[u8]) -> Result<Settled, Unsettled> {
+    // More rows than any design has.
+    let mut room = [Row::blank(Kind::Kelvin, 0); 2048];
+    let count = statements::read(text, &mut room).map_err(of_lines)?;
+    let rows = first(&room, count);
+    let counts = sheet::faults::check(text, rows).map_err(|fault| of_sheet(text, fault))?;
+    let mut strand_rows = [0usize; 61];
+    let strand_rows = first_mut(&mut strand_rows, counts.strands);
+    rows_of(rows, Group::Strand, strand_rows);
+    let sheet = Sheet {
         text,
         rows,
-        users,
-        positions,
-        entries,
-        first_mut(&mut glues, glue_count),
-        first_mut(&mut scaffold, positions),
-        &mut dg,
-        &mut ds,
-    ) {
-        Err(refusal) => refuse(
-            out,
-            style,
-            path,
-            text,
-            refusal,
-            place::of_build(refusal, text, rows, strand_rows, positions, entries),
-        ),
-        Ok(()) => settle_design(
-            out,
-            style,
-            path,
-            text,
-            rows,
-            strand_rows,
-            entries,
-            first(&scaffold, positions),
-            first(&glues, glue_count),
-            &dg,
-            &ds,
-        ),
-    }
+        strand_rows,
+        counts,
+    };
+    sheet.settled(which)
 }
 
 // The ambient as given, or at a temperature.
@@ -229,65 +113,8 @@ fn ambient_of(rows: &[Row]) -> Result<Ambient, Refusal> {
     }
 }
 
-// The ambient, then the search.
-fn settle_design<W: Write>(
-    out: &mut W,
-    style: Style,
-    path: &[u8],
-    text: &[u8],
-    rows: &[Row],
-    strand_rows: &[usize],
-    entries: usize,
-    scaffold: &[u8],
-    glues: &[u8],
-    dg: &[f64],
-    ds: &[f64],
-) -> io::Result<bool> {
-    match ambient_of(rows) {
-        Err(refusal) => {
-            refuse(
-                out,
-                style,
-                path,
-                text,
-                refusal,
-                unfit::of_kelvin(text, rows),
-            )
-        }
-        Ok(ambient) => search(
-            out,
-            style,
-            path,
-            text,
-            rows,
-            strand_rows,
-            entries,
-            scaffold,
-            glues,
-            dg,
-            ds,
-            ambient,
-        ),
-    }
-}
-
-// The marks of the positions, as many as there are.
-fn mark(rows: &[Row], marks: &mut [u8]) {
-    let positions = marks.len();
-    let mut chosen = [0usize; 128];
-    rows_of(rows, Group::Position, first_mut(&mut chosen, positions));
-    parts::blocks(rows, first(&chosen, positions), marks);
-}
-
-// A settled design: the energy of its lowest configuration, and how many states it has, where so many are counted.
-#[derive(Clone, Copy)]
-struct Settled {
-    energy: KcalPerMol,
-    states: Option<u64>,
-}
-
-// The search over a design, its configuration into the lent places.
-fn lowest<'a>(
+// A design out of its parts: that they are doubles is known of parameters.
+fn design_of<'a>(
     scaffold: &'a [u8],
     marks: &'a [u8],
     glues: &'a [u8],
@@ -295,9 +122,8 @@ fn lowest<'a>(
     ds: &'a [f64],
     potentials: &'a [f64],
     ambient: Ambient,
-    configuration: &mut [u8],
-) -> Result<Settled, Refused> {
-    let design = Design {
+) -> Design<'a> {
+    Design {
         scaffold,
         marks,
         glues,
@@ -305,70 +131,86 @@ fn lowest<'a>(
         ds,
         potentials,
         ambient,
-    };
-    let energy = mfe_configuration(&design, configuration)?;
-    // A design that the search has answered is refused its count only where it has too many states.
-    let states = number_of_states(&design).ok();
-    Ok(Settled { energy, states })
+    }
 }
 
-// The search, and what is printed of it.
-fn search<W: Write>(
-    out: &mut W,
-    style: Style,
-    path: &[u8],
-    text: &[u8],
-    rows: &[Row],
-    strand_rows: &[usize],
-    entries: usize,
-    scaffold: &[u8],
-    glues: &[u8],
-    dg: &[f64],
-    ds: &[f64],
-    ambient: Ambient,
-) -> io::Result<bool> {
-    let positions = scaffold.len();
-    if MOST_USERS < strand_rows.len() || MOST_POSITIONS < positions {
-        return Ok(false);
+impl Sheet<'_> {
+    // The design, built and searched.
+    fn settled(&self, which: Build) -> Result<Settled, Unsettled> {
+        let mut strand_glues = [0u8; 192];
+        let mut scaffold_glues = [0u8; 128];
+        let mut dg = [0.0; 4096];
+        let mut ds = [0.0; 4096];
+        let tables = Tables {
+            strand_glues: &mut strand_glues,
+            scaffold_glues: &mut scaffold_glues,
+            dg: &mut dg,
+            ds: &mut ds,
+        };
+        build(which, self, self.counts, tables).map_err(|refusal| Unsettled::Refused(
+            refusal,
+            self.of_build(refusal),
+        ))?;
+        let ambient = ambient_of(self.rows).map_err(|refusal| Unsettled::Refused(
+            refusal,
+            self.of_kelvin(),
+        ))?;
+        self.search(&strand_glues, &scaffold_glues, &dg, &ds, ambient)
+            .map_err(|given| Unsettled::Refused(given.refusal, self.of_design(given)))
     }
-    let strands = strand_rows.len() + 3;
-    let mut room = [0.0; 64];
-    parts::potentials(rows, strand_rows, first_mut(&mut room, strands));
-    let potentials = first(&room, strands);
-    let mut blocks = [0u8; 128];
-    mark(rows, first_mut(&mut blocks, positions));
-    let marks = first(&blocks, positions);
-    let mut configuration = [0u8; 128];
-    match lowest(
-        scaffold,
-        marks,
-        glues,
-        dg,
-        ds,
-        potentials,
-        ambient,
-        first_mut(&mut configuration, positions),
-    ) {
-        Err(given) => refuse(
-            out,
-            style,
-            path,
-            text,
-            given.refusal,
-            unfit::of_design(given, text, rows, strand_rows),
-        ),
-        Ok(answer) => report(
-            out,
-            style,
-            path,
-            text,
+
+    // The search over the design of these tables, and what is shown of it.
+    fn search(
+        &self,
+        strand_glues: &[u8],
+        scaffold_glues: &[u8],
+        dg: &[f64],
+        ds: &[f64],
+        ambient: Ambient,
+    ) -> Result<Settled, Refused> {
+        let rows = self.rows;
+        let Counts {
+            strands: users,
+            positions,
+            entries: _,
+        } = self.counts;
+        let mut position_rows = [0usize; 128];
+        let position_rows = first_mut(&mut position_rows, positions);
+        rows_of(rows, Group::Position, position_rows);
+        let position_rows = Chosen {
             rows,
-            strand_rows,
-            entries,
-            answer.states,
-            first(&configuration, positions),
+            places: position_rows,
+        };
+        let mut marks = [0u8; 128];
+        position_rows.blocks(first_mut(&mut marks, positions));
+        let strands = self.strands();
+        let mut potentials = [0.0; 64];
+        strands.potentials(&mut potentials);
+        let design = design_of(
+            first(scaffold_glues, positions),
+            first(&marks, positions),
+            first(strand_glues, glue_count(users)),
+            dg,
+            ds,
+            first(&potentials, users.saturating_add(3)),
+            ambient,
+        );
+        let mut configuration = [0u8; 128];
+        let energy = mfe_configuration(&design, first_mut(&mut configuration, positions))?;
+        // A design that the search has answered is refused its count only where it has too many states.
+        let states = number_of_states(&design).ok();
+        let mut glues = [Word::default(); 128];
+        position_rows.shown(&mut glues);
+        let mut strand_names = [Word::default(); 61];
+        strands.shown(&mut strand_names);
+        Ok(Settled {
+            counts: self.counts,
+            glues,
+            strand_names,
             marks,
-            answer.energy.0,
-        ),
+            configuration,
+            energy,
+            states,
+        })
     }
 }

@@ -1,15 +1,10 @@
 // Where a design that was built is unfit to be searched: its ambient, or the potential of a strand.
-use crate::place::{Found, at_row, line_of, nowhere, on_line, row_of};
+use crate::rows::{Sheet, in_row};
+use answers::Found;
 use answers::reasons::Why;
 use reply::{Refusal, Refused};
-use sheet::rows::word_of;
 use statements::grammar::Kind;
 use statements::statement::Row;
-
-// The temperature of `kelvin`.
-pub(crate) fn of_kelvin(text: &[u8], rows: &[Row]) -> Found {
-    on_line(text, line_of(rows, Kind::Kelvin), 2, Why::KelvinRange)
-}
 
 // The word of the ambient's line that holds one of its numbers: RT, then the two excesses.
 fn ambient_word(number: usize) -> usize {
@@ -20,38 +15,44 @@ fn ambient_word(number: usize) -> usize {
     }
 }
 
-// The row of a strand by its number: 0 is none, then the user strands, the quencher, the reporter.
-fn row_of_strand(rows: &[Row], strand_rows: &[usize], strand: usize) -> Option<usize> {
-    if strand == 0 {
-        return None;
+impl Sheet<'_> {
+    // The temperature of `kelvin`.
+    pub(crate) fn of_kelvin(&self) -> Found {
+        self.on_row_of(Kind::Kelvin, 2, Why::KelvinRange)
     }
-    let user = strand - 1;
-    if user < strand_rows.len() {
-        return Some(strand_rows[user]);
-    }
-    if user == strand_rows.len() {
-        return row_of(rows, Kind::Quencher);
-    }
-    row_of(rows, Kind::Reporter)
-}
 
-// Where a design that was built is refused: a number of its ambient, or the potential of a strand.
-pub(crate) fn of_design(
-    refused: Refused,
-    text: &[u8],
-    rows: &[Row],
-    strand_rows: &[usize],
-) -> Found {
-    let place = refused.place.unwrap_or(0);
-    match refused.refusal {
-        Refusal::AmbientOut => {
-            let line = line_of(rows, Kind::Ambient);
-            on_line(text, line, ambient_word(place), Why::AmbientRange)
+    // The row of a strand by its number: 0 is none, then the user strands, the quencher, the reporter.
+    fn row_of_strand(&self, strand: usize) -> Option<&Row> {
+        if strand == 0 {
+            return None;
         }
-        Refusal::PotentialOut => match row_of_strand(rows, strand_rows, place) {
-            Some(row) => at_row(rows, row, word_of(rows, row, 0), Why::PotentialRange),
-            None => nowhere(Why::PotentialRange),
-        },
-        _ => nowhere(Why::Refused),
+        let user = strand - 1;
+        if user < self.strand_rows.len() {
+            return self.rows.get(self.strand_rows[user]);
+        }
+        if user == self.strand_rows.len() {
+            return self.row_of(Kind::Quencher);
+        }
+        self.row_of(Kind::Reporter)
+    }
+
+    // The potential of a strand.
+    fn of_potential(&self, strand: usize) -> Found {
+        match self.row_of_strand(strand) {
+            Some(row) => in_row(row, row.words[0], Why::PotentialRange),
+            None => Found::nowhere(Why::PotentialRange),
+        }
+    }
+
+    // Where a design that was built is refused: a number of its ambient, or the potential of a strand.
+    pub(crate) fn of_design(&self, refused: Refused) -> Found {
+        let place = refused.place.unwrap_or(0);
+        match refused.refusal {
+            Refusal::AmbientOut => {
+                self.on_row_of(Kind::Ambient, ambient_word(place), Why::AmbientRange)
+            }
+            Refusal::PotentialOut => self.of_potential(place),
+            _ => Found::nowhere(Why::Refused),
+        }
     }
 }

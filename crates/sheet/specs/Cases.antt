@@ -63,7 +63,7 @@ pub record Case : Type 0 where
   pub answer : Result Counts SheetFault
 
 infix 68 ◌is◌
--- `rows is answer`, as the cases are written
+-- `entries is answer`, as the cases are written
 abbrev pub ◌is◌ : List Entry → Result Counts SheetFault → Case
 entries is answer = record { entries = entries; answer = answer }
 

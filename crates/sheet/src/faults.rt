@@ -1,11 +1,10 @@
 // What is wrong with a file whose every line can be read.
 ghost use Rattle.std.specs.Prelude.{◌≡◌};
-ghost use Rattle.statements.specs.Words.{spelled};
 ghost use Rattle.sheet.specs.Faults.{limit_of, same_word, has_name, is_name_twice, fault_of, sheet_answer};
 
 use crate::rows::{Group, count_of, first_of};
 use statements::statement::Row;
-use statements::words::Word;
+use statements::words::{Word, bytes};
 
 // What is wrong with a file's rows.
 #[derive(Clone, Copy, PartialEq, Eq)]
@@ -38,15 +37,6 @@ fn limit_of(group: Group) -> usize
         Group::Entry => 1024,
         _ => 1,
     }
-}
-
-// The bytes of a word, as far as they stand in the text.
-#[tactic(auto, unfolding(statements::specs::Words::spelled))]
-fn bytes(text: &[u8], word: Word) -> &[u8]
-    ensures { result.now ≡ spelled text.now word }
-{
-    let rest = text.get(word.start..).unwrap_or(&[]);
-    rest.get(..word.size).unwrap_or(rest)
 }
 
 // Whether two words of the text have the same bytes.

@@ -4,7 +4,7 @@ ghost use Rattle.sheet.specs.Once.{number_once, ambient_of, strand_named, copied
 ghost use Rattle.sheet.specs.declared.rows.Group.TheVariants as group;
 
 use crate::faults::same_word;
-use crate::rows::{Group, first_of, word_of};
+use crate::rows::{Chosen, Group, first_of, word_of};
 use sdc1d_params::Copied;
 use statements::grammar::Kind;
 use statements::statement::Row;
@@ -56,25 +56,24 @@ pub fn junction_penalty(rows: &[Row]) -> Penalty
 }
 
 // The number of the strand with a name, from 1, or 0.
-fn strand_named(text: &[u8], rows: &[Row], chosen: &[usize], name: Word) -> usize
-    ensures { result ≡ strand_named text.now rows.now chosen.now name }
+fn strand_named(text: &[u8], strands: &Chosen, name: Word) -> usize
+    ensures { result ≡ strand_named text.now strands.now.rows.now strands.now.places.now name }
 {
-    for (k, row) in chosen.iter().enumerate() {
-        if same_word(text, name, word_of(rows, *row, 0)) {
+    for (k, row) in strands.places.iter().enumerate() {
+        if same_word(text, name, word_of(strands.rows, *row, 0)) {
             return k + 1;
         }
     }
     0
 }
 
-// Whose glues the quencher or the reporter, by its group, copies; `chosen` are the rows of the strands. A name that no strand has gives strand 0,
-// which `from_params` refuses.
-pub fn copied(text: &[u8], rows: &[Row], chosen: &[usize], group: Group) -> Copied
-    ensures { result ≡ copied_of group text.now rows.now chosen.now }
+// Whose glues the quencher or the reporter, by its group, copies. A name that no strand has gives strand 0, which `from_params` refuses.
+pub fn copied(text: &[u8], strands: &Chosen, group: Group) -> Copied
+    ensures { result ≡ copied_of group text.now strands.now.rows.now strands.now.places.now }
 {
-    match first_of(rows, group) {
+    match first_of(strands.rows, group) {
         Some(row) if row.words[0].size != 0 => {
-            Copied::Strand(strand_named(text, rows, chosen, row.words[0]))
+            Copied::Strand(strand_named(text, strands, row.words[0]))
         }
         _ => Copied::Nothing,
     }

@@ -1,13 +1,11 @@
 // What the calls take of lists of rows. Each lent slice is filled to its end.
 ghost use Rattle.std.specs.Prelude.{◌≡◌, ℕ, length};
 ghost use Rattle.lists.specs.Build.{tabulate};
-ghost use Rattle.sheet.specs.Rows.{word_among};
 ghost use Rattle.sheet.specs.Parts.{is_pair, is_sequence, glue_at, first_at, bases_at, name_number, name_number_at, entry_number_at, energy_at, potential_at, blocked_at};
 
 use crate::once::number_once;
-use crate::rows::{Group, kind_among, number_among, word_among};
+use crate::rows::{Chosen, Group};
 use statements::grammar::Kind;
-use statements::statement::Row;
 use statements::words::Word;
 
 // Whether an entry is for a pair of names.
@@ -45,107 +43,106 @@ fn name_number(word: Word, k: usize) -> usize
     }
 }
 
-// The bases of an entry, which stand after its one or two names.
-fn bases_at(rows: &[Row], chosen: &[usize], m: usize) -> Word
-    ensures { result ≡ bases_at rows.now chosen.now m }
-{
-    if is_pair(kind_among(rows, chosen, m)) {
-        word_among(rows, chosen, m, 2)
-    } else {
-        word_among(rows, chosen, m, 1)
+impl Chosen<'_> {
+    // The bases of an entry, which stand after its one or two names.
+    fn bases_at(&self, m: usize) -> Word
+        ensures { result ≡ bases_at self.now.rows.now self.now.places.now m }
+    {
+        if is_pair(self.kind(m)) {
+            self.word(m, 2)
+        } else {
+            self.word(m, 1)
+        }
     }
-}
 
-// Number k of rows of eight, all that an entry is but its two doubles.
-#[tactic(auto, unfolding(crate::specs::Parts::entry_number_at))]
-fn entry_number(rows: &[Row], chosen: &[usize], k: usize) -> usize
-    ensures { result ≡ entry_number_at rows.now chosen.now k }
-{
-    let m = k / 8;
-    match k % 8 {
-        0 => word_among(rows, chosen, m, 0).start,
-        1 => word_among(rows, chosen, m, 0).size,
-        2 => usize::from(is_pair(kind_among(rows, chosen, m))),
-        3 => word_among(rows, chosen, m, 1).start,
-        4 => word_among(rows, chosen, m, 1).size,
-        5 => usize::from(is_sequence(kind_among(rows, chosen, m))),
-        6 => bases_at(rows, chosen, m).start,
-        _ => bases_at(rows, chosen, m).size,
+    // Number k of rows of eight, all that an entry is but its two doubles.
+    #[tactic(auto, unfolding(crate::specs::Parts::entry_number_at))]
+    fn entry_number(&self, k: usize) -> usize
+        ensures { result ≡ entry_number_at self.now.rows.now self.now.places.now k }
+    {
+        let m = k / 8;
+        match k % 8 {
+            0 => self.word(m, 0).start,
+            1 => self.word(m, 0).size,
+            2 => usize::from(is_pair(self.kind(m))),
+            3 => self.word(m, 1).start,
+            4 => self.word(m, 1).size,
+            5 => usize::from(is_sequence(self.kind(m))),
+            6 => self.bases_at(m).start,
+            _ => self.bases_at(m).size,
+        }
     }
-}
 
-// The potential of strand m: 0.0 of strand 0, then those of the rows, the quencher and the reporter.
-#[tactic(auto, unfolding(crate::specs::Parts::potential_at))]
-fn potential_at(rows: &[Row], chosen: &[usize], m: usize) -> f64
-    ensures { result ≡ potential_at rows.now chosen.now m }
-{
-    if m == 0 {
-        0.0
-    } else if m - 1 < chosen.len() {
-        number_among(rows, chosen, m - 1, 0)
-    } else if m - 1 == chosen.len() {
-        number_once(rows, Group::Quencher, 0)
-    } else {
-        number_once(rows, Group::Reporter, 0)
+    // The potential of strand m: 0.0 of strand 0, then those of the rows, the quencher and the reporter.
+    #[tactic(auto, unfolding(crate::specs::Parts::potential_at))]
+    fn potential_at(&self, m: usize) -> f64
+        ensures { result ≡ potential_at self.now.rows.now self.now.places.now m }
+    {
+        if m == 0 {
+            0.0
+        } else if m - 1 < self.places.len() {
+            self.number(m - 1, 0)
+        } else if m - 1 == self.places.len() {
+            number_once(self.rows, Group::Quencher, 0)
+        } else {
+            number_once(self.rows, Group::Reporter, 0)
+        }
     }
-}
 
-// The potentials of strand 0, the strands of the rows, the quencher and the reporter.
-pub fn potentials(rows: &[Row], chosen: &[usize], out: &mut [f64])
-    ensures { out.new ≡ tabulate (length out.old) (potential_at rows.now chosen.now) }
-{
-    fill(out, |m| potential_at(rows, chosen, m));
-}
+    // The potentials of strand 0, the strands of the rows, the quencher and the reporter.
+    pub fn potentials(&self, out: &mut [f64])
+        ensures { out.new ≡ tabulate (length out.old) (potential_at self.now.rows.now self.now.places.now) }
+    {
+        fill(out, |m| self.potential_at(m));
+    }
 
-// The glue names of the strands, three for each: a row of mark, start and size for each name.
-#[tactic(auto, unfolding(crate::specs::Parts::name_number_at))]
-pub fn strands(rows: &[Row], chosen: &[usize], names: &mut [usize])
-    ensures { names.new ≡ tabulate (length names.old) (name_number_at (glue_at rows.now chosen.now)) }
-{
-    fill(names, |k| {
-        let m = k / 3;
-        name_number(word_among(rows, chosen, m / 3, 1 + m % 3), k)
-    });
-}
+    // The glue names of the strands, three for each: a row of mark, start and size for each name.
+    #[tactic(auto, unfolding(crate::specs::Parts::name_number_at))]
+    pub fn strands(&self, names: &mut [usize])
+        ensures { names.new ≡ tabulate (length names.old) (name_number_at (glue_at self.now.rows.now self.now.places.now)) }
+    {
+        fill(names, |k| {
+            let m = k / 3;
+            name_number(self.word(m / 3, 1 + m % 3), k)
+        });
+    }
 
-// The glue names of the positions, a row of mark, start and size for each.
-#[tactic(auto, unfolding(crate::specs::Parts::name_number_at))]
-pub fn positions(rows: &[Row], chosen: &[usize], names: &mut [usize])
-    ensures { names.new ≡ tabulate (length names.old) (name_number_at (first_at rows.now chosen.now)) }
-{
-    fill(
-        names,
-        |k| name_number(word_among(rows, chosen, k / 3, 0), k),
-    );
-}
+    // The glue names of the positions, a row of mark, start and size for each.
+    #[tactic(auto, unfolding(crate::specs::Parts::name_number_at))]
+    pub fn positions(&self, names: &mut [usize])
+        ensures { names.new ≡ tabulate (length names.old) (name_number_at (first_at self.now.rows.now self.now.places.now)) }
+    {
+        fill(names, |k| name_number(self.word(k / 3, 0), k));
+    }
 
-// The names that are shown, of positions or of strands: the first word of each row.
-pub fn shown(rows: &[Row], chosen: &[usize], names: &mut [Word])
-    ensures { names.new ≡ tabulate (length names.old) (first_at rows.now chosen.now) }
-{
-    fill(names, |m| word_among(rows, chosen, m, 0));
-}
+    // The names that are shown, of positions or of strands: the first word of each row.
+    pub fn shown(&self, names: &mut [Word])
+        ensures { names.new ≡ tabulate (length names.old) (first_at self.now.rows.now self.now.places.now) }
+    {
+        fill(names, |m| self.word(m, 0));
+    }
 
-// A mark for each position: 1 where it is blocked.
-pub fn blocks(rows: &[Row], chosen: &[usize], marks: &mut [u8])
-    ensures { marks.new ≡ tabulate (length marks.old) (blocked_at rows.now chosen.now) }
-{
-    fill(marks, |m| {
-        u8::from(matches!(kind_among(rows, chosen, m), Some(Kind::Blocked)))
-    });
-}
+    // A mark for each position: 1 where it is blocked.
+    pub fn blocks(&self, marks: &mut [u8])
+        ensures { marks.new ≡ tabulate (length marks.old) (blocked_at self.now.rows.now self.now.places.now) }
+    {
+        fill(marks, |m| {
+            u8::from(matches!(self.kind(m), Some(Kind::Blocked)))
+        });
+    }
 
-// The entries, a row of eight for each: start and size of the first name; mark, start and size of the second, which is there where the entry
-// is for a pair; the form, and start and size of the bases.
-pub fn entries(rows: &[Row], chosen: &[usize], out: &mut [usize])
-    ensures { out.new ≡ tabulate (length out.old) (entry_number_at rows.now chosen.now) }
-{
-    fill(out, |k| entry_number(rows, chosen, k));
-}
+    // The entries, a row of eight for each: start and size of the first name; mark, start and size of the second, which is there where the entry
+    // is for a pair; the form, and start and size of the bases.
+    pub fn entries(&self, out: &mut [usize])
+        ensures { out.new ≡ tabulate (length out.old) (entry_number_at self.now.rows.now self.now.places.now) }
+    {
+        fill(out, |k| self.entry_number(k));
+    }
 
-// The energies of the entries, a row of dG and dS for each.
-pub fn energies(rows: &[Row], chosen: &[usize], out: &mut [f64])
-    ensures { out.new ≡ tabulate (length out.old) (energy_at rows.now chosen.now) }
-{
-    fill(out, |k| number_among(rows, chosen, k / 2, k % 2));
+    // The energies of the entries, a row of dG and dS for each.
+    pub fn energies(&self, out: &mut [f64])
+        ensures { out.new ≡ tabulate (length out.old) (energy_at self.now.rows.now self.now.places.now) }
+    {
+        fill(out, |k| self.number(k / 2, k % 2));
+    }
 }

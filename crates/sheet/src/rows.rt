@@ -75,32 +75,42 @@ pub fn word_of(rows: &[Row], row: usize, j: usize) -> Word
         .unwrap_or_default()
 }
 
-// Row k of a list of rows.
-fn row_among<'a>(rows: &'a [Row], chosen: &[usize], k: usize) -> Option<&'a Row>
-    ensures { option_copied result ≡ row_among rows.now chosen.now k }
-{
-    rows.get(*chosen.get(k)?)
+// Rows of one group, by their places among all rows.
+#[derive(Clone, Copy)]
+pub struct Chosen<'a> {
+    pub rows: &'a [Row],
+    pub places: &'a [usize],
 }
 
-// Its word j; a size of 0 where there is none.
-pub(crate) fn word_among(rows: &[Row], chosen: &[usize], k: usize, j: usize) -> Word
-    requires { j < 4 }
-    ensures { result ≡ word_among rows.now chosen.now k j }
-{
-    row_among(rows, chosen, k).map_or(Word { start: 0, size: 0 }, |row| row.words[j])
-}
+impl Chosen<'_> {
+    // Row k of these.
+    fn row(&self, k: usize) -> Option<&Row>
+        ensures { option_copied result ≡ row_among self.now.rows.now self.now.places.now k }
+    {
+        self.rows.get(*self.places.get(k)?)
+    }
 
-// Its number j; 0.0 where there is none.
-pub(crate) fn number_among(rows: &[Row], chosen: &[usize], k: usize, j: usize) -> f64
-    requires { j < 3 }
-    ensures { result ≡ number_among rows.now chosen.now k j }
-{
-    row_among(rows, chosen, k).map_or(0.0, |row| row.numbers[j])
-}
+    // Its word j; a size of 0 where there is none.
+    pub(crate) fn word(&self, k: usize, j: usize) -> Word
+        requires { j < 4 }
+        ensures { result ≡ word_among self.now.rows.now self.now.places.now k j }
+    {
+        self.row(k)
+            .map_or(Word { start: 0, size: 0 }, |row| row.words[j])
+    }
 
-// Its kind.
-pub(crate) fn kind_among(rows: &[Row], chosen: &[usize], k: usize) -> Option<Kind>
-    ensures { result ≡ kind_among rows.now chosen.now k }
-{
-    row_among(rows, chosen, k).map(|row| row.kind)
+    // Its number j; 0.0 where there is none.
+    pub(crate) fn number(&self, k: usize, j: usize) -> f64
+        requires { j < 3 }
+        ensures { result ≡ number_among self.now.rows.now self.now.places.now k j }
+    {
+        self.row(k).map_or(0.0, |row| row.numbers[j])
+    }
+
+    // Its kind.
+    pub(crate) fn kind(&self, k: usize) -> Option<Kind>
+        ensures { result ≡ kind_among self.now.rows.now self.now.places.now k }
+    {
+        self.row(k).map(|row| row.kind)
+    }
 }

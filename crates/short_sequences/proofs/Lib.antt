@@ -2,4 +2,3 @@ pub mod Order
 pub mod Lengths
 pub mod Listed
 pub mod Cases
-pub mod Told

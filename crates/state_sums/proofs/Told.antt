@@ -1,7 +1,7 @@
 -- The answers of the sums, from the reply of the design's checks on; and that the figures answered are document 02's sums. Assumes nothing.
 use mathlib.Core.Path.{◌≡◌, refl, sym, ap, subst, ◌∙◌}
 use mathlib.Core.Bool.{Bool, true, false, cond, ◌||◌}
-use mathlib.Core.List.{List, [], ◌∷◌}
+use mathlib.Core.List.{List, []}
 use Prim.Native.Nat.{ℕ, zero, suc, ◌≤◌, ◌<◌}
 use native.Mathlib.Decide.{dec_le}
 use native.Mathlib.Nat.{lt_of_not-le, not-suc-le-zero}
@@ -11,11 +11,10 @@ use borrow.Author.Tests.{eqb-false}
 use Rattle.lists.specs.Build.{tabulate}
 use Rattle.lists.proofs.Build.{length-tabulate, get_or-tabulate}
 use Rattle.lists.proofs.Tests.{neither}
-use Rattle.reply.specs.First.{Check, first_of, ◌if◌, ◌or_else◌, bare, nowhere, refused_if}
-use Rattle.reply.specs.Figures.{Figures, given, figures_of}
+use Rattle.reply.specs.First.{Check, first_of, ◌or_else◌, bare, refused_if}
+use Rattle.reply.specs.Figures.{figures_of}
 use Rattle.reply.specs.declared.Refusal.{Refusal}
 use Rattle.reply.specs.declared.Refused.{Refused}
-use Rattle.reply.specs.declared.Refusal.TheVariants.{WeightOut}
 use Rattle.reply.proofs.First.{none-holds, reply-append}
 use Rattle.reply.proofs.Figures.{refused-by, number-admitted}
 use Rattle.fractions.specs.declared.Weight.{Weight}
@@ -26,10 +25,10 @@ use Rattle.design.specs.Checks.{Admitted, TablesPass, sizes_out, design_checks}
 use Rattle.design.proofs.Sizes.{sized}
 use Rattle.design.proofs.Cells.{null-nowhere}
 use Rattle.design.proofs.Optioned.{friends-few}
-use Rattle.design.proofs.Replies.{passed, bare-false, tables-of}
-use Rattle.partition.specs.Sum.{zero_weight}
+use Rattle.design.proofs.Replies.{passed, tables-of}
+use Rattle.partition.specs.Sum.{zero_weight, FreeSum, ConstrainedSum}
 use Rattle.partition.specs.Constraint.{list_at, lists_of}
-use Rattle.partition.specs.Weights.{Weights, weights_out}
+use Rattle.partition.specs.Weights.{Weights, place_worth, pair_worth, weights_out}
 use Rattle.partition.specs.Summed.{free_figure, constrained_figure}
 use Rattle.partition.specs.Laws.{Sums}
 use Rattle.partition.specs.inner.Used.{InUse}
@@ -39,8 +38,7 @@ use Rattle.partition_sums.proofs.Options.{friends-in, options-in}
 use Rattle.state_sums.specs.Sizes.{Lists, wrong_cells, wrong_lists}
 use Rattle.state_sums.specs.Answers.{own_sum_checks, free_checks, constrained_checks, constraint_of, free_answer, constrained_answer, sum_figures, FreeShown, ConstrainedShown}
 use Rattle.state_sums.proofs.Lent.{lists-listed}
-use Rattle.state_sums.specs.inner.Weighed.{weighed_free, weighed_constrained}
-use Rattle.std.specs.Prelude.{None, Result, Ok, Err, IsErrAnd}
+use Rattle.std.specs.Prelude.{None, Result, Ok, Err, IsErrAnd, IfErr}
 use Rattle.std.proofs.lemmas.Result.{err_from_is_err_and}
 use Rattle.reply.specs.Number.{Reply}
 
@@ -75,31 +73,21 @@ module _ (d : Design) (w : Weights) (size : Bool) (figure : Weight) {a : Bool} {
 
 -- ---- the check of the weights, over the options that are lent
 
-bare-true : (holds : Bool) {x y : Refusal} → ◌≡◌ {A = Result Unit Refusal} (Err y) (bare (refused_if holds x None (Ok tt))) → (holds ≡ true) × (y ≡ x)
-bare-true true told = (refl, cc)
-bare-true false told = cc
+pub bare-true : (holds : Bool) (x : Refusal) {y : Refusal} → ◌≡◌ {A = Result Unit Refusal} (Err y) (bare (refused_if holds x None (Ok tt))) → holds ≡ true
+bare-true true x told = refl
+bare-true false x told = cc
 
-module _ (d : Design) (w : Weights) (figure : Weight) {rows counts : List ℕ} {out : Bool} (options : OptionRows (model_of d) rows counts) (looked : out ≡ weights_out (friends_in rows counts) w) where
-  weights-told : out ≡ weights_out (model_of d).friends w
+-- what holds is what a refusal says, too
+pub if-err : {A : Type 0} {P : Type 0} (r : Result A Refused) → P → IfErr r (λ _. P)
+if-err (Ok x) p = tt
+if-err (Err e) p = p
+
+module _ (d : Design) (w : Weights) {rows counts : List ℕ} {out : Bool} (options : OptionRows (model_of d) rows counts) (looked : out ≡ weights_out (friends_in rows counts) w) where
+  pub weights-told : out ≡ weights_out (model_of d).friends w
   weights-told = looked ∙ ap (λ (friends : List (List ℕ)). weights_out friends w) (friends-in options)
 
-  -- a refusal of it is the answer
-  pub weighed-refused : {x : Refusal} → ◌≡◌ {A = Result Unit Refusal} (Err x) (bare (refused_if out WeightOut None (Ok tt))) → (told : Result Weight Refused) → IsErrAnd told (λ (e : Refused). e ≡ nowhere x)
-      → sum_figures told ≡ figures_of (first_of (WeightOut if weights_out (model_of d).friends w ∷ [])) zero_weight figure
-  weighed-refused e told h =
-      let b = bare-true out e in
-      let p = err_from_is_err_and told h in
-      rw (p.1, p.2, b.1, sym weights-told ∙ b.0) refl
-
-  module _ (e : ◌≡◌ {A = Result Unit Refusal} (Ok tt) (bare (refused_if out WeightOut None (Ok tt)))) where
-    none-out : weights_out (model_of d).friends w ≡ false
-    none-out = sym weights-told ∙ bare-false out WeightOut e
-
-    pub weighed-used : InUse w 0 (options_in rows counts)
-    weighed-used = subst (InUse w 0) (sym (options-in options)) (in_use w (model_of d).friends none-out)
-
-    pub weighed-given : {sum : Weight} → sum ≡ figure → given sum ≡ figures_of (first_of (WeightOut if weights_out (model_of d).friends w ∷ [])) zero_weight figure
-    weighed-given f = rw none-out (ap given f)
+  pub weights-used : out ≡ false → InUse w 0 (options_in rows counts)
+  weights-used e = subst (InUse w 0) (sym (options-in options)) (in_use w (model_of d).friends (sym weights-told ∙ e))
 
 -- ---- the figure
 
@@ -139,7 +127,7 @@ sums-right d w a some none =
     let n = model-positions d in
     sums-of-models (model_of d) w (rw n some) (rw n (sized d a.sizes).short) (few-friends d (tables-of d a)) none
 
-length-lists : (l : Lists) → length (constraint_of l) ≡ length l.starts
+pub length-lists : (l : Lists) → length (constraint_of l) ≡ length l.starts
 unfolding lists_of
 length-lists l = length-tabulate (length l.starts) (list_at l.numbers l.starts l.lengths)
 
@@ -169,13 +157,10 @@ constrained-shown d w l =
     constrained-given d w (first_of (constrained_checks d w l)) (passed-sums d w size) l
     (λ e. lists-listed (positions d) l (neither (wrong_cells (positions d) w) (wrong_lists (positions d) l) (passed size d [] (own_sum_checks d w) e).size).1)
 
--- what is left to answer of an admitted design of one position or more
-module _ (d : Design) (w : Weights) (a : Admitted d) (some : 0 < positions d) where
-  weighed-sums : first_of (WeightOut if weights_out (model_of d).friends w ∷ []) ≡ Ok tt → Sums (model_of d) w
-  weighed-sums e = sums-right d w a some (none-holds (WeightOut if weights_out (model_of d).friends w ∷ []) e).0
+-- the same of figures that are worked out where no check holds
+module _ (d : Design) (w : Weights) (a : Admitted d) (some : 0 < positions d) (none : weights_out (model_of d).friends w ≡ false) {figure : Weight} where
+  pub free-told : figure ≡ free_figure (model_of d) w → FreeSum (place_worth w) (pair_worth w) (model_of d) figure
+  free-told e = rw e (sums-right d w a some none).free
 
-  pub free-weighed : {f : Figures Weight} → f ≡ weighed_free d w → FreeShown d w f
-  free-weighed e = subst (FreeShown d w) (sym e) (free-given d w (first_of (WeightOut if weights_out (model_of d).friends w ∷ [])) weighed-sums)
-
-  pub constrained-weighed : (l : Lists) {f : Figures Weight} → Listed (positions d) l.numbers l.starts l.lengths → f ≡ weighed_constrained d w l → ConstrainedShown d w l f
-  constrained-weighed l listed e = subst (ConstrainedShown d w l) (sym e) (constrained-given d w (first_of (WeightOut if weights_out (model_of d).friends w ∷ [])) weighed-sums l (λ _. listed))
+  pub constrained-told : (l : Lists) → Listed (positions d) l.numbers l.starts l.lengths → figure ≡ constrained_figure (model_of d) w (constraint_of l) → ConstrainedSum (place_worth w) (pair_worth w) (model_of d) (constraint_of l) figure
+  constrained-told l listed e = rw e ((sums-right d w a some none).constrained (constraint_of l) (length-lists l ∙ listed.starting ∙ sym (model-positions d)))

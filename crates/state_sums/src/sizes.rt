@@ -1,22 +1,23 @@
 // Whether what is lent beside a design has the design's sizes.
-ghost use Rattle.std.specs.Prelude.{◌≡◌, ◌≤◌};
-ghost use Rattle.partition_sums.specs.Layout.{lent_weights};
+ghost use Rattle.std.specs.Prelude.{◌≡◌, ◌||◌, ◌≤◌, false};
+ghost use Rattle.partition_sums.specs.Layout.{weights_of, Listed};
 ghost use Rattle.state_sums.specs.Sizes.{wrong_cells, lent_lists, list_outside, wrong_lists};
 
+use partition_sums::weights::Weights;
 use reply::limits::{POSITIONS, STRANDS};
 
 // Whether there is not just one weight for each position and strand, and for each left and right strand. Where a design has more positions or strands
 // than a design can have, its own sizes decide, and no product is formed.
-pub(crate) fn wrong_cells(
-    positions: usize,
-    strands: usize,
-    place_digits: &[u32],
-    place_powers: &[i32],
-    pair_digits: &[u32],
-    pair_powers: &[i32],
-) -> bool
-    ensures { positions ≤ 128 → strands ≤ 64 → result ≡ wrong_cells positions (lent_weights strands place_digits.entry place_powers.entry pair_digits.entry pair_powers.entry) }
+pub(crate) fn wrong_cells(positions: usize, weights: &Weights<'_>) -> bool
+    ensures { positions ≤ 128 → weights.now.strands ≤ 64 → result ≡ wrong_cells positions (weights_of weights.now) }
 {
+    let Weights {
+        place_digits,
+        place_powers,
+        pair_digits,
+        pair_powers,
+        strands,
+    } = *weights;
     POSITIONS < positions
         || STRANDS < strands
         || place_digits.len() != positions * strands
@@ -45,4 +46,18 @@ pub(crate) fn wrong_lists(
     starts.len() != positions
         || lengths.len() != positions
         || (0..positions).any(|i| list_outside(numbers.len(), starts[i], lengths[i]))
+}
+
+// Whether weights or lists do not have a design's sizes.
+pub(crate) fn wrong_sizes(
+    positions: usize,
+    weights: &Weights<'_>,
+    numbers: &[u8],
+    starts: &[usize],
+    lengths: &[usize],
+) -> bool
+    ensures value { positions ≤ 128 → weights.now.strands ≤ 64 → result ≡ (wrong_cells positions (weights_of weights.now) || wrong_lists positions (lent_lists numbers.entry starts.entry lengths.entry)) }
+    ensures listed { result ≡ false → Listed positions numbers.now starts.now lengths.now }
+{
+    wrong_cells(positions, weights) || wrong_lists(positions, numbers, starts, lengths)
 }

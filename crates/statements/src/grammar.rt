@@ -26,7 +26,8 @@ pub enum Kind {
     Blocked,
 }
 
-// The words that begin a statement. `energy` and `pair` are of the kind with numbers, until `seq` is met.
+// The words that begin a statement. `energy` and `pair` are of the kind with numbers, until `seq` is met. A table: of a `match` on ten byte strings
+// the proof does not close.
 const KEYWORDS: [(&[u8], Kind); 10] = [
     (b"kelvin", Kind::Kelvin),
     (b"ambient", Kind::Ambient),

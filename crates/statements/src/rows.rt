@@ -10,7 +10,7 @@ use crate::grammar::Kind;
 use crate::statement::{Fault, Row, Statement, glue_of, statement_of};
 use crate::words::{bytes, line_end, next_word};
 
-// How many words stand from a place on.
+// How many words stand from a place on. Where one begins is known only where the one before it ends, so a `while` asks for each.
 fn count_words(line: &[u8], at: usize) -> usize
     ensures { result ≡ length (words_in line.now at) }
 {
@@ -59,7 +59,7 @@ pub(crate) fn check(text: &[u8], room: usize) -> Result<usize, ReadFault>
     Ok(count)
 }
 
-// The positions of a line, of this kind, from row i on, and the row after them.
+// The positions of a line, of this kind, from row i on, and the row after them: word by word, as `count_words` counts.
 fn lay_positions(
     kind: Kind,
     line: &[u8],

@@ -45,7 +45,8 @@ pub struct Fault {
     pub reason: Reason,
 }
 
-// A row. A word that is absent, or that the kind does not have, has the size 0; a number that the kind does not have is 0.0.
+// A row. A word that is absent, or that the kind does not have, has the size 0; a number that the kind does not have is 0.0. No Options: `sheet`
+// hands words on as rows of plain numbers, a mark, a start and a size, and the start of a `-` with them.
 #[derive(Clone, Copy)]
 pub struct Row {
     pub kind: Kind,
@@ -152,7 +153,7 @@ impl Row {
     }
 }
 
-// The row of the words after the keyword.
+// The row of the words after the keyword: word by word, each from where the one before it ends. What a word has to be hangs on those before it.
 fn fit(line: &[u8], key: Word, kind: Kind, number: usize) -> Result<Row, Fault>
     requires { Inside line.now key }
     ensures { result ≡ fit line.now key 0 (blank kind number) (words_in line.now (key.start + key.size)) }

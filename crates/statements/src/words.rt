@@ -1,7 +1,7 @@
 // Lines and words of a text. A line is handed on as the text up to its end, so that places count from the text's first byte.
 ghost use Rattle.std.specs.Prelude.{◌≡◌, ◌∷◌, [], ◌+◌, ◌-◌, ◌^◌, ◌≤◌, ◌<◌, length, drop, MatchOption};
 ghost use Rattle.std.proofs.Math.Option.{some};
-ghost use Rattle.statements.specs.Words.{is_blank, scan, words_in, Inside, IsNext, IsNextByte, spelled, line_of, lines_from};
+ghost use Rattle.statements.specs.Words.{is_blank, scan, words_in, IsNext, IsNextByte, spelled, line_of, lines_from};
 
 // A word by its place in the text. In a row a size of 0 stands for no word.
 #[derive(Clone, Copy, PartialEq, Eq, Default)]
@@ -77,10 +77,11 @@ pub(crate) fn next_word(line: &[u8], at: usize) -> Option<Word>
     Some(Word { start, size })
 }
 
-// The bytes of a word.
-pub(crate) fn bytes(line: &[u8], word: Word) -> &[u8]
-    requires { Inside line.now word }
-    ensures { result.now ≡ spelled line.now word }
+// The bytes of a word, as far as they stand in the text.
+#[tactic(auto, unfolding(crate::specs::Words::spelled))]
+pub fn bytes(text: &[u8], word: Word) -> &[u8]
+    ensures { result.now ≡ spelled text.now word }
 {
-    &line[word.start..word.end()]
+    let rest = text.get(word.start..).unwrap_or(&[]);
+    rest.get(..word.size).unwrap_or(rest)
 }

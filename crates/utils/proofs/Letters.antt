@@ -1,27 +1,18 @@
 -- A function of a byte at a letter, in one of its two cases, and at no letter; the letters of the bases, and the bits that tell them. Assumes nothing.
-use mathlib.Core.Path.{◌≡◌, refl, subst, sym, ap, ◌∙◌}
-use mathlib.Core.Logic.{◌⊎◌, inl, inr}
+use mathlib.Core.Path.{◌≡◌, refl, subst, sym, ap}
 use mathlib.Core.Bool.{Bool, true, false, cond, ◌||◌}
 use mathlib.Core.List.{List, [], ◌∷◌}
 use Prim.Native.Nat.{ℕ, zero, suc, ◌<◌, ◌/◌, ◌^◌}
 use lib.Bits.{bit_and}
 use lib.Dec.{eqb, lit<}
 use lib.ListN.{length, get_or, drop, take}
-use borrow.Author.Tests.{eqb-true, ne_eqb, not-false}
+use borrow.Author.Tests.{eqb-true, not-false}
 use Rattle.std.specs.List.{list_any, push}
 use Rattle.lists.specs.Find.{any}
 use Rattle.lists.proofs.Any.{none_passes}
 use Rattle.lists.proofs.Tests.{neither}
 use Rattle.utils.specs.Bases.{Base, is_letter, is_base, not_a_base, base_of, index_of}
 use Rattle.utils.specs.declared.bases.DnaNucleotideBase.TheVariants.{A, T, G, C}
-
--- what f is at both cases of a letter, it is at a byte that is one of them
-pub at-letter : {A : Type 0} (f : ℕ → A) (v : A) {b upper lower : ℕ} → f upper ≡ v → f lower ≡ v → (b ≡ upper) ⊎ (b ≡ lower) → v ≡ f b
-at-letter f v p q (inl e) = sym (ap f e ∙ p)
-at-letter f v p q (inr e) = sym (ap f e ∙ q)
-
-pub no-letter : (lower upper b : ℕ) → ((b ≡ upper) ⊎ (b ≡ lower) → ⊥) → is_letter lower upper b ≡ false
-no-letter lower upper b none = simp (ne_eqb b lower (λ e. none (inr e)), ne_eqb b upper (λ e. none (inl e)))
 
 -- the library's test of a list and that of the definitions are one
 pub some_any : {X : Type 0} (p : X → Bool) (xs : List X) → list_any p xs ≡ any p xs
@@ -85,9 +76,6 @@ module _ (P : ℕ → Type 0) (b : ℕ) where
 pub number-told : (b : ℕ) → is_base b ≡ true → bit_and (156 / 2 ^ bit_and b 6) 3 ≡ index_of (base_of b)
 unfolding base_of
 number-told b = each-letter (λ x. bit_and (156 / 2 ^ bit_and x 6) 3 ≡ index_of (base_of x)) b refl refl refl refl refl refl refl refl
-
-pub shift-under : (b : ℕ) → is_base b ≡ true → bit_and b 6 < 8
-shift-under b = each-letter (λ x. bit_and x 6 < 8) b (lit< tt) (lit< tt) (lit< tt) (lit< tt) (lit< tt) (lit< tt) (lit< tt) (lit< tt)
 
 pub number-under : (a : Base) → index_of a < 4
 number-under A = lit< tt

@@ -10,7 +10,6 @@ pub mod Windows
 pub mod Strands
 pub mod Published
 pub mod Replies
-pub mod SameSums
 pub mod ThirtySeconds
 pub mod Small
 pub mod LoopEnergy

@@ -6,7 +6,6 @@ use native.Mathlib.Nat.{le_of_suc-le-suc, not-suc-le-zero}
 use native.Mathlib.Omega.{arith}
 use lib.Ieee.{Float, binary64, add}
 use lib.ListN.{length, get_or, drop, take, length-map, get_or-map}
-use lib.Seq.{drop-cons}
 use Rattle.doubles.specs.Sum.{sum_from}
 use Rattle.utils.specs.Bases.{Base, base_of, bases}
 use Rattle.utils.specs.Single.{neighbours, at_neighbours}
@@ -19,12 +18,6 @@ base-at s i = get_or-map base_of s i 0
 pub bases-length : (s : List ℕ) → length (bases s) ≡ length s
 unfolding bases
 bases-length s = length-map s base_of
-
--- what is left of the bases from place i on
-pub bases-cons : (s : List ℕ) (i : ℕ) → i < length s → drop i (bases s) ≡ base_of (get_or s i 0) ∷ drop (suc i) (bases s)
-bases-cons s i h =
-    let k : i < length (bases s) = rw (bases-length s) h in
-    drop-cons (bases s) i (base_of 0) k ∙ ap (λ (b : Base). b ∷ drop (suc i) (bases s)) (base-at s i)
 
 -- a pair of neighbours is the first two places of what is left
 pub first-two : (rest pair : List ℕ) (size : ℕ) → size ≡ 2 → size ≤ length rest → pair ≡ take size rest

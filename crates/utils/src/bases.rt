@@ -1,13 +1,13 @@
 // Bases and the letters that stand for them.
-ghost use Rattle.std.specs.Prelude.{◌≡◌, true, false, ◌<◌, ◌≤◌, length};
-ghost use Rattle.std.specs.List.{list_any};
-ghost use Rattle.lists.specs.Find.{any};
-ghost use Rattle.utils.specs.Bases.{is_base, not_a_base, base_of, complement, complementary, index_of};
+ghost use Rattle.std.specs.Prelude.{◌≡◌, true, ◌<◌, ◌≤◌, length};
+ghost use Rattle.utils.specs.Bases.{is_base, base_of, complementary, index_of};
 ghost use Rattle.utils.specs.Pair.{good};
 ghost use Rattle.utils.specs.inner.Code.{window_of, window_at};
 
+use crate::dna::Dna;
+
 // The bases in the Rust's order, in which its tables stand.
-#[derive(Clone, Copy, PartialEq, Eq)]
+#[derive(Clone, Copy)]
 pub(crate) enum DnaNucleotideBase {
     A,
     T,
@@ -16,18 +16,6 @@ pub(crate) enum DnaNucleotideBase {
 }
 
 impl DnaNucleotideBase {
-    // The base that pairs with this one.
-    pub(crate) fn connects_to(self) -> DnaNucleotideBase
-        ensures { result ≡ complement self }
-    {
-        match self {
-            DnaNucleotideBase::A => DnaNucleotideBase::T,
-            DnaNucleotideBase::T => DnaNucleotideBase::A,
-            DnaNucleotideBase::G => DnaNucleotideBase::C,
-            DnaNucleotideBase::C => DnaNucleotideBase::G,
-        }
-    }
-
     // The number of the base, by which the tables are indexed.
     pub(crate) fn index(self) -> usize
         ensures { (result ≡ index_of self) × (result < 4) }
@@ -37,7 +25,8 @@ impl DnaNucleotideBase {
 }
 
 // The number of a letter's base. The letter's second and third bit tell A, C, T and G apart in either case, and the byte here has their
-// numbers from its lowest bits up. Branches on the letter would be mispredicted, and cost more than the sums.
+// numbers from its lowest bits up. Branches on the letter would be mispredicted, and cost more than the sums. That it is a base stays a
+// `requires`: a `Dna` is read letter by letter, and letters that are bases by type would be a copy of it.
 pub(crate) fn base_index(letter: u8) -> usize
     requires { is_base letter ≡ true }
     ensures { (result ≡ index_of (base_of letter)) × (result < 4) }
@@ -45,8 +34,7 @@ pub(crate) fn base_index(letter: u8) -> usize
     ((0b10_01_11_00u8 >> (letter & 6)) & 3) as usize
 }
 
-// The base of a letter; `any_not_a_base` comes before, so that no other byte is asked for its base. A `TryFrom` would test each letter again in
-// the loops.
+// The base of a letter, which was looked at where its sequence was read. A `TryFrom` would test each letter again in the loops.
 pub(crate) fn base(letter: u8) -> DnaNucleotideBase
     requires { is_base letter ≡ true }
     ensures { result ≡ base_of letter }
@@ -61,7 +49,7 @@ pub(crate) fn base(letter: u8) -> DnaNucleotideBase
 
 // Whether a byte is a, c, g or t in either case.
 #[tactic(auto, unfolding(crate::specs::Bases::is_base))]
-fn is_base(letter: u8) -> bool
+pub(crate) fn is_base(letter: u8) -> bool
     ensures { result ≡ is_base letter }
 {
     matches!(
@@ -70,18 +58,11 @@ fn is_base(letter: u8) -> bool
     )
 }
 
-// Whether two bases pair.
+// Whether two bases pair: the numbers of two that do differ in the lowest bit alone. Looking the partner up would take longer than a window's sums.
 pub(crate) fn good_match(a: DnaNucleotideBase, b: DnaNucleotideBase) -> bool
     ensures { result ≡ complementary a b }
 {
-    a.connects_to() == b
-}
-
-// Whether some byte is no base.
-pub(crate) fn any_not_a_base(dna: &[u8]) -> bool
-    ensures { result ≡ list_any not_a_base dna.now }
-{
-    dna.iter().any(|letter| !is_base(*letter))
+    a.index() ^ b.index() == 1
 }
 
 // Two neighbouring places: a1 a2 of one strand over b1 b2 of the other.
@@ -95,16 +76,15 @@ pub(crate) struct Window {
 
 impl Window {
     // The window at the front of two strands.
-    pub(crate) fn at(upper: &[u8], lower: &[u8]) -> Window
-        requires has_two { (2 ≤ length upper.now) × (2 ≤ length lower.now) }
-        requires letters { (any not_a_base upper.now ≡ false) × (any not_a_base lower.now ≡ false) }
-        ensures { window_of result ≡ window_at upper.now lower.now }
+    pub(crate) fn at(upper: Dna, lower: Dna) -> Window
+        requires { (2 ≤ length upper.letters.now) × (2 ≤ length lower.letters.now) }
+        ensures { window_of result ≡ window_at upper.entry.letters.now lower.entry.letters.now }
     {
         Window {
-            a1: base(upper[0]),
-            a2: base(upper[1]),
-            b1: base(lower[0]),
-            b2: base(lower[1]),
+            a1: upper.base(0),
+            a2: upper.base(1),
+            b1: lower.base(0),
+            b2: lower.base(1),
         }
     }
 

@@ -2,27 +2,27 @@
 #![tactic(auto)]
 
 mod bases;
+mod dna;
 mod tables;
 
-ghost use Rattle.std.specs.Prelude.{◌≡◌, true, false, ◌<◌, ◌≤◌, length};
+ghost use Rattle.std.specs.Prelude.{◌≡◌, ◌<◌, ◌≤◌, length};
 ghost use Rattle.std.specs.Float.Ieee as Ieee;
 ghost use Rattle.std.specs.Float.{binary64};
-ghost use Rattle.lists.specs.Find.{any};
-ghost use Rattle.reply.specs.First.{bare, first_of};
-ghost use Rattle.utils.specs.Bases.{is_base, base_of, not_a_base, bases};
+ghost use Rattle.utils.specs.Bases.{bases};
 ghost use Rattle.utils.specs.Figures.{stack_dg, stack_ds, end_dg, end_ds, symmetric_dg, symmetric_ds, admitted_length, loop_energy};
 ghost use Rattle.utils.specs.Answers.{dg_figures, dg_ds_figures};
 ghost use Rattle.utils.specs.Loops.{loop_penalty};
 ghost use Rattle.doubles.specs.Sum.{sum_from};
-ghost use Rattle.utils.specs.Single.{stack_sum, sequence_checks, string_dna_dg_ds};
+ghost use Rattle.utils.specs.Single.{stack_sum, string_dna_dg_ds};
 ghost use Rattle.utils.specs.Terms.{self_complementary, end_term, symmetry_term, published_dg, published_ds, published_dna_dg_ds};
-ghost use Rattle.utils.specs.Pair.{good, after_bad, strand_checks, sequence_pair_dg_ds};
+ghost use Rattle.utils.specs.Pair.{after_bad, sequence_pair_dg_ds};
 ghost use Rattle.utils.specs.inner.Tables.{by_three, hundredths};
-ghost use Rattle.utils.specs.inner.Code.{window_of, sums_of, AfterGood, PairSummed};
+ghost use Rattle.utils.specs.inner.Code.{window_of, sums_of, AdmittedAs, BothAdmittedAs, AfterGood, PairSummed};
 ghost use Rattle.utils.specs.declared.tables.LoopKind.TheVariants.{Internal};
 ghost use Rattle.utils.specs.Strength.{strength_at, excess_in_range, sequence_strength, pair_strength};
 
-use bases::{Window, any_not_a_base, base, base_index, good_match};
+use bases::{DnaNucleotideBase, Window, base, base_index, good_match};
+use dna::{Dna, Strands};
 use reply::{Refusal, refused_if};
 use std::ops::Add;
 use tables::{
@@ -110,92 +110,90 @@ pub fn loop_penalty(length: usize, kind: u32) -> Result<KcalPerMol, Refusal>
     Ok(loop_energy(kind, length))
 }
 
-// Whether a single sequence is admitted.
-#[tactic(auto, using(crate::proofs::Letters::some_any))]
-fn sequence_reply(dna: &[u8]) -> Result<(), Refusal>
-    ensures { result ≡ bare (first_of (sequence_checks dna.now)) }
+// A single sequence, if it is admitted.
+fn admitted(letters: &[u8]) -> Result<Dna, Refusal>
+    ensures { AdmittedAs letters.now result }
 {
-    refused_if(Refusal::WrongSize, LONGEST < dna.len())?;
-    refused_if(Refusal::NotABase, any_not_a_base(dna))?;
-    refused_if(Refusal::TooShort, dna.len() < 2)
-}
-
-// The stacks of a sequence with its perfect partner, without the initiation.
-fn single_sequence_dg_ds(dna: &[u8]) -> DgDs
-    requires { any not_a_base dna.now ≡ false }
-    ensures { (result.dg.0 ≡ stack_sum stack_dg (bases dna.now)) × (result.ds.0 ≡ stack_sum stack_ds (bases dna.now)) }
-{
-    let stacks = STACKS;
-    let mut sums = NOTHING;
-    for pair in dna.windows(2) {
-        let first = base_index(pair[0]);
-        let second = base_index(pair[1]);
-        sums = sums + stacks.at(first, second);
-    }
-    sums
+    refused_if(Refusal::WrongSize, LONGEST < letters.len())?;
+    let dna = Dna::of(letters)?;
+    refused_if(Refusal::TooShort, letters.len() < 2)?;
+    Ok(dna)
 }
 
 // dG and dS of a sequence on its perfect partner, the initiation included.
 pub fn string_dna_dg_ds(dna: &[u8]) -> Result<DgDs, Refusal>
     ensures { dg_ds_figures result ≡ string_dna_dg_ds dna.now }
 {
-    sequence_reply(dna)?;
-    Ok(single_sequence_dg_ds(dna) + INITIATION)
+    let dna = admitted(dna)?;
+    Ok(dna.single_sequence_dg_ds() + INITIATION)
 }
 
 // The sums after an end: its terms, if its pair is A.T. A and T have the lowest two numbers.
-fn after_end(sums: DgDs, letter: u8) -> DgDs
-    requires { is_base letter ≡ true }
-    ensures { (result.dg.0 ≡ sum_from sums.dg.0 (end_term end_dg (base_of letter))) × (result.ds.0 ≡ sum_from sums.ds.0 (end_term end_ds (base_of letter))) }
+fn after_end(sums: DgDs, end: DnaNucleotideBase) -> DgDs
+    ensures { (result.dg.0 ≡ sum_from sums.dg.0 (end_term end_dg end)) × (result.ds.0 ≡ sum_from sums.ds.0 (end_term end_ds end)) }
 {
-    if base_index(letter) < 2 {
+    if end.index() < 2 {
         return sums + TERMINAL;
     }
     sums
 }
 
-// Whether a sequence is its own reverse complement: each base pairs with the one as far from the other end.
-fn self_complementary(dna: &[u8]) -> bool
-    requires { any not_a_base dna.now ≡ false }
-    ensures { result ≡ self_complementary (bases dna.now) }
-{
-    for (last, first) in dna.iter().rev().zip(dna) {
-        if !good_match(base(*last), base(*first)) {
-            return false;
+impl Dna<'_> {
+    // The stacks of a sequence with its perfect partner, without the initiation.
+    fn single_sequence_dg_ds(&self) -> DgDs
+        ensures { (result.dg.0 ≡ stack_sum stack_dg (bases self.now.letters.now)) × (result.ds.0 ≡ stack_sum stack_ds (bases self.now.letters.now)) }
+    {
+        let stacks = STACKS;
+        let mut sums = NOTHING;
+        for pair in self.letters.windows(2) {
+            let first = base_index(pair[0]);
+            let second = base_index(pair[1]);
+            sums = sums + stacks.at(first, second);
         }
+        sums
     }
-    true
-}
 
-// The sums after the symmetry: its terms, if the sequence has it.
-fn after_symmetry(sums: DgDs, dna: &[u8]) -> DgDs
-    requires { any not_a_base dna.now ≡ false }
-    ensures { (result.dg.0 ≡ sum_from sums.dg.0 (symmetry_term symmetric_dg (bases dna.now))) × (result.ds.0 ≡ sum_from sums.ds.0 (symmetry_term symmetric_ds (bases dna.now))) }
-{
-    if self_complementary(dna) {
-        return sums + SYMMETRY;
+    // Whether a sequence is its own reverse complement: each base pairs with the one as far from the other end.
+    fn self_complementary(&self) -> bool
+        ensures { result ≡ self_complementary (bases self.now.letters.now) }
+    {
+        for (last, first) in self.letters.iter().rev().zip(self.letters) {
+            if !good_match(base(*last), base(*first)) {
+                return false;
+            }
+        }
+        true
     }
-    sums
-}
 
-// The sums of a sequence by the paper: its stacks, then initiation, first end, last end and symmetry.
-fn published_sums(dna: &[u8]) -> DgDs
-    requires { (any not_a_base dna.now ≡ false) × (2 ≤ length dna.now) }
-    ensures { (result.dg.0 ≡ published_dg (bases dna.now)) × (result.ds.0 ≡ published_ds (bases dna.now)) }
-{
-    let stacks = single_sequence_dg_ds(dna);
-    let begun = stacks + PUBLISHED_INITIATION;
-    let first = after_end(begun, dna[0]);
-    let last = after_end(first, dna[dna.len() - 1]);
-    after_symmetry(last, dna)
+    // The sums after the symmetry: its terms, if the sequence has it.
+    fn after_symmetry(&self, sums: DgDs) -> DgDs
+        ensures { (result.dg.0 ≡ sum_from sums.dg.0 (symmetry_term symmetric_dg (bases self.now.letters.now))) × (result.ds.0 ≡ sum_from sums.ds.0 (symmetry_term symmetric_ds (bases self.now.letters.now))) }
+    {
+        if self.self_complementary() {
+            return sums + SYMMETRY;
+        }
+        sums
+    }
+
+    // The sums of a sequence by the paper: its stacks, then initiation, first end, last end and symmetry.
+    fn published_sums(&self) -> DgDs
+        requires { 2 ≤ length self.now.letters.now }
+        ensures { (result.dg.0 ≡ published_dg (bases self.now.letters.now)) × (result.ds.0 ≡ published_ds (bases self.now.letters.now)) }
+    {
+        let stacks = self.single_sequence_dg_ds();
+        let begun = stacks + PUBLISHED_INITIATION;
+        let first = after_end(begun, self.base(0));
+        let last = after_end(first, self.base(self.letters.len() - 1));
+        self.after_symmetry(last)
+    }
 }
 
 // dG and dS of a sequence on its perfect partner as the paper has them, with what it prints for initiation, ends and symmetry.
 pub fn published_dna_dg_ds(dna: &[u8]) -> Result<DgDs, Refusal>
     ensures { dg_ds_figures result ≡ published_dna_dg_ds dna.now }
 {
-    sequence_reply(dna)?;
-    Ok(published_sums(dna))
+    let dna = admitted(dna)?;
+    Ok(dna.published_sums())
 }
 
 impl Sums {
@@ -227,45 +225,51 @@ impl Sums {
     }
 }
 
-// The sums over the windows of two strands of one length.
-fn pair_sums(a: &[u8], b: &[u8]) -> Result<DgDs, Refusal>
-    requires a_len { (length a.now ≡ length b.now) × (length a.now ≤ 256) }
-    requires a_value { (any not_a_base a.now ≡ false) × (any not_a_base b.now ≡ false) }
-    ensures { PairSummed a.now b.now result }
-{
-    let stacks = STACKS;
-    let penalties = PENALTY_TABLE;
-    let mut sums = Sums {
-        so_far: NOTHING,
-        bad: 0,
-    };
-    for (upper, lower) in a.windows(2).zip(b.windows(2)) {
-        let window = Window::at(upper, lower);
-        sums = if window.good() {
-            sums.after_good(&stacks, window)?
-        } else {
-            sums.after_bad(&penalties, window)
+impl Strands<'_> {
+    // The sums over the windows of both strands.
+    fn sums(&self) -> Result<DgDs, Refusal>
+        ensures { PairSummed self.now.upper.letters.now self.now.lower.letters.now result }
+    {
+        let stacks = STACKS;
+        let penalties = PENALTY_TABLE;
+        let mut sums = Sums {
+            so_far: NOTHING,
+            bad: 0,
         };
+        for (upper, lower) in self
+            .upper
+            .letters
+            .windows(2)
+            .zip(self.lower.letters.windows(2))
+        {
+            let window = Window::at(Dna { letters: upper }, Dna { letters: lower });
+            sums = if window.good() {
+                sums.after_good(&stacks, window)?
+            } else {
+                sums.after_bad(&penalties, window)
+            };
+        }
+        Ok(sums.so_far)
     }
-    Ok(sums.so_far)
 }
 
-// Whether two strands are admitted, their loops aside.
-#[tactic(auto, using(crate::proofs::Letters::some_any))]
-fn strands_reply(a: &[u8], b: &[u8]) -> Result<(), Refusal>
-    ensures { result ≡ bare (first_of (strand_checks a.now b.now)) }
+// Two strands, if they are admitted, their loops aside.
+fn both_admitted<'a>(a: &'a [u8], b: &'a [u8]) -> Result<Strands<'a>, Refusal>
+    ensures { BothAdmittedAs a.now b.now result }
 {
     refused_if(Refusal::WrongSize, LONGEST < a.len() || LONGEST < b.len())?;
-    refused_if(Refusal::NotABase, any_not_a_base(a) || any_not_a_base(b))?;
-    refused_if(Refusal::UnequalLengths, a.len() != b.len())
+    let upper = Dna::of(a)?;
+    let lower = Dna::of(b)?;
+    refused_if(Refusal::UnequalLengths, a.len() != b.len())?;
+    Ok(Strands { upper, lower })
 }
 
 // dG and dS of two strands side by side, both read by index; no initiation is added.
 pub fn sequence_pair_dg_ds(a: &[u8], b: &[u8]) -> Result<DgDs, Refusal>
     ensures { dg_ds_figures result ≡ sequence_pair_dg_ds a.now b.now }
 {
-    strands_reply(a, b)?;
-    pair_sums(a, b)
+    let strands = both_admitted(a, b)?;
+    strands.sums()
 }
 
 // The strength at an excess over 37 °C, the initiation included.
@@ -287,9 +291,9 @@ fn excess_in_range(excess: Kelvin) -> bool
 pub fn sequence_strength(dna: &[u8], excess: Kelvin) -> Result<KcalPerMol, Refusal>
     ensures { dg_figures result ≡ sequence_strength dna.now excess.0 }
 {
-    sequence_reply(dna)?;
+    let dna = admitted(dna)?;
     refused_if(Refusal::OutOfRange, !excess_in_range(excess))?;
-    Ok(strength(excess, single_sequence_dg_ds(dna)))
+    Ok(strength(excess, dna.single_sequence_dg_ds()))
 }
 
 // The strength of two strands side by side.

@@ -169,7 +169,7 @@ pub(crate) fn calculate_single_mismatch_penalty(
     KcalPerMol(0.0)
 }
 
-// The place among LENGTHS of the longest that is no longer than this one.
+// The place among LENGTHS of the longest that is no longer than this one. The loop goes by number, since a place is what is asked for.
 fn entry_up_to(length: usize) -> usize
     requires { 3 ≤ length }
     ensures { (result < 15) × (get_or loop_rows result no_loop ≡ entry_up_to length) }

@@ -17,5 +17,5 @@ returns c =
     let t = c.args.tables.now.strand_bonds.now in
     let u = c.args.tables.now.scaffold_bonds.now in
     let fit = tables-fit d t u c.requires.strand_bonds_len c.requires.scaffold_bonds_len in
-    let rows = c.fill_options.ensures.option_rows in
-    c.lowest.ensures (model_over d t u) (record { positions = rows.positions; sized = rows.sized; few = rows.few; options = rows.options }) (rw c.potentials.ensures (cells-lent d t u fit c.requires.admitted)) (rw c.rt.ensures refl)
+    let bonds = c.new-bonds.ensures in
+    c.lowest.ensures (model_over d t u) (c.fill_options.ensures.option_rows _ refl) (rw (bonds.strand_bonds, bonds.scaffold_bonds, bonds.potentials, c.potentials.ensures, c.strands.ensures) (cells-lent d t u fit c.requires.admitted)) (rw c.rt.ensures refl)

@@ -16,7 +16,7 @@ use Rattle.deck.specs.Form.{Form}
 use Rattle.deck.specs.Forms.{form_of, other_form}
 use Rattle.deck.specs.Deck.{is_deck, configuration_of, deck_of}
 use Rattle.deck.specs.Moving.{moved_words, wrong_words, move_figures, move_words}
-use Rattle.deck.proofs.Asked.{admits, exits_nowhere}
+use Rattle.reply.proofs.Asked.{admits, exits_nowhere}
 use Rattle.deck.proofs.Decks.{configuration-few, deck-length}
 use Rattle.deck.proofs.Faults.{no-fault, fault-at}
 use Rattle.deck.proofs.Moves.{moves-to, form-decks}
@@ -74,13 +74,6 @@ pub slice_bounds-pack-end : goal.slice_bounds-pack-end
 slice_bounds-pack-end c =
     let v = no-fault (form_of c.args.from) c.args.words.now (sym c.in_default.ensures) in
     simp length-take (omega (arith, few-read (form_of c.args.from) c.args.words.now c.unpack-count.result v c.unpack-count.ensures.0, c.unpack-count.auto.entries))
-
-pub pack-requires : goal.pack-requires
-pack-requires c =
-    let v = no-fault (form_of c.args.from) c.args.words.now (sym c.in_default.ensures) in (
-      simp length-take (omega (arith, few-read (form_of c.args.from) c.args.words.now c.unpack-count.result v c.unpack-count.ensures.0)),
-      eqb-true (length c.args.moved.now) 129 (not-false _ (admits WrongSize (wrong_words c.args.moved.now) c.in_ok-refused_if.ensures)),
-    )
 
 pub returns : goal.returns
 unfolding move_figures move_words

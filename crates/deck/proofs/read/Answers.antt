@@ -8,7 +8,7 @@ use Rattle.reply.specs.declared.Refusal.TheVariants.{WrongSize}
 use Rattle.deck.specs.Forms.{form_of}
 use Rattle.deck.specs.Deck.{configuration_of}
 use Rattle.deck.specs.Reading.{wrong_entries, read_figures, read_entries}
-use Rattle.deck.proofs.Asked.{admits, exits_nowhere}
+use Rattle.reply.proofs.Asked.{admits, exits_nowhere}
 use Rattle.deck.proofs.Decks.{configuration-few}
 use Rattle.deck.proofs.Faults.{no-fault, fault-at}
 use Rattle.deck.proofs.read.Goals as goal

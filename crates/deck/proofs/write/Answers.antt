@@ -11,7 +11,7 @@ use Rattle.reply.specs.declared.Refusal.TheVariants.{WrongSize, OutOfRange}
 use Rattle.deck.specs.Forms.{form_of}
 use Rattle.deck.specs.Deck.{deck_of}
 use Rattle.deck.specs.Writing.{write_figures, write_words}
-use Rattle.deck.proofs.Asked.{admits, exits}
+use Rattle.reply.proofs.Asked.{admits, exits}
 use Rattle.deck.proofs.Decks.{deck-length}
 use Rattle.deck.proofs.write.Goals as goal
 
@@ -30,12 +30,6 @@ returns-in_err-refused_if-2 c =
     let t = sym c.wrong_lengths.ensures ∙ admits WrongSize c.wrong_lengths.result c.in_ok-refused_if.ensures in
     let h = sym c.some_too_high.ensures ∙ p.0 in
     (rw (p.1, t, h), rw (t, h))
-
-pub pack-requires : goal.pack-requires
-pack-requires c =
-    let a = c.args in
-    let t = neither (ltb 128 (length a.configuration.now)) (not (eqb (length a.words.now) 129)) (sym c.wrong_lengths.ensures ∙ admits WrongSize c.wrong_lengths.result c.in_ok-refused_if.ensures) in
-    (ltb-false 128 (length a.configuration.now) t.0, eqb-true (length a.words.now) 129 (not-false _ t.1))
 
 pub returns : goal.returns
 unfolding write_figures write_words

@@ -2,11 +2,11 @@ use Rattle.jobs.proofs.Sheets.{right, sheet-answered, passed, unfit-tables, unfi
 use Rattle.jobs.proofs.Stretches.{stretches-kept}
 use Rattle.jobs.proofs.Figures.{Unfit, energies-unfit, counts-unfit, stretch-unfit}
 use Rattle.jobs.specs.Sheet.{Sheet, sheet, wrong_sheet}
-use Rattle.deck.proofs.Asked.{admits}
+use Rattle.reply.proofs.Asked.{admits}
 use Rattle.reply.specs.declared.Refusal.TheVariants.{WrongSize}
 use Rattle.design.proofs.Sizes.{sized}
 use Rattle.design.specs.Design.{Design}
-use Rattle.ensemble.proofs.Options.{product_is}
+use Rattle.ensemble.proofs.OptionRows.{product_is}
 use Rattle.doubles.specs.Decimal.{zero}
 use lib.Ieee.{of_bits}
 use lib.ListN.{replicate, length-take}
@@ -47,8 +47,14 @@ slice_bounds-options-end c =
     let fit = judged-fit d c.judge-judged.ensures.judged_right (sym c.is_err.ensures.value ∙ c.if-is_err.false) (sym c.is_err-else-is_err.ensures.value ∙ c.if-is_err-2.false) in
     omega (arith, (sized d fit.sizes).short, c.positions-positions.ensures, c.judge-judged.auto.options)
 
-pub slice_bounds-answer_jobs-end-2 : goal.slice_bounds-answer_jobs-end-2
-slice_bounds-answer_jobs-end-2 c =
+pub slice_bounds-options-end-2 : goal.slice_bounds-options-end-2
+slice_bounds-options-end-2 c =
+    let d : Design = c.args.design.now in
+    let fit = judged-fit d c.judge-judged.ensures.judged_right (sym c.is_err.ensures.value ∙ c.if-is_err.false) (sym c.is_err-else-is_err.ensures.value ∙ c.if-is_err-2.false) in
+    omega (arith, (sized d fit.sizes).short, c.positions-positions.ensures, c.judge-judged.auto.options, length-take c.positions-positions.result c.judge-judged.new.options)
+
+pub slice_bounds-options-end-3 : goal.slice_bounds-options-end-3
+slice_bounds-options-end-3 c =
     let d : Design = c.args.design.now in
     let fit = judged-fit d c.judge-judged.ensures.judged_right (sym c.is_err.ensures.value ∙ c.if-is_err.false) (sym c.is_err-else-is_err.ensures.value ∙ c.if-is_err-2.false) in
     omega (arith, (sized d fit.sizes).short, c.positions-positions.ensures, c.judge-judged.auto.options, length-take c.positions-positions.result c.judge-judged.new.options)

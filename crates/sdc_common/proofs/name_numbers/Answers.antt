@@ -7,7 +7,7 @@ use lib.ListN.{length}
 use Rattle.reply.specs.declared.Refusal.TheVariants.{WrongSize}
 use Rattle.sdc_common.specs.Lent.{names_of, unfit_names}
 use Rattle.sdc_common.specs.Calls.{unfit_strands, given_numbers, name_numbers, numbers_after}
-use Rattle.sdc_common.proofs.Asked.{admits, refused, exits}
+use Rattle.reply.proofs.Asked.{admits, refused, exits}
 use Rattle.sdc_common.proofs.Given.{numbers-given}
 use Rattle.sdc_common.proofs.Fit.{rows-many, fit-names, few-strands, fit-glues}
 use Rattle.sdc_common.proofs.name_numbers.Goals as goal

@@ -2,7 +2,7 @@
 use mathlib.Core.Path.{sym, ◌∙◌}
 use Rattle.reply.specs.declared.Refusal.TheVariants.{WrongSize}
 use Rattle.sdc_common.specs.Calls.{self_and_inverse}
-use Rattle.sdc_common.proofs.Asked.{admits, exits}
+use Rattle.reply.proofs.Asked.{admits, exits}
 use Rattle.sdc_common.proofs.Held.{named, stars-within}
 use Rattle.sdc_common.proofs.self_and_inverse.Goals as goal
 

@@ -9,7 +9,7 @@ use borrow.Author.Tests.{eqb-true, not-false, ltb-true, ltb-false}
 use Rattle.reply.specs.declared.Refusal.TheVariants.{WrongSize, TooManyGlues}
 use Rattle.sdc_common.specs.Lent.{names_of}
 use Rattle.sdc_common.specs.Calls.{unfit_strands, strand_glues, glues_after}
-use Rattle.sdc_common.proofs.Asked.{admits, refused, exits}
+use Rattle.reply.proofs.Asked.{admits, refused, exits}
 use Rattle.sdc_common.proofs.Given.{glues-many, glues-given}
 use Rattle.sdc_common.proofs.Fit.{rows-many, fit-names, few-strands, fit-glues}
 use Rattle.sdc_common.proofs.strand_glues.Goals as goal

@@ -1,41 +1,36 @@
-use mathlib.Core.Path.{◌≡◌, refl, ap, ◌∙◌}
+use mathlib.Core.Path.{◌≡◌, ap, ◌∙◌}
 use Prim.Native.Nat.{ℕ, ◌≤◌, ◌<◌, ◌*◌, ◌^◌}
 use native.Mathlib.Nat.{pow-suc}
 use native.Mathlib.Numerals.{add-one}
 use native.Mathlib.Omega.{arith}
 use lib.ListN.{length, replicate, length-replicate}
-use borrow.Author.Tests.{leb-false}
 use Rattle.reply.specs.declared.Refusal.TheVariants.{WrongSize, RankTooHigh}
 use Rattle.short_sequences.specs.Sequences.{letters, sequence_at}
 use Rattle.short_sequences.specs.Answers.{wrong_size, rank_too_high, sequence_answer, sequence_bytes}
 use Rattle.short_sequences.proofs.Order.{length-choice_at}
 use Rattle.short_sequences.proofs.Lengths.{at-shortest, at-longer, longer-inside, not-longest}
-use Rattle.short_sequences.proofs.Told.{same-error, held, not-held}
+use Rattle.reply.proofs.Asked.{admits, exits}
 use Rattle.short_sequences.proofs.short_sequence.Goals as goal
 
 pub returns-in_err-refused_if : goal.returns-in_err-refused_if
 unfolding sequence_answer sequence_bytes
 returns-in_err-refused_if c =
-    let size = held WrongSize (wrong_size c.args.bytes.now) c.refused_if.ensures c.in_err-refused_if.was in
+    let q = exits c.from_residual.result WrongSize (wrong_size c.args.bytes.now) _ c.from_residual.ensures.1 c.in_err-refused_if.ensures in
     record {
-      result_value = rw (same-error _ c.from_residual.ensures, size.0, size.1);
-      bytes_after = rw size.0;
+      result_value = rw (q.1, q.0);
+      bytes_after = rw q.0;
     }
 
 pub returns-in_err-refused_if-2 : goal.returns-in_err-refused_if-2
 unfolding sequence_answer sequence_bytes
 returns-in_err-refused_if-2 c =
-    let size = not-held WrongSize (wrong_size c.args.bytes.now) c.refused_if.ensures c.in_ok-refused_if.was in
-    let high = held RankTooHigh (rank_too_high c.args.rank) c.refused_if-2.ensures c.in_err-refused_if-2.was in
+    let size = admits WrongSize (wrong_size c.args.bytes.now) c.in_ok-refused_if.ensures in
+    let from = c.from_residual-in_err-refused_if-2 in
+    let q = exits from.result RankTooHigh (rank_too_high c.args.rank) _ from.ensures.1 c.in_err-refused_if-2.ensures in
     record {
-      result_value = rw (same-error _ c.from_residual-in_err-refused_if-2.ensures, size, high.0, high.1);
-      bytes_after = rw (size, high.0);
+      result_value = rw (q.1, size, q.0);
+      bytes_after = rw (size, q.0);
     }
-
-pub loop-count-init : goal.loop-count-init
-loop-count-init c =
-    let high = not-held RankTooHigh (rank_too_high c.args.rank) c.refused_if-2.ensures c.in_ok-refused_if-2.was in
-    (omega arith, refl, leb-false 87376 c.args.rank high, omega arith, refl)
 
 pub loop-count-preserved : goal.loop-count-preserved
 loop-count-preserved c =
@@ -53,8 +48,8 @@ unfolding sequence_answer sequence_bytes
 returns c =
     let l = c.loop-count in
     let a = c.args in
-    let size = not-held WrongSize (wrong_size a.bytes.now) c.refused_if.ensures c.in_ok-refused_if.was in
-    let high = not-held RankTooHigh (rank_too_high a.rank) c.refused_if-2.ensures c.in_ok-refused_if-2.was in
+    let size = admits WrongSize (wrong_size a.bytes.now) c.in_ok-refused_if.ensures in
+    let high = admits RankTooHigh (rank_too_high a.rank) c.in_ok-refused_if-2.ensures in
     let inside : l.left < 4 ^ l.bases = rw l.invariant.1 at c.loop-count-test.false in
     let is = l.invariant.4 ∙ at-shortest l.bases l.left l.invariant.0 l.invariant.2 inside in
     let long : length (sequence_at a.rank) ≡ l.bases = ap length is ∙ length-choice_at (replicate l.bases letters) l.left ∙ length-replicate l.bases letters in

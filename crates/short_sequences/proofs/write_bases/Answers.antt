@@ -1,12 +1,12 @@
 use mathlib.Core.Path.{◌≡◌, refl, ap, ap₂, ◌∙◌}
 use mathlib.Core.List.{List, [], ◌∷◌, ◌++◌}
 use Prim.Native.Nat.{ℕ, suc, ◌<◌, ◌+◌, ◌-◌, ◌*◌, ◌/◌, ◌%◌, ◌^◌}
-use native.Mathlib.Nat.{sub-zero, pow-succ', mul-div_cancel_left, mod-lt, div-lt_iff_lt-mul}
+use native.Mathlib.Nat.{pow-succ', mul-div_cancel_left, mod-lt, div-lt_iff_lt-mul}
 use native.Mathlib.Omega.{arith}
 use lib.ListN.{length, get_or, replicate, set, take, drop}
 use Rattle.std.proofs.lemmas.List.{length-take-le}
 use Rattle.lists.specs.Front.{over}
-use Rattle.lists.proofs.Front.{Front, front-none, front-step, front-count, front-full}
+use Rattle.lists.proofs.Front.{Front, front-step, front-count, front-full}
 use Rattle.model.specs.States.{choice_at}
 use Rattle.short_sequences.specs.Sequences.{letters}
 use Rattle.short_sequences.proofs.Lengths.{first-letter, some-power}
@@ -34,31 +34,6 @@ module _ (bases place later left : ℕ) (inside : place < bases) (e : later ≡ 
 
   letters-left : choice_at (replicate (bases - place) letters) left ≡ get_or letters (left / (later / 4)) 0 ∷ choice_at (replicate (bases - (place + 1)) letters) (left % (later / 4))
   letters-left = rw (fewer, next) (first-letter (bases - (place + 1)) left)
-
-pub loop-byte-init : goal.loop-byte-init
-loop-byte-init c = record {
-  share = simp sub-zero c.requires.count_value;
-  inside = c.requires.rank_lt_count;
-  front = simp sub-zero (front-none _ _);
-}
-
-pub nonzero_div-left : goal.nonzero_div-left
-nonzero_div-left c =
-    let l = c.loop-byte in
-    let size = length-take-le c.args.bases c.args.bytes.now c.requires.bases_in_bounds in
-    omega (arith, next-some c.args.bases l.byte-index l.later l.left (omega (arith, size, c.loop-byte-test.true)) l.invariant.share l.invariant.inside)
-
-pub letter-requires : goal.letter-requires
-letter-requires c =
-    let l = c.loop-byte in
-    let size = length-take-le c.args.bases c.args.bytes.now c.requires.bases_in_bounds in
-    which c.args.bases l.byte-index l.later l.left (omega (arith, size, c.loop-byte-test.true)) l.invariant.share l.invariant.inside
-
-pub nonzero_rem-left : goal.nonzero_rem-left
-nonzero_rem-left c =
-    let l = c.loop-byte in
-    let size = length-take-le c.args.bases c.args.bytes.now c.requires.bases_in_bounds in
-    omega (arith, next-some c.args.bases l.byte-index l.later l.left (omega (arith, size, c.loop-byte-test.true)) l.invariant.share l.invariant.inside)
 
 pub loop-byte-preserved : goal.loop-byte-preserved
 loop-byte-preserved c =

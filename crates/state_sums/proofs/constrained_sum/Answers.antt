@@ -1,22 +1,24 @@
 -- The constrained sum's reply is that of the first check that holds, and its figure document 02's sum. Assumes nothing.
-use mathlib.Core.Path.{◌≡◌, sym, ap, ◌∙◌}
-use mathlib.Core.Bool.{Bool, false, ◌||◌}
+use mathlib.Core.Path.{◌≡◌, sym, ap₂, ◌∙◌}
+use mathlib.Core.Bool.{false, ◌||◌}
+use mathlib.Core.List.{List}
+use Prim.Native.Nat.{ℕ}
+use native.Mathlib.Omega.{arith}
 use lib.Dec.{eqb}
 use borrow.Author.Tests.{eqb-false}
-use Rattle.std.proofs.Common.{rules, tests}
 use Rattle.reply.specs.declared.Refusal.TheVariants.{BareScaffold}
 use Rattle.design.specs.Design.{positions, strands, model_of}
 use Rattle.design.specs.Checks.{sizes_out}
 use Rattle.design.proofs.Replies.{bare-false}
 use Rattle.design.proofs.Sizes.{sized}
-use Rattle.partition.specs.Summed.{constrained_figure}
+use Rattle.partition.specs.Pass.{allowed}
+use Rattle.partition.specs.Weights.{Weights}
+use Rattle.partition.specs.Summed.{constrained_figure, sum_of_weights}
 use Rattle.partition_sums.specs.Layout.{lent_weights}
 use Rattle.state_sums.specs.Sizes.{lent_lists, wrong_cells, wrong_lists}
 use Rattle.state_sums.specs.Answers.{constraint_of}
-use Rattle.state_sums.proofs.Lent.{lists-listed}
-use Rattle.state_sums.proofs.Told.{positive, sum-refused, constrained-weighed}
+use Rattle.state_sums.proofs.Told.{positive, length-lists, sum-refused, constrained-told}
 use Rattle.state_sums.proofs.constrained_sum.Goals as goal
-use Rattle.state_sums.proofs.constrained_sum.Goals.{then-wrong_weights, else-wrong_weights}
 
 pub returns-in_err-design_reply-clause-result_value : goal.returns-in_err-design_reply-clause-result_value
 returns-in_err-design_reply-clause-result_value c =
@@ -25,25 +27,35 @@ returns-in_err-design_reply-clause-result_value c =
     let w = lent_weights (strands d) a.place_digits a.place_powers a.pair_digits a.pair_powers in
     let l = lent_lists a.numbers a.starts a.lengths in
     let own = wrong_cells (positions d) w || wrong_lists (positions d) l in
-    let either : c.if-wrong_weights.own_size ≡ (c.wrong_cells-wrong_weights.result || wrong_lists (positions d) l) = elim c.if-wrong_weights.branch [ then-wrong_weights w ↦ search (rules, tests) | else-wrong_weights w ↦ search (rules, tests) ] in
-    let same : sizes_out d ≡ false → c.if-wrong_weights.own_size ≡ own = λ s. let z = sized d s in either ∙ ap (λ (b : Bool). b || wrong_lists (positions d) l) ((rw (c.positions-positions.ensures, c.strands.ensures) at c.wrong_cells-wrong_weights.ensures) z.short z.few) in
+    let same : sizes_out d ≡ false → c.wrong_sizes.result ≡ own = λ s. let z = sized d s in (rw (c.positions-positions.ensures, c.strands.ensures) at c.wrong_sizes.ensures.value) z.short z.few in
     sum-refused d w own (constrained_figure (model_of d) w (constraint_of l)) same (sym c.in_err-design_reply.ensures.value) c.from_residual.result c.from_residual.ensures.1
 
-pub weighed_constrained-requires-clause-listed : goal.weighed_constrained-requires-clause-listed
-weighed_constrained-requires-clause-listed c =
+pub invariant_of-constraint : goal.invariant_of-constraint
+invariant_of-constraint c =
     let a = c.args in
     let d = a.design.now in
     let l = lent_lists a.numbers a.starts a.lengths in
-    let right : wrong_lists (positions d) l ≡ false = elim c.if-wrong_weights.branch [ then-wrong_weights w ↦ search (rules, tests) | else-wrong_weights w ↦ search (rules, tests) ] in
-    lists-listed (positions d) l right
+    let h = rw c.positions-positions.ensures at c.wrong_sizes.ensures.listed c.in_ok-design_reply.ensures.own in
+    let start = h.starting in
+    let short = c.in_ok-design_reply.ensures.short in
+    (rw start h, omega arith)
+
+pub constrained_sum-requires : goal.constrained_sum-requires
+constrained_sum-requires c =
+    let a = c.args in
+    let d = a.design.now in
+    let l = lent_lists a.numbers a.starts a.lengths in
+    let h = rw c.positions-positions.ensures at c.wrong_sizes.ensures.listed c.in_ok-design_reply.ensures.own in
+    record { a_list_each = length-lists l ∙ h.starting ∙ sym c.in_ok-formed.ensures.a_count_each }
 
 pub returns-clause-constrained_shown : goal.returns-clause-constrained_shown
-returns-clause-constrained_shown c =
+returns-clause-constrained_shown c _ =
     let a = c.args in
     let d = a.design.now in
-    let w = lent_weights (strands d) a.place_digits a.place_powers a.pair_digits a.pair_powers in
+    let w = lent_weights c.strands.result a.place_digits a.place_powers a.pair_digits a.pair_powers in
     let l = lent_lists a.numbers a.starts a.lengths in
-    let right : wrong_lists (positions d) l ≡ false = elim c.if-wrong_weights.branch [ then-wrong_weights w ↦ search (rules, tests) | else-wrong_weights w ↦ search (rules, tests) ] in
     let none = bare-false (eqb c.positions-positions.result 0) BareScaffold c.in_ok-refused_if.ensures in
     let some = positive (positions d) (eqb-false _ _ (rw c.positions-positions.ensures at none)) in
-    constrained-weighed d w c.in_ok-design_reply.ensures.design some l (lists-listed (positions d) l right) c.weighed_constrained.ensures
+    let f = c.in_ok-formed.ensures in
+    rw (← c.strands.ensures) (constrained-told d w c.in_ok-design_reply.ensures.design some f.in_form l (rw c.positions-positions.ensures at c.wrong_sizes.ensures.listed c.in_ok-design_reply.ensures.own)
+    (c.constrained_sum.ensures ∙ ap₂ (λ (v : Weights) (options : List (List ℕ)). sum_of_weights v (allowed (constraint_of l) options)) f.same_weights f.options))

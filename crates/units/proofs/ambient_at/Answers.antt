@@ -7,18 +7,18 @@ use Rattle.doubles.specs.Decimal.{nearest}
 use Rattle.doubles.specs.Range.{in_range}
 use Rattle.reply.specs.First.{first_of}
 use Rattle.units.specs.Ambient.{ambient_figures, ambient_checks, refused, ambient_at, gas_constant, excess_over37_c}
-use Rattle.units.proofs.Bare.{same-error, admits, answers}
+use Rattle.reply.proofs.Bare.{same-error, admitted, answers}
 use Rattle.units.proofs.ambient_at.Goals as goal
 
 pub returns-in_err-refused_if : goal.returns-in_err-refused_if
 unfolding ambient_at in_range nearest of_bits
 returns-in_err-refused_if c =
     let kelvin = c.args.temperature.0 in
-    ap ambient_figures (same-error _ c.from_residual.ensures) ∙ answers (first_of (ambient_checks kelvin)) refused _ (rw c.in_range-known.ensures at c.refused_if.ensures) c.in_err-refused_if.was
+    ap ambient_figures (same-error _ c.from_residual.ensures) ∙ answers (first_of (ambient_checks kelvin)) refused _ (rw c.in_range-known.ensures at c.in_err-refused_if.ensures)
 
 pub returns : goal.returns
 unfolding ambient_at in_range nearest of_bits div gas_constant excess_over37_c
 returns c =
     let kelvin = c.args.temperature.0 in
-    let reply : first_of (ambient_checks kelvin) ≡ Ok tt = admits _ (rw c.in_range-known.ensures at c.refused_if.ensures) c.in_ok-refused_if.was in
+    let reply : first_of (ambient_checks kelvin) ≡ Ok tt = admitted _ (rw c.in_range-known.ensures at c.in_ok-refused_if.ensures) in
     rw reply (cc)

@@ -5,7 +5,7 @@ use lib.Dec.{ltb}
 use borrow.Author.Tests.{lt-ltb, le-ltb}
 use Rattle.std.specs.Prelude.{Ok}
 use Rattle.reply.specs.First.{first_of}
-use Rattle.units.proofs.Bare.{same-error, admits, answers}
+use Rattle.reply.proofs.Bare.{same-error, admitted, answers}
 use Rattle.utils.specs.Answers.{dg_figures, refused_dg}
 use Rattle.utils.specs.Figures.{admitted_length}
 use Rattle.utils.specs.Loops.{loop_checks, loop_penalty}
@@ -23,12 +23,12 @@ returns-in_err-refused_if c =
     let kind = rw c.in_ok-kind.was at c.try_from.ensures in
     let known : (ltb 2 c.args.kind || not (admitted_length c.args.length)) ≡ not c.loop_admitted.result = simp (le-ltb _ _ kind.0, c.loop_admitted.ensures) in
     ap dg_figures (same-error _ c.from_residual-in_err-refused_if.ensures)
-    ∙ answers (first_of (loop_checks c.args.length c.args.kind)) refused_dg _ (rw (← known) at c.refused_if.ensures) c.in_err-refused_if.was
+    ∙ answers (first_of (loop_checks c.args.length c.args.kind)) refused_dg _ (rw (← known) at c.in_err-refused_if.ensures)
 
 pub returns : goal.returns
 unfolding loop_penalty
 returns c =
     let kind = rw c.in_ok-kind.was at c.try_from.ensures in
     let known : (ltb 2 c.args.kind || not (admitted_length c.args.length)) ≡ not c.loop_admitted.result = simp (le-ltb _ _ kind.0, c.loop_admitted.ensures) in
-    let reply : first_of (loop_checks c.args.length c.args.kind) ≡ Ok tt = admits _ (rw (← known) at c.refused_if.ensures) c.in_ok-refused_if.was in
+    let reply : first_of (loop_checks c.args.length c.args.kind) ≡ Ok tt = admitted _ (rw (← known) at c.in_ok-refused_if.ensures) in
     rw reply (cc)

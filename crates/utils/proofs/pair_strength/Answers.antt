@@ -9,7 +9,7 @@ use Rattle.reply.specs.declared.Refusal.{Refusal}
 use Rattle.reply.specs.declared.Refused.{Refused}
 use Rattle.reply.proofs.Answer.{is-admitted, is-refused}
 use Rattle.reply.proofs.First.{reply-append}
-use Rattle.units.proofs.Bare.{same-error, admits, answers-later}
+use Rattle.reply.proofs.Bare.{same-error, admitted, answers-later}
 use Rattle.utils.specs.Answers.{DgDsFigures, refused_dg_ds, given_dg_ds, dg_ds_figures, DgFigures, refused_dg, given_dg, dg_figures}
 use Rattle.utils.specs.Bases.{bases}
 use Rattle.utils.specs.Pair.{pair_sums, pair_checks, sequence_pair_dg_ds}
@@ -52,7 +52,7 @@ returns-in_err-refused_if c =
     let b = c.args.b.now in
     let pair = given_pair a b c.in_ok-sums.sums.dg.0 c.in_ok-sums.sums.ds.0 (ap dg_ds_figures (sym c.in_ok-sums.was) ∙ c.sequence_pair_dg_ds.ensures) in
     ap dg_figures (same-error _ c.from_residual-in_err-refused_if.ensures)
-    ∙ answers-later (pair_checks a b) (excess_checks c.args.excess.0) refused_dg _ pair.0 (rw c.excess_in_range.ensures at c.refused_if.ensures) c.in_err-refused_if.was
+    ∙ answers-later (pair_checks a b) (excess_checks c.args.excess.0) refused_dg _ pair.0 (rw c.excess_in_range.ensures at c.in_err-refused_if.ensures)
 
 pub returns : goal.returns
 unfolding pair_strength strength_of figures
@@ -62,5 +62,5 @@ returns c =
     let excess = c.args.excess.0 in
     let pair = given_pair a b c.in_ok-sums.sums.dg.0 c.in_ok-sums.sums.ds.0 (ap dg_ds_figures (sym c.in_ok-sums.was) ∙ c.sequence_pair_dg_ds.ensures) in
     let reply : first_of (pair_checks a b ++ excess_checks excess) ≡ Ok tt =
-    reply-append (pair_checks a b) (excess_checks excess) pair.0 ∙ admits _ (rw c.excess_in_range.ensures at c.refused_if.ensures) c.in_ok-refused_if.was in
+    reply-append (pair_checks a b) (excess_checks excess) pair.0 ∙ admitted _ (rw c.excess_in_range.ensures at c.in_ok-refused_if.ensures) in
     rw reply (ap given_dg c.strength.ensures ∙ ap (strength_of excess) pair.1)

@@ -1,14 +1,19 @@
 -- The code's windows, and its sums over two strands: private contracts use this, and no public one.
 use Rattle.std.specs.Prelude.{◌≡◌, List, Bool, true, false, ◌&&◌, ℕ, ◌-◌, ◌≤◌, ◌<◌, Result, Ok, Err, slice_index}
+use Rattle.lists.specs.Find.{any}
+use Rattle.reply.specs.First.{bare, first_of}
 use Rattle.reply.specs.declared.Refusal.{Refusal}
-use Rattle.reply.specs.declared.Refusal.TheVariants.{NoSuchLoop}
-use Rattle.utils.specs.Bases.{base_of, bases}
+use Rattle.reply.specs.declared.Refusal.TheVariants.{NotABase, NoSuchLoop}
+use Rattle.utils.specs.Bases.{not_a_base, base_of, bases}
 use Rattle.utils.specs.Figures.{admitted_length, loop_energy}
 use Rattle.utils.specs.Loops.{kind_of}
-use Rattle.utils.specs.Pair.{Sums, Window, window, ends_loop, after_good, pair_sums, lacking, lacks_loop}
+use Rattle.utils.specs.Single.{sequence_checks}
+use Rattle.utils.specs.Pair.{Sums, Window, window, ends_loop, after_good, pair_sums, strand_checks, lacking, lacks_loop}
 use Rattle.utils.specs.declared.DgDs.{DgDs}
 use Rattle.utils.specs.declared.Sums as Code
 use Rattle.utils.specs.declared.bases.Window as Code2
+use Rattle.utils.specs.declared.dna.Dna.{Dna}
+use Rattle.utils.specs.declared.dna.Strands.{Strands}
 use Rattle.utils.specs.declared.tables.LoopKind.{LoopKind}
 use Rattle.utils.specs.declared.tables.LoopKind.TheVariants.{Internal}
 
@@ -16,6 +21,21 @@ use Rattle.utils.specs.declared.tables.LoopKind.TheVariants.{Internal}
 abbrev pub KindAt : ℕ → Result LoopKind Refusal → Type 0
 KindAt number (Ok kind) = (number ≤ 2) × (kind ≡ kind_of number)
 KindAt number (Err refusal) = (2 < number) × (refusal ≡ NoSuchLoop)
+
+-- a sequence as it was read, or the refusal of a letter
+abbrev pub ReadAs : List ℕ → Result Dna Refusal → Type 0
+ReadAs letters (Ok dna) = (any not_a_base letters ≡ false) × (dna.letters.now ≡ letters)
+ReadAs letters (Err refusal) = (any not_a_base letters ≡ true) × (refusal ≡ NotABase)
+
+-- a sequence that is admitted, or the refusal
+abbrev pub AdmittedAs : List ℕ → Result Dna Refusal → Type 0
+AdmittedAs letters (Ok dna) = (first_of (sequence_checks letters) ≡ Ok tt) × (dna.letters.now ≡ letters)
+AdmittedAs letters (Err refusal) = bare (first_of (sequence_checks letters)) ≡ Err refusal
+
+-- two strands that are admitted, or the refusal
+abbrev pub BothAdmittedAs : List ℕ → List ℕ → Result Strands Refusal → Type 0
+BothAdmittedAs a b (Ok s) = (first_of (strand_checks a b) ≡ Ok tt) × (s.upper.letters.now ≡ a) × (s.lower.letters.now ≡ b)
+BothAdmittedAs a b (Err refusal) = bare (first_of (strand_checks a b)) ≡ Err refusal
 
 -- the code's window
 abbrev pub window_of : Code2.Window → Window

@@ -10,9 +10,9 @@ use Rattle.ceiling.proofs.Passing.{rest_from}
 use Rattle.ceiling.proofs.under.+under_from.Given as goal
 
 abbrev pub decreases-under_from : goal.decreases-under_from
-decreases-under_from l = length l.counts.now - l.position
+decreases-under_from l = length l.lent.now.options.counts.now - l.position
 
 abbrev pub invariant-loop-strand : goal.invariant-loop-strand
 invariant-loop-strand l =
-    (m : Model) → OptionRows m l.rows l.counts → StateCells m (length l.potentials) l.strand_bonds l.scaffold_bonds l.potentials → l.limit.rt ≡ m.rt → Beside m l.position l.begun.strand
+    (m : Model) → OptionRows m l.lent.options.rows.now l.lent.options.counts.now → StateCells m l.lent.options.strands l.lent.bonds.strand_bonds.cells.now l.lent.bonds.scaffold_bonds.now l.lent.bonds.potentials.now → l.limit.rt ≡ m.rt → Beside m l.position l.begun.strand
     → (l.entries ≡ l.initial.entries) × (rest_from m l.limit.ceiling l.position l.begun.strand l.begun.sum 0 ≡ rest_from m l.limit.ceiling l.position l.begun.strand l.begun.sum l.strand-index)

@@ -2,7 +2,7 @@
 use Rattle.std.proofs.Common.{refl}
 use Rattle.lists.proofs.Find.{first-le}
 use Rattle.decimals.specs.Digits.{not_digit}
-use Rattle.decimals.proofs.Worth.{position_first}
+use Rattle.lists.proofs.Searches.{position_first}
 use Rattle.decimals.proofs.digits.digit_run.Goals as goal
 
 pub returns : goal.returns

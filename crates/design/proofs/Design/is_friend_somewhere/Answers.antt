@@ -5,7 +5,7 @@ use Rattle.std.specs.List.{list_any, range_with_len}
 use Rattle.std.proofs.lemmas.Iterator.{YieldsList-from_range}
 use Rattle.std.proofs.lemmas.Iterator.Search.{any_from_yields_List}
 use Rattle.design.specs.Checks.{friend_at, somewhere}
-use Rattle.design.proofs.Searches.{any_up_to_is}
+use Rattle.lists.proofs.Searches.{any_up_to_is}
 use Rattle.design.proofs.Design.is_friend_somewhere.Goals as goal
 
 pub returns : goal.returns
@@ -14,4 +14,4 @@ returns c =
     let d = c.args.self.now in
     let test = friend_at d.scaffold d.marks d.glues d.dg d.ds c.args.strand in
     let found : c.any.result ≡ list_any test (range_with_len 0 c.positions.result) = any_from_yields_List test _ _ c.any.result c.any.ensures.ran (YieldsList-from_range 0 c.positions.result c.positions.result refl (omega arith)) (λ x b q k. search (rules, tests)) in
-    rw (sym c.positions.ensures) (found ∙ sym (any_up_to_is test c.positions.result))
+    rw (sym c.positions.ensures) (found ∙ any_up_to_is test c.positions.result)

@@ -2,7 +2,7 @@ use mathlib.Core.Path.{refl, sym}
 use lib.Ieee.{neg, of_bits}
 use Rattle.doubles.specs.Decimal.{nearest}
 use Rattle.design.specs.Checks.{beyond, cells_out, bad_cell}
-use Rattle.design.proofs.Searches.{position_some, position_none}
+use Rattle.lists.proofs.Searches.{position_some, position_none}
 use Rattle.design.proofs.checks.bad_cell.Goals as goal
 
 pub returns-in-Some : goal.returns-in-Some

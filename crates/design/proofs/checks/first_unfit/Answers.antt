@@ -6,7 +6,8 @@ use Rattle.std.specs.List.{find, range_with_len}
 use Rattle.std.proofs.lemmas.Iterator.{YieldsList-from_range}
 use Rattle.std.proofs.lemmas.Iterator.Search.{find_from_yields_List}
 use Rattle.design.specs.Checks.{unfit}
-use Rattle.design.proofs.Searches.{option_itself, up_to_is}
+use Rattle.lists.proofs.Searches.{up_to_is}
+use Rattle.std.proofs.lemmas.Iterator.Adapters.{option_map_id}
 use Rattle.design.proofs.checks.first_unfit.Goals as goal
 
 pub returns : goal.returns
@@ -15,4 +16,4 @@ returns c =
     let test = unfit d.scaffold d.marks d.glues d.dg d.ds d.potentials in
     let n = c.strands.result in
     let found : option_map (λ x. x) c.find.result ≡ find test (range_with_len 0 n) = find_from_yields_List test _ _ c.find.result c.find.ensures.ran (YieldsList-from_range 0 n n refl (omega arith)) (λ x b q k. search (rules, tests)) in
-    rw (sym c.strands.ensures, up_to_is n) (sym (option_itself c.find.result) ∙ found)
+    rw (sym c.strands.ensures, up_to_is n) (sym (option_map_id c.find.result) ∙ found)

@@ -5,7 +5,7 @@ use Rattle.design.specs.Design.{Design, strands}
 use Rattle.design.specs.Checks.{ambient_out, bad_ambient, unfit, potentials_out, bad_potential}
 use Rattle.std.specs.Prelude.{Some}
 use Rattle.reply.specs.declared.Refusal.TheVariants.{AmbientOut}
-use Rattle.design.proofs.Searches.{found_up_to, none_up_to}
+use Rattle.lists.proofs.Searches.{found_up_to, none_up_to}
 use Rattle.design.proofs.Replies.{told-false}
 use Rattle.design.proofs.checks.numbers_reply.Goals as goal
 

@@ -9,9 +9,10 @@ use Rattle.design.proofs.needed.fill_needed_strand_bonds.Goals as goal
 pub loop-right-preserved : goal.loop-right-preserved
 loop-right-preserved c =
     let bond = strand_bond_in c.args.design.now in
-    let counts = c.args.counts.now in
+    let searchable = rw (c.requires.same_strands) at c.args.options.now.searchable in
+    let counts = c.args.options.now.counts.now in
     let right = c.loop-right.right in
-    let some = c.requires.searchable.some right c.loop-right-test.true in
-    let pairs = rw (c.options_at.ensures, c.friends_at.ensures) at c.fill_neighbours.ensures.by_index in
+    let some = searchable.some right c.loop-right-test.true in
+    let pairs = rw (c.of.ensures.row, c.friends.ensures) at c.fill_neighbours.ensures.by_index in
     let back : right + 1 - 1 ≡ right = omega arith in
-    rw back (pairs-next bond c.requires.searchable c.fill_neighbours.ensures.kept (right - 1) right (omega arith) c.loop-right-test.true (get_or counts (right - 1) 0) (get_or counts right 0 - 1) refl (omega arith) pairs c.loop-right.invariant)
+    rw back (pairs-next bond searchable c.fill_neighbours.ensures.kept (right - 1) right (omega arith) c.loop-right-test.true (get_or counts (right - 1) 0) (get_or counts right 0 - 1) refl (omega arith) pairs c.loop-right.invariant)

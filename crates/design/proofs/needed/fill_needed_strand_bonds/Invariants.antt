@@ -5,4 +5,4 @@ use Rattle.design.specs.Filling.{PairsHeld}
 use Rattle.design.proofs.needed.fill_needed_strand_bonds.Given as goal
 
 abbrev pub invariant-loop-right : goal.invariant-loop-right
-invariant-loop-right l = PairsHeld (strand_bond_in l.design) (strands l.design) l.cells l.rows l.counts (l.right - 1)
+invariant-loop-right l = PairsHeld (strand_bond_in l.design) (strands l.design) l.cells l.options.rows.now l.options.counts.now (l.right - 1)

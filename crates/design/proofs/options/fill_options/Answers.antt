@@ -26,7 +26,7 @@ returns c =
     let places : length l.counts ≡ positions d = omega arith in
     let filled = rw all at l.invariant in record {
       searchable = all-searchable d.scaffold d.marks d.glues d.dg d.ds (strands d) l.rows l.counts rooms places filled c.requires.strands_nonzero c.requires.strands_bound c.requires.positions_bound;
-      option_rows = all-options d.scaffold d.marks d.glues d.dg d.ds (strands d) l.rows l.counts rooms places filled (model_of d) refl;
+      option_rows = all-options d.scaffold d.marks d.glues d.dg d.ds (strands d) l.rows l.counts rooms places filled;
       rows_len_unchanged = omega arith;
       counts_len_unchanged = omega arith;
     }

@@ -10,7 +10,7 @@ use Rattle.ensemble.proofs.rings.lowest_ring.Given as goal
 
 abbrev pub invariant-loop-option : goal.invariant-loop-option
 invariant-loop-option l = record {
-  option-known : l.kept < get_or l.lent.counts.now 0 0;
-  sized : length l.configuration ≡ length l.lent.counts.now;
-  tried : (m : Model) → OptionRows m l.lent.rows.now l.lent.counts.now → BondCells m l.lent.bonds.strands l.lent.bonds.cells.now l.lent.scaffold_bonds.now l.lent.potentials.now → ClosingCells m l.lent.bonds.strands l.lent.bonds.cells.now → l.rt.0 ≡ m.rt → KeptRing m l.option l.kept l.least;
+  option-known : l.kept < get_or l.lent.options.counts.now 0 0;
+  sized : length l.configuration ≡ length l.lent.options.counts.now;
+  tried : (m : Model) → OptionRows m l.lent.options.rows.now l.lent.options.counts.now → BondCells m l.lent.options.strands l.lent.bonds.strand_bonds.cells.now l.lent.bonds.scaffold_bonds.now l.lent.bonds.potentials.now → ClosingCells m l.lent.options.strands l.lent.bonds.strand_bonds.cells.now → l.rt.0 ≡ m.rt → KeptRing m l.option l.kept l.least;
 }

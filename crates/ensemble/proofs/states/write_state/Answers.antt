@@ -8,7 +8,7 @@ use Rattle.lists.proofs.Front.{Front, front-step, front-full}
 use Rattle.model.specs.Model.{options}
 use Rattle.model.specs.States.{choice_at}
 use Rattle.ensemble.proofs.Products.{product-more, first-positive, rest-positive, divided, rank_left, rank-first}
-use Rattle.ensemble.proofs.Options.{row_inside, choice-more, choice-past}
+use Rattle.ensemble.proofs.OptionRows.{row_inside, choice-more, choice-past}
 use Rattle.ensemble.proofs.states.write_state.Goals as goal
 
 -- what one step of the loop reads of the counts

@@ -7,5 +7,4 @@ returns-clause-lowest_told_over c =
     let a = c.args in
     let ensured = c.search_over.ensures in
     let told = c.tell_energy.ensures in
-    let shown = lowest-told-over _ a.strand_bonds.now a.scaffold_bonds.now a.configuration.now ensured.lowest_over (rw ensured.result_value at told.number) told.figure in
-    rw c.ambient.ensures at shown
+    lowest-told-over _ a.tables.now.strand_bonds.now a.tables.now.scaffold_bonds.now a.configuration.now ensured.lowest_over (rw ensured.result_value at told.number) told.figure

@@ -1,5 +1,5 @@
 use Rattle.jobs.proofs.States.{ranked-state, known-occupants}
-use Rattle.ensemble.proofs.Options.{product_is}
+use Rattle.ensemble.proofs.OptionRows.{product_is}
 use Rattle.model.specs.Energy.{state_energy}
 use Rattle.model.specs.States.{count}
 use lib.Seq.{take_at}
@@ -13,20 +13,22 @@ pub write_state-requires : goal.write_state-requires
 write_state-requires c =
     let a = c.args in
     let p = c.requires in
-    let short = p.searchable.short in
+    let searchable = a.lent.now.options.searchable in
+    let short = searchable.short in
     record {
-      readable = p.searchable.readable;
+      readable = searchable.readable;
       states_value = p.states_value;
       rank_lt_states = p.rank_lt_states;
-      entries_len = omega (arith, length-take (length a.options.now) (replicate {A = ℕ} 128 0));
+      entries_len = omega (arith, length-take (length a.lent.now.options.counts.now) (replicate {A = ℕ} 128 0));
     }
 
 pub state_energy-energy-requires : goal.state_energy-energy-requires
 state_energy-energy-requires c =
     let a = c.args in
     let p = c.requires in
-    let short = p.searchable.short in
-    let n = length a.options.now in
+    let searchable = a.lent.now.options.searchable in
+    let short = searchable.short in
+    let n = length a.lent.now.options.counts.now in
     let written = c.write_state.new.entries in
     let number : length written ≡ n = c.write_state.auto.entries ∙ (omega (arith, length-take n (replicate {A = ℕ} 128 0))) in
     let again = take_at written (drop n (replicate {A = ℕ} 128 0)) n number in
@@ -36,12 +38,10 @@ state_energy-energy-requires c =
     let state = ranked-state m a.rank below in
     let is = c.write_state.ensures m o in
     record {
-      by_index = rw (again, is) (known-occupants o p.searchable p.potentials_nonzero state);
-      potentials_nonzero = p.potentials_nonzero;
-      potentials_len_bound = p.searchable.few;
+      by_index = rw (again, is, a.lent.now.same_strands) (known-occupants o searchable p.strands_nonzero state);
+      strands_nonzero = rw a.lent.now.same_strands p.strands_nonzero;
       state_len_bound = rw (again, number) (omega arith);
-      potentials_in_bounds = p.potentials_in_bounds;
-      potentials_in_bounds_2 = rw (again, number) p.potentials_in_bounds_2;
+      a_row_each = rw (again, number, a.lent.now.same_strands) a.lent.now.a_row_each;
     }
 
 pub returns : goal.returns
@@ -49,11 +49,12 @@ returns c =
     λ m o w e.
     let a = c.args in
     let p = c.requires in
-    let short = p.searchable.short in
-    let n = length a.options.now in
+    let searchable = a.lent.now.options.searchable in
+    let short = searchable.short in
+    let n = length a.lent.now.options.counts.now in
     let written = c.write_state.new.entries in
     let number : length written ≡ n = c.write_state.auto.entries ∙ (omega (arith, length-take n (replicate {A = ℕ} 128 0))) in
     let again = take_at written (drop n (replicate {A = ℕ} 128 0)) n number in
     let below : a.rank < count m = omega (arith, p.states_value, p.rank_lt_states, product_is o) in
     let is = again ∙ c.write_state.ensures m o in
-    c.state_energy-energy.ensures m w (rw is (ranked-state m a.rank below)) e ∙ ap (state_energy m) is
+    c.state_energy-energy.ensures m (rw a.lent.now.same_strands w) (rw is (ranked-state m a.rank below)) e ∙ ap (state_energy m) is

@@ -1,5 +1,5 @@
 use Rattle.prepared.proofs.Counted.{many-told, counted}
-use Rattle.ensemble.proofs.Options.{product_is}
+use Rattle.ensemble.proofs.OptionRows.{product_is}
 use Rattle.model.specs.States.{count}
 use Rattle.doubles.specs.Decimal.{zero}
 use borrow.Author.Tests.{lt-ltb, le-ltb, le-leb, lt-leb, ltb-false}

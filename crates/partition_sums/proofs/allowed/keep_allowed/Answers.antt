@@ -23,9 +23,9 @@ loop-position-preserved c =
     let room : 64 * i + 64 ≤ length l.kept_rows = omega arith in
     let full : length row ≡ 64 = let sized = c.keep_row in omega arith in
     let wide64 : 64 * i + 64 - 64 * i ≡ 64 = omega arith in
-    let kept = rw (c.list.ensures, c.options.ensures.value) at c.keep_row.ensures in
+    let kept = rw (c.list.ensures, c.of.ensures.row) at c.keep_row.ensures in
     rw wide64 (
       part_length l.kept_rows (64 * i) 64 row room full ∙ size,
       length-set l.kept_counts i c.keep_row.result ∙ number,
-      kept_more (λ j. get_or a.constraint.now j []) (options_at a.lent.now.rows a.lent.now.counts) l.kept_rows l.kept_counts i row c.keep_row.result room (omega arith) full l.invariant.2 kept,
+      kept_more (λ j. get_or a.constraint.now j []) (options_at a.options.now.rows.now a.options.now.counts.now) l.kept_rows l.kept_counts i row c.keep_row.result room (omega arith) full l.invariant.2 kept,
     )

@@ -11,4 +11,4 @@ abbrev pub invariant-loop-position : goal.invariant-loop-position
 invariant-loop-position l =
     (length l.kept_rows ≡ length l.initial.kept_rows)
     × (length l.kept_counts ≡ length l.initial.kept_counts)
-    × ((i : ℕ) → i < l.position → KeptAt (λ j. get_or l.constraint j []) (options_at l.lent.rows l.lent.counts) l.kept_rows l.kept_counts i)
+    × ((i : ℕ) → i < l.position → KeptAt (λ j. get_or l.constraint j []) (options_at l.options.rows.now l.options.counts.now) l.kept_rows l.kept_counts i)

@@ -9,27 +9,26 @@ use Rattle.std.proofs.lemmas.Iterator.Adapters.{serves_from_places}
 use Rattle.std.proofs.lemmas.Iterator.Search.{any_from_yields_List}
 use Rattle.lists.specs.Find.{any}
 use Rattle.partition.specs.Weights.{pairs_out}
-use Rattle.partition_sums.specs.Layout.{friends_at}
-use Rattle.partition_sums.proofs.Outs.{list-any, friends-below, friend-below, pairs-at}
+use Rattle.partition_sums.specs.Layout.{friends_at, weights_of}
+use Rattle.partition_sums.proofs.Outs.{friends-below, friend-below, pairs-at}
+use Rattle.lists.proofs.Searches.{any_is}
+use Rattle.partition_sums.proofs.Positions.{searchable}
 use Rattle.partition_sums.proofs.forms.pairs_out_at.Goals as goal
 
 pub any-requires-clause-callable : goal.any-requires-clause-callable
 any-requires-clause-callable c =
     let l = c.args.lent.now in
-    let v = c.friends.ensures in
-    let n = c.friends-next.ensures in
     serves_from_places (YieldsList-from_slice c.friends.result.now cc) (λ x q k. search rules)
     (λ x k g e _ _ _ _ _ _ _ _. (
-      friend-below l.weights l.rows l.counts v.sound.searchable c.args.position k x.now (omega (arith, c.requires.0)) v.value g e,
-      λ j h. rw n.value (friends-below l.weights l.rows l.counts v.sound.searchable (c.args.position + 1) c.requires.0 j (rw n.value at h)),
+      friend-below (weights_of l.weights) l.options.rows.now l.options.counts.now (searchable l) c.args.position k x.now (omega (arith, c.requires)) c.friends.ensures g e,
+      λ j h. rw c.friends-next.ensures (friends-below (weights_of l.weights) l.options.rows.now l.options.counts.now (searchable l) (c.args.position + 1) c.requires j (rw c.friends-next.ensures at h)),
     ))
 
 pub returns : goal.returns
 returns c =
     let l = c.args.lent.now in
-    let v = c.friends.ensures in
-    let p = pairs_out l.weights c.friends-next.result.now in
+    let p = pairs_out (weights_of l.weights) c.friends-next.result.now in
     any_from_yields_List p _ _ _ c.any.ensures.ran (YieldsList-from_slice c.friends.result.now cc) (λ x b q k. search (rules, tests))
-    ∙ list-any p c.friends.result.now ∙ ap (any p) v.value
-    ∙ ap (λ (right : List ℕ). any (pairs_out l.weights right) (friends_at l.rows l.counts c.args.position)) c.friends-next.ensures.value
-    ∙ pairs-at l.weights l.rows l.counts v.sound.searchable c.args.position c.requires.0
+    ∙ any_is p c.friends.result.now ∙ ap (any p) c.friends.ensures
+    ∙ ap (λ (right : List ℕ). any (pairs_out (weights_of l.weights) right) (friends_at l.options.rows.now l.options.counts.now c.args.position)) c.friends-next.ensures
+    ∙ pairs-at (weights_of l.weights) l.options.rows.now l.options.counts.now (searchable l) c.args.position c.requires

@@ -4,4 +4,4 @@ use Rattle.partition_sums.proofs.Rowed.{Written}
 use Rattle.partition_sums.proofs.rows.last_row.Given as goal
 
 abbrev pub invariant-loop-x : goal.invariant-loop-x
-invariant-loop-x l = Written (passed_at l.lent l.position) (here l.lent l.position) l.x-index l.row
+invariant-loop-x l = Written (passed_at l.formed.lent l.position) (here l.formed.lent l.position) l.x-index l.row

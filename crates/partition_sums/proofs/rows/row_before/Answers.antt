@@ -7,84 +7,68 @@ use borrow.Author.Rules.{rules}
 use lib.ListN.{length, get_or}
 use Rattle.partition.specs.Terms.{times}
 use Rattle.partition.specs.Pass.{sum_terms}
+use Rattle.partition_sums.specs.Layout.{weights_of}
 use Rattle.partition_sums.specs.inner.Rows.{joined}
-use Rattle.partition_sums.proofs.Positions.{here, passed_at, item-in, some_at, few-at, known_of, joins_at, place-weighs, place-fit, joined-fit, joined-sum-fit, next-passed}
+use Rattle.partition_sums.proofs.Positions.{here, passed_at, searchable, item-in, known_of, joins_at, place-weighs, place-fit, joined-fit, joined-sum-fit, next-passed}
 use Rattle.partition_sums.proofs.Rowed.{written-more, written-all}
 use Rattle.partition_sums.proofs.rows.row_before.Goals as goal
-
-pub sum_terms-sum-requires-clause-options_nonzero : goal.sum_terms-sum-requires-clause-options_nonzero
-sum_terms-sum-requires-clause-options_nonzero c =
-    let v = c.options-next.ensures in
-    rw v.value (some_at v.sound.searchable (c.args.position + 1) c.requires.next_in_bounds.0, few-at v.sound.searchable (c.args.position + 1) c.requires.next_in_bounds.0)
 
 pub sum_terms-sum-requires-clause-callable : goal.sum_terms-sum-requires-clause-callable
 sum_terms-sum-requires-clause-callable c =
     let r = c.requires in
-    let v = c.options-next.ensures in
-    let m = item-in c.loop-x.x-index c.options-x-items.ensures.value c.loop-x-test.true in
-    λ k g _ _ _ _ _ _. joins_at c.args.lent.now (omega (arith, r.next_in_bounds.0)) v.sound r.in_use c.args.position _ _ c.args.next_row.now r.next_in_bounds.0 m r.next (item-in k v.value g)
+    let m = item-in c.loop-x.x-index c.of-x-items.ensures.row c.loop-x-test.true in
+    λ k g _ _ _ _ _ _. joins_at c.args.formed.now c.args.position _ _ c.args.next_row.now r.next_in_bounds m r.next (item-in k c.of-next.ensures.row g)
 
 pub sum_terms-sum-requires-clause-fit : goal.sum_terms-sum-requires-clause-fit
 sum_terms-sum-requires-clause-fit c =
+    let f = c.args.formed.now in
     let r = c.requires in
-    let v = c.options-next.ensures in
-    let x = get_or c.options-x-items.result.now c.loop-x.x-index 0 in
-    let m = item-in c.loop-x.x-index c.options-x-items.ensures.value c.loop-x-test.true in
+    let x = get_or c.of-x-items.result.now c.loop-x.x-index 0 in
+    let m = item-in c.loop-x.x-index c.of-x-items.ensures.row c.loop-x-test.true in
     λ k t g e.
-    let y = get_or c.options-next.result.now k 0 in
-    let is : t ≡ joined c.args.lent.now.weights c.args.next_row.now x y = search rules in
-    rw is (joined-fit (joins_at c.args.lent.now (omega (arith, r.next_in_bounds.0)) v.sound r.in_use c.args.position x y c.args.next_row.now r.next_in_bounds.0 m r.next (item-in k v.value g)))
+    let y = get_or c.of-next.result.now k 0 in
+    let is : t ≡ joined (weights_of f.lent.weights) c.args.next_row.now x y = search rules in
+    rw is (joined-fit (joins_at f c.args.position x y c.args.next_row.now r.next_in_bounds m r.next (item-in k c.of-next.ensures.row g)))
 
-pub place_factor-requires-clause-weighs : goal.place_factor-requires-clause-weighs
-place_factor-requires-clause-weighs c =
-    let r = c.requires in
-    let v = c.options-x-items.ensures in
-    place-weighs c.args.lent.now (omega (arith, r.next_in_bounds.0)) v.sound r.in_use c.args.position (get_or c.options-x-items.result.now c.loop-x.x-index 0) (omega (arith, r.next_in_bounds.0)) (item-in c.loop-x.x-index v.value c.loop-x-test.true)
+pub place_factor-place-requires-clause-weighs : goal.place_factor-place-requires-clause-weighs
+place_factor-place-requires-clause-weighs c =
+    place-weighs c.args.formed.now c.args.position (get_or c.of-x-items.result.now c.loop-x.x-index 0) (omega (arith, c.requires.next_in_bounds)) (item-in c.loop-x.x-index c.of-x-items.ensures.row c.loop-x-test.true)
 
 pub term_times-requires : goal.term_times-requires
 term_times-requires c =
-    let l = c.args.lent.now in
+    let f = c.args.formed.now in
+    let w = weights_of f.lent.weights in
     let r = c.requires in
-    let v = c.options-x-items.ensures in
     let i = c.args.position in
-    let h : i < length l.counts = omega (arith, r.next_in_bounds.0) in
-    let some : 0 < length l.counts = omega arith in
-    let x = get_or c.options-x-items.result.now c.loop-x.x-index 0 in
-    let m = item-in c.loop-x.x-index v.value c.loop-x-test.true in
-    let p = place-fit l some v.sound r.in_use i x h m in
-    let s = joined-sum-fit l some v.sound r.in_use i x c.args.next_row.now r.next_in_bounds.0 m r.next in
-    let sum : c.sum_terms-sum.result ≡ sum_terms (joined l.weights c.args.next_row.now x) (here l (i + 1)) = c.sum_terms-sum.ensures (joined l.weights c.args.next_row.now x) (λ k t g e. search rules) ∙ ap (sum_terms (joined l.weights c.args.next_row.now x)) c.options-next.ensures.value in
-    rw (c.place_factor.ensures, sum) (record {
+    let row = c.args.next_row.now in
+    let x = get_or c.of-x-items.result.now c.loop-x.x-index 0 in
+    let m = item-in c.loop-x.x-index c.of-x-items.ensures.row c.loop-x-test.true in
+    let p = place-fit f i x (omega (arith, r.next_in_bounds)) m in
+    let s = joined-sum-fit f i x row r.next_in_bounds m r.next in
+    let sum : c.sum_terms-sum.result ≡ sum_terms (joined w row x) (here f.lent (i + 1)) = c.sum_terms-sum.ensures (joined w row x) (λ k t g e. search rules) ∙ ap (sum_terms (joined w row x)) c.of-next.ensures.row in
+    rw (c.place_factor-place.ensures, sum) (record {
       normal = p.form;
       normal_2 = s.form;
       power_bound = (omega (arith, p.low), omega (arith, s.low));
     })
 
-pub bounds-row-from : goal.bounds-row-from
-bounds-row-from c =
-    let r = c.requires in
-    let v = c.options-x-items.ensures in
-    let known = known_of v.sound.searchable c.args.position (get_or c.options-x-items.result.now c.loop-x.x-index 0) (omega (arith, r.next_in_bounds.0)) (item-in c.loop-x.x-index v.value c.loop-x-test.true) in
-    let few = v.sound.searchable.few in
-    let e = c.from.ensures in
-    omega arith
-
 pub loop-x-preserved : goal.loop-x-preserved
 loop-x-preserved c =
-    let l = c.args.lent.now in
+    let f = c.args.formed.now in
+    let l = f.lent in
+    let w = weights_of l.weights in
     let r = c.requires in
-    let v = c.options-x-items.ensures in
     let i = c.args.position in
-    let h : i < length l.counts = omega (arith, r.next_in_bounds.0) in
-    let some : 0 < length l.counts = omega arith in
+    let h : i < length l.options.counts.now = omega (arith, r.next_in_bounds) in
+    let row = c.args.next_row.now in
     let k = c.loop-x.x-index in
-    let x = get_or c.options-x-items.result.now k 0 in
-    let known = known_of v.sound.searchable i x h (item-in k v.value c.loop-x-test.true) in
-    let few = v.sound.searchable.few in
-    let sum : c.sum_terms-sum.result ≡ sum_terms (joined l.weights c.args.next_row.now x) (here l (i + 1)) = c.sum_terms-sum.ensures (joined l.weights c.args.next_row.now x) (λ k t g e. search rules) ∙ ap (sum_terms (joined l.weights c.args.next_row.now x)) c.options-next.ensures.value in
+    let x = get_or c.of-x-items.result.now k 0 in
+    let known = known_of (searchable l) i x h (item-in k c.of-x-items.ensures.row c.loop-x-test.true) in
+    let few = (searchable l).few in
+    let sum : c.sum_terms-sum.result ≡ sum_terms (joined w row x) (here l (i + 1)) = c.sum_terms-sum.ensures (joined w row x) (λ k t g e. search rules) ∙ ap (sum_terms (joined w row x)) c.of-next.ensures.row in
     rw c.from.ensures (written-more (passed_at l i) (here l i) c.loop-x.row k x c.term_times.result (omega arith)
-    (ap (λ (xs : List ℕ). get_or xs k 0) v.value)
-    (c.term_times.ensures ∙ ap₂ times c.place_factor.ensures sum ∙ next-passed l some v.sound r.in_use i x c.args.next_row.now r.next_in_bounds.0 r.next) c.loop-x.invariant)
+    (ap (λ (xs : List ℕ). get_or xs k 0) c.of-x-items.ensures.row)
+    (c.term_times.ensures ∙ ap₂ times c.place_factor-place.ensures sum ∙ next-passed f i x row r.next_in_bounds r.next) c.loop-x.invariant)
 
 pub returns : goal.returns
-returns c = record { terms = written-all c.loop-x.invariant (let e = ap length c.options-x-items.ensures.value in let past = c.loop-x-test.false in omega arith) }
+returns c = record { terms = written-all c.loop-x.invariant (let e = ap length c.of-x-items.ensures.row in let past = c.loop-x-test.false in omega arith) }

@@ -1,9 +1,10 @@
 -- `count_options` meets its contract. Assumes nothing.
-use mathlib.Core.Path.{ap, ◌∙◌}
+use mathlib.Core.Path.{refl, ap, ◌∙◌}
 use Prim.Native.Nat.{ℕ, min}
+use Rattle.design.specs.Design.{model_of}
 use Rattle.design.proofs.Cells.{null-nowhere}
 use Rattle.design.proofs.Sizes.{sized}
-use Rattle.ensemble.proofs.Options.{product_is}
+use Rattle.ensemble.proofs.OptionRows.{product_is}
 use Rattle.prepared.proofs.options.count_options.Goals as goal
 
 pub fill_options-requires : goal.fill_options-requires
@@ -20,4 +21,4 @@ fill_options-requires c =
     }
 
 pub returns-clause-value : goal.returns-clause-value
-returns-clause-value c = c.state_count.ensures ∙ ap (λ (n : ℕ). min n 1048577) (product_is c.fill_options.ensures.option_rows)
+returns-clause-value c = c.state_count.ensures ∙ ap (λ (n : ℕ). min n 1048577) (product_is (c.fill_options.ensures.option_rows (model_of c.args.design.now) refl))

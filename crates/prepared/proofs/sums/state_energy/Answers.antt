@@ -11,7 +11,7 @@ use Rattle.prepared.proofs.Begun.{begun-is, ended_is, beside-next, sum_more, sum
 use Rattle.prepared.proofs.sums.state_energy.Goals as goal
 
 pub loop-position-init : goal.loop-position-init
-loop-position-init c = rw c.nobody-begun.ensures (c.requires.potentials_nonzero, λ m w v. (refl, inl refl))
+loop-position-init c = rw c.nobody-begun.ensures (c.requires.strands_nonzero, λ m w v. (refl, inl refl))
 
 pub begin-begun-requires : goal.begin-begun-requires
 begin-begun-requires c =
@@ -19,15 +19,13 @@ begin-begun-requires c =
     let p = c.requires in
     let l = c.loop-position in
     let here : l.position < length a.state.now = c.loop-position-test.true in
-    let room = row-end (length a.potentials.now) here in
-    let most = p.potentials_in_bounds_2 in
+    let room = row-end a.bonds.now.strand_bonds.strands here in
+    let most = p.a_row_each in
     record {
-      strand_in_bounds = l.invariant.0;
-      strand_in_bounds_2 = p.by_index l.position here;
-      potentials_len_bound = p.potentials_len_bound;
+      left_known = l.invariant.0;
+      strand_known = p.by_index l.position here;
       position_bound = omega arith;
-      potentials_in_bounds = p.potentials_in_bounds;
-      potentials_in_bounds_2 = omega arith;
+      a_row = omega arith;
     }
 
 pub loop-position-preserved : goal.loop-position-preserved

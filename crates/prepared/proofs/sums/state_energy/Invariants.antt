@@ -1,7 +1,7 @@
 -- The state energy meets its contract. The invariant: what is left to add, after the sum so far, gives the whole. Assumes nothing.
 use mathlib.Core.Path.{◌≡◌}
 use Prim.Native.Nat.{◌<◌}
-use lib.ListN.{length, drop}
+use lib.ListN.{drop}
 use Rattle.model.specs.Model.{Model, State}
 use Rattle.doubles.specs.Decimal.{zero}
 use Rattle.prepared.specs.inner.Sums.{sum_on, Beside}
@@ -10,6 +10,6 @@ use Rattle.prepared.proofs.sums.state_energy.Given as goal
 
 abbrev pub invariant-loop-position : goal.invariant-loop-position
 invariant-loop-position l =
-    (l.begun.strand < length l.potentials)
-    × ((m : Model) → StateCells m (length l.potentials) l.strand_bonds l.scaffold_bonds l.potentials → State m l.state
+    (l.begun.strand < l.bonds.strand_bonds.strands)
+    × ((m : Model) → StateCells m l.bonds.strand_bonds.strands l.bonds.strand_bonds.cells.now l.bonds.scaffold_bonds.now l.bonds.potentials.now → State m l.state
     → (sum_on m 0 0 zero l.state ≡ sum_on m l.position l.begun.strand l.begun.sum (drop l.position l.state)) × Beside m l.position l.begun.strand)

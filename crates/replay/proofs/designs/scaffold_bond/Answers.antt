@@ -1,11 +1,9 @@
 -- `replay::designs::scaffold_bond` meets its contract: the call has the definition's figures, and the rest of the line says them. Assumes nothing.
-use Rattle.std.proofs.Common.{ap, ◌∙◌, subst}
+use Rattle.std.proofs.Common.{ap, ◌∙◌}
 use Rattle.replay.specs.Kinds.{word, later}
 use Rattle.replay.proofs.Words.{as-decimal}
 use Rattle.replay.proofs.Tests.{never}
 use Rattle.replay.proofs.Figures.{says-as}
-use Rattle.design.specs.Design.{Design}
-use Rattle.replay.specs.Designs.{ScaffoldBondLine}
 use Rattle.replay.proofs.designs.scaffold_bond.Goals as goal
 
 pub returns-in_default : goal.returns-in_default
@@ -18,10 +16,10 @@ pub returns : goal.returns
 returns c = λ e.
     let told = c.mj_scaffold_bond-reply.ensures in
     let rest = c.past-rest.ensures in
-    subst (λ (d : Design). ScaffoldBondLine d c.args.words.now) c.design.view_is (record {
+    record {
       position = c.in-Some.position;
       strand = c.in-Some-small.strand;
       first = as-decimal c.up_to.ensures c.in-Some.ensures;
       second = as-decimal (c.up_to-2.ensures ∙ ap word rest) c.in-Some-small.ensures;
       answer = says-as (c.past.ensures ∙ ap later rest) told.number (rw (c.bits.ensures, told.figure)) (c.says.ensures e);
-    })
+    }

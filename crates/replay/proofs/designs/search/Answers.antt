@@ -1,9 +1,7 @@
 -- `replay::designs::search` meets its contract: the call has the definition's figures, and the rest of the line says them. Assumes nothing.
-use Rattle.std.proofs.Common.{refl, subst}
+use Rattle.std.proofs.Common.{refl}
 use Rattle.replay.proofs.Figures.{says-as}
-use Rattle.design.specs.Design.{Design}
-use Rattle.replay.specs.Designs.{SearchLine}
 use Rattle.replay.proofs.designs.search.Goals as goal
 
 pub returns : goal.returns
-returns c = λ e. let told = c.mj_search-reply.ensures.told in subst (λ (d : Design). SearchLine d c.args.words.now c.args.places.now) c.design.view_is (says-as refl told.number (rw (c.bits.ensures, told.figure)) (c.says.ensures e))
+returns c = λ e. let told = c.mj_search-reply.ensures.told in says-as refl told.number (rw (c.bits.ensures, told.figure)) (c.says.ensures e)

@@ -1,9 +1,7 @@
 -- `replay::designs::settled` meets its contract: the call has the definition's figures, and the rest of the line says them. Assumes nothing.
-use Rattle.std.proofs.Common.{refl, subst}
+use Rattle.std.proofs.Common.{refl}
 use Rattle.replay.proofs.Letters.{places-as}
-use Rattle.design.specs.Design.{Design}
-use Rattle.replay.specs.Designs.{SettledLine}
 use Rattle.replay.proofs.designs.settled.Goals as goal
 
 pub returns : goal.returns
-returns c = λ e. let answer = c.mj_search-reply.ensures in subst (λ (d : Design). SettledLine d c.args.words.now c.args.places.now) c.design.view_is (places-as refl answer.told.number answer.configuration_after (c.says_places.ensures e))
+returns c = λ e. let answer = c.mj_search-reply.ensures in places-as refl answer.told.number answer.configuration_after (c.says_places.ensures e)

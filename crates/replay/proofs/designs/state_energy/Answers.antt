@@ -1,10 +1,8 @@
 -- `replay::designs::state_energy` meets its contract: the call has the definition's figures, and the rest of the line says them. Assumes nothing.
-use Rattle.std.proofs.Common.{sym, ap, ◌∙◌, subst}
+use Rattle.std.proofs.Common.{sym, ap, ◌∙◌}
 use Rattle.replay.specs.Kinds.{letters}
 use Rattle.replay.proofs.Tests.{never}
 use Rattle.replay.proofs.Figures.{says-as}
-use Rattle.design.specs.Design.{Design}
-use Rattle.replay.specs.Designs.{StateEnergyLine}
 use Rattle.replay.proofs.designs.state_energy.Goals as goal
 
 pub returns-then-not-is_places : goal.returns-then-not-is_places
@@ -13,7 +11,7 @@ returns-then-not-is_places c = λ e. never e
 pub returns : goal.returns
 returns c = λ e.
     let told = c.mj_state_energy-reply.ensures in
-    subst (λ (d : Design). StateEnergyLine d c.args.words.now c.args.configuration.now) c.design.view_is (record {
+    record {
       first = ap letters (sym c.up_to.ensures) ∙ c.is_places.ensures c.if-not-is_places.false;
       answer = says-as c.past.ensures told.number (rw (c.bits.ensures, told.figure)) (c.says.ensures e);
-    })
+    }

@@ -1,8 +1,15 @@
--- `replay::numbers::is_decimal` meets its contract: the word is what `put_decimal` writes. Assumes nothing.
-use Rattle.std.proofs.Common.{◌∙◌}
+-- `replay::numbers::is_decimal` meets its contract: the word is what `write_count` writes. Assumes nothing.
+use Rattle.std.proofs.Common.{refl, ◌∙◌, arith}
+use Rattle.decimals.specs.Digits.{places}
+use Rattle.decimals.proofs.Written.{decimal-is}
+use Rattle.replay.proofs.Fewest.{places-fewest}
 use Rattle.replay.proofs.numbers.is_decimal.Goals as goal
 
-pub returns : goal.returns
-returns c = λ e.
-    let d = c.put_decimal-n in
-    record { places = d.result; fewest = d.ensures.fewest; written = c.same.ensures.0 e ∙ d.ensures.digits }
+pub returns-in-Ok : goal.returns-in-Ok
+returns-in-Ok c = λ e.
+    let x = c.args.x in
+    record {
+      places = places 10 19 x;
+      fewest = places-fewest 19 x (omega (arith, c.ranges.x.fits));
+      written = c.same.ensures.0 e ∙ c.in-Ok.ensures.front.1 ∙ decimal-is x (places 10 19 x) refl;
+    }

@@ -1,7 +1,7 @@
 -- `replay::parts::mark_place` meets its contract. Assumes nothing.
 use Rattle.std.proofs.Common.{eqb, refl}
 use Rattle.lists.proofs.Find.{first-le}
-use Rattle.decimals.proofs.Worth.{position_first}
+use Rattle.lists.proofs.Searches.{position_first}
 use Rattle.replay.proofs.parts.mark_place.Goals as goal
 
 pub returns : goal.returns

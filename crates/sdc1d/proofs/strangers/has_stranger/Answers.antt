@@ -7,7 +7,7 @@ use Rattle.std.proofs.lemmas.Iterator.{YieldsList-from_range}
 use Rattle.std.proofs.lemmas.Iterator.Search.{any_from_yields_List}
 use Rattle.design.specs.Design.{strands}
 use Rattle.design.specs.Checks.{stranger, strangers}
-use Rattle.design.proofs.Searches.{any_up_to_is}
+use Rattle.lists.proofs.Searches.{any_up_to_is}
 use Rattle.sdc1d.proofs.strangers.has_stranger.Goals as goal
 
 pub returns : goal.returns
@@ -16,4 +16,4 @@ returns c =
     let d = c.args.design.now in
     let test = stranger d.scaffold d.marks d.glues d.dg d.ds (strands d) c.args.configuration.now in
     let found : c.any.result ≡ list_any test (range_with_len 0 c.positions.result) = any_from_yields_List test _ _ c.any.result c.any.ensures.ran (YieldsList-from_range 0 c.positions.result c.positions.result refl (omega arith)) (λ x b q k. search (rules, tests)) in
-    rw (sym c.positions.ensures) (found ∙ sym (any_up_to_is test c.positions.result))
+    rw (sym c.positions.ensures) (found ∙ any_up_to_is test c.positions.result)

@@ -12,17 +12,12 @@ use Rattle.sdc1d_params.specs.Entries.{same_pair}
 use Rattle.sdc1d_params.specs.Tables.{duplicated}
 use Rattle.sdc1d_params.specs.inner.Cells.{mark_both, is_marked}
 use Rattle.sdc1d_params.proofs.Pairs.{duplicated-more, duplicated-found}
-use Rattle.sdc1d_params.proofs.Marked.{seen-length, marked-is, nth, listed}
+use Rattle.sdc1d_params.proofs.Marked.{marked-is, nth, listed}
 use Rattle.sdc1d_params.proofs.cells.any_repeated.Goals as goal
 
 pub loop-cell-init : goal.loop-cell-init
 unfolding duplicated tabulate foldl
 loop-cell-init c = (refl, refl)
-
-pub is_marked-requires : goal.is_marked-requires
-is_marked-requires c =
-    let l = c.loop-cell in
-    (ap length l.invariant.0 ∙ seen-length (nth c.args.cells.now) l.cell-index, (c.requires l.cell-index (omega arith)).0, (c.requires l.cell-index (omega arith)).1)
 
 pub returns-then-is_marked : goal.returns-then-is_marked
 returns-then-is_marked c =
@@ -31,11 +26,6 @@ returns-then-is_marked c =
     let i = l.cell-index in
     let met : any (same_pair (f i)) (tabulate i f) ≡ true = sym (marked-is f i (λ k h. c.requires k (omega arith)) (c.requires i (omega arith))) ∙ ap (λ (s : List Bool). is_marked s (f i)) (sym l.invariant.0) ∙ sym c.is_marked.ensures ∙ c.if-is_marked.true in
     sym (ap duplicated (listed c.args.cells.now) ∙ duplicated-found f (length c.args.cells.now) i (omega arith) met)
-
-pub mark_both-requires : goal.mark_both-requires
-mark_both-requires c =
-    let l = c.loop-cell in
-    (ap length l.invariant.0 ∙ seen-length (nth c.args.cells.now) l.cell-index, (c.requires l.cell-index (omega arith)).0, (c.requires l.cell-index (omega arith)).1)
 
 pub loop-cell-preserved : goal.loop-cell-preserved
 loop-cell-preserved c =

@@ -1,15 +1,9 @@
 -- `sdc1d_params::unfit_energy` meets its contract. Assumes nothing.
 use mathlib.Core.Path.{◌≡◌, sym, ◌∙◌}
-use mathlib.Core.Bool.{true, false}
+use mathlib.Core.Bool.{false}
 use Rattle.sdc_common.specs.Lent.{leaves}
 use Rattle.sdc1d_params.proofs.Sequences.{long-as-lent}
 use Rattle.sdc1d_params.proofs.entries.unfit_energy.Goals as goal
-
-pub returns-then-leaves : goal.returns-then-leaves
-returns-then-leaves c =
-    let v = c.in-Sequence in
-    let out : leaves c.args.text.now v.start v.length ≡ true = sym c.leaves.ensures ∙ c.if-leaves.true in
-    rw c.in-Sequence.is (simp out c.if-leaves.true)
 
 pub returns-else-leaves : goal.returns-else-leaves
 returns-else-leaves c =

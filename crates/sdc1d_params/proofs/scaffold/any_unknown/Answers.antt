@@ -1,9 +1,9 @@
-use mathlib.Core.Path.{◌≡◌, refl, sym, ap, ◌∙◌}
-use Prim.Native.Nat.{ℕ, ◌/◌}
+use mathlib.Core.Path.{refl, sym, ap, ◌∙◌}
+use Prim.Native.Nat.{◌/◌}
 use native.Mathlib.Omega.{arith}
 use lib.ListN.{length, get_or}
 use Rattle.lists.specs.Find.{any}
-use Rattle.lists.specs.Build.{tabulate, up_to}
+use Rattle.lists.specs.Build.{tabulate}
 use Rattle.lists.proofs.Counted.{any-more, any_found}
 use Rattle.sdc_common.specs.Lent.{glue_of}
 use Rattle.sdc_common.specs.declared.names.LentName.{LentName}
@@ -13,15 +13,6 @@ use Rattle.sdc1d_params.proofs.scaffold.any_unknown.Goals as goal
 pub loop-i-init : goal.loop-i-init
 unfolding any tabulate
 loop-i-init c = refl
-
-pub is_unknown-requires : goal.is_unknown-requires
-is_unknown-requires c =
-    let i = c.loop-i.i in
-    let many = c.rows-row-items.ensures.len in
-    rw (c.from.ensures ∙ c.rows-row-items.ensures.by_index i (omega arith)) (c.requires.fit_names i (omega arith))
-
-pub bounds-numbers-i : goal.bounds-numbers-i
-bounds-numbers-i c = let many = c.rows-row-items.ensures.len in let m = c.requires.numbers_len in omega arith
 
 pub returns-then-is_unknown : goal.returns-then-is_unknown
 returns-then-is_unknown c =
@@ -38,10 +29,3 @@ loop-i-preserved c =
     let many = c.rows-row-items.ensures.len in
     let said = ap (λ (n : LentName). unknown_by (get_or a.numbers.now i 0) (glue_of a.text.now n)) (c.from.ensures ∙ c.rows-row-items.ensures.by_index i (omega arith)) in
     any-more (unknown_at a.text.now a.scaffold.now a.numbers.now) (λ j. j) i c.loop-i.invariant (sym said ∙ sym c.is_unknown.ensures ∙ c.if-is_unknown.false)
-
-pub returns : goal.returns
-returns c =
-    let a = c.args in
-    let many = c.rows-row-items.ensures.len in
-    let end : c.loop-i.i ≡ length a.scaffold.now / 3 = omega arith in
-    sym (ap (λ (k : ℕ). any (unknown_at a.text.now a.scaffold.now a.numbers.now) (up_to k)) (sym end) ∙ c.loop-i.invariant)

@@ -1,72 +1,63 @@
 -- `sdc1d_params::wrong_size` meets its contract: each test is one of the definition. Assumes nothing.
-use mathlib.Core.Path.{◌≡◌, sym, ◌∙◌}
-use mathlib.Core.Bool.{true, false}
+use mathlib.Core.Path.{◌≡◌, refl, sym, ◌∙◌}
+use mathlib.Core.Bool.{◌||◌}
 use lib.ListN.{length}
-use Rattle.sdc_common.specs.Lent.{names_of, unfit_names}
+use Rattle.sdc_common.specs.Lent.{unfit_names}
 use Rattle.sdc_common.specs.Calls.{unfit_strands}
-use Rattle.sdc_common.proofs.Fit.{few-strands}
-use Rattle.sdc1d_params.specs.Entries.{entries_of, unfit_entries}
-use Rattle.sdc1d_params.specs.Params.{Outcome, params_of, lent_of, unfit_copied}
-use Rattle.sdc1d_params.proofs.Lengths.{size-looked}
+use Rattle.sdc1d_params.specs.inner.Set.{set_of, as_lent}
+use Rattle.sdc1d_params.specs.Params.{unfit_copied, unfit_lent}
+use Rattle.sdc1d_params.proofs.Lengths.{size-looked, joined, passed-on}
 use Rattle.sdc1d_params.proofs.sizes.wrong_size.Goals as goal
-
-pub returns-then-unfit_strands : goal.returns-then-unfit_strands
-returns-then-unfit_strands c =
-    let a = c.args in
-    let lent : Outcome = lent_of a.strand_glues.now a.scaffold_glues.now a.dg.now a.ds.now in
-    let e0 : unfit_strands a.set.now.users a.set.now.text.now (names_of a.set.now.strands.now) ≡ true = sym c.unfit_strands.ensures ∙ c.if-unfit_strands.true in
-    rw (size-looked (params_of a.set.now.text.now a.set.now.users a.set.now.strands.now a.set.now.scaffold.now a.set.now.entries.now a.set.now.energies.now a.set.now.penalty a.set.now.copies) lent c.requires, e0)
-
-pub returns-then-unfit_names : goal.returns-then-unfit_names
-returns-then-unfit_names c =
-    let a = c.args in
-    let lent : Outcome = lent_of a.strand_glues.now a.scaffold_glues.now a.dg.now a.ds.now in
-    let e0 : unfit_strands a.set.now.users a.set.now.text.now (names_of a.set.now.strands.now) ≡ false = sym c.unfit_strands.ensures ∙ c.if-unfit_strands.false in
-    let e1 : unfit_names (length a.scaffold_glues.now) a.set.now.text.now (names_of a.set.now.scaffold.now) ≡ true = sym c.unfit_names.ensures ∙ c.if-unfit_names.true in
-    rw (size-looked (params_of a.set.now.text.now a.set.now.users a.set.now.strands.now a.set.now.scaffold.now a.set.now.entries.now a.set.now.energies.now a.set.now.penalty a.set.now.copies) lent c.requires, e0, e1)
-
-pub returns-then-unfit_entries : goal.returns-then-unfit_entries
-returns-then-unfit_entries c =
-    let a = c.args in
-    let lent : Outcome = lent_of a.strand_glues.now a.scaffold_glues.now a.dg.now a.ds.now in
-    let e0 : unfit_strands a.set.now.users a.set.now.text.now (names_of a.set.now.strands.now) ≡ false = sym c.unfit_strands.ensures ∙ c.if-unfit_strands.false in
-    let e1 : unfit_names (length a.scaffold_glues.now) a.set.now.text.now (names_of a.set.now.scaffold.now) ≡ false = sym c.unfit_names.ensures ∙ c.if-unfit_names.false in
-    let e2 : unfit_entries a.set.now.text.now (entries_of a.set.now.entries.now a.set.now.energies.now) ≡ true = sym c.unfit_entries.ensures ∙ c.if-unfit_entries.true in
-    rw (size-looked (params_of a.set.now.text.now a.set.now.users a.set.now.strands.now a.set.now.scaffold.now a.set.now.entries.now a.set.now.energies.now a.set.now.penalty a.set.now.copies) lent c.requires, e0, e1, e2)
-
-pub returns-then-unfit_copied : goal.returns-then-unfit_copied
-returns-then-unfit_copied c =
-    let a = c.args in
-    let lent : Outcome = lent_of a.strand_glues.now a.scaffold_glues.now a.dg.now a.ds.now in
-    let e0 : unfit_strands a.set.now.users a.set.now.text.now (names_of a.set.now.strands.now) ≡ false = sym c.unfit_strands.ensures ∙ c.if-unfit_strands.false in
-    let e1 : unfit_names (length a.scaffold_glues.now) a.set.now.text.now (names_of a.set.now.scaffold.now) ≡ false = sym c.unfit_names.ensures ∙ c.if-unfit_names.false in
-    let e2 : unfit_entries a.set.now.text.now (entries_of a.set.now.entries.now a.set.now.energies.now) ≡ false = sym c.unfit_entries.ensures ∙ c.if-unfit_entries.false in
-    let e3 : unfit_copied a.set.now.users a.set.now.copies.quencher ≡ true = sym c.unfit_copied.ensures ∙ c.if-unfit_copied.true in
-    rw (size-looked (params_of a.set.now.text.now a.set.now.users a.set.now.strands.now a.set.now.scaffold.now a.set.now.entries.now a.set.now.energies.now a.set.now.penalty a.set.now.copies) lent c.requires, e0, e1, e2, e3)
+use Rattle.sdc1d_params.proofs.sizes.wrong_size.Goals.{then-unfit_strands, else-unfit_strands, then-unfit_names, else-unfit_names, then-unfit_copied, else-unfit_copied}
 
 pub returns-then-unfit_copied-2 : goal.returns-then-unfit_copied-2
 returns-then-unfit_copied-2 c =
     let a = c.args in
-    let lent : Outcome = lent_of a.strand_glues.now a.scaffold_glues.now a.dg.now a.ds.now in
-    let e0 : unfit_strands a.set.now.users a.set.now.text.now (names_of a.set.now.strands.now) ≡ false = sym c.unfit_strands.ensures ∙ c.if-unfit_strands.false in
-    let e1 : unfit_names (length a.scaffold_glues.now) a.set.now.text.now (names_of a.set.now.scaffold.now) ≡ false = sym c.unfit_names.ensures ∙ c.if-unfit_names.false in
-    let e2 : unfit_entries a.set.now.text.now (entries_of a.set.now.entries.now a.set.now.energies.now) ≡ false = sym c.unfit_entries.ensures ∙ c.if-unfit_entries.false in
-    let e3 : unfit_copied a.set.now.users a.set.now.copies.quencher ≡ false = sym c.unfit_copied.ensures ∙ c.if-unfit_copied.false in
-    let e4 : unfit_copied a.set.now.users a.set.now.copies.reporter ≡ true = sym c.unfit_copied-2.ensures ∙ c.if-unfit_copied-2.true in
-    rw (size-looked (params_of a.set.now.text.now a.set.now.users a.set.now.strands.now a.set.now.scaffold.now a.set.now.entries.now a.set.now.energies.now a.set.now.penalty a.set.now.copies) lent c.requires, e0, e1, e2, e3, e4)
+    let p = set_of a.set.now in
+    let lent = as_lent a.lent.now in
+    let strands = unfit_strands p.users p.text p.strands in
+    let names = unfit_names (length lent.scaffold_glues) p.text p.scaffold in
+    let quencher = unfit_copied p.users p.quencher in
+    let reporter = unfit_copied p.users p.reporter in
+    let two : c.if-unfit_strands.value ≡ (strands || names) =
+    elim c.if-unfit_strands.branch [
+      | then-unfit_strands w ↦ joined names (sym c.unfit_strands.ensures) w.if-unfit_strands.true w.value-is
+      | else-unfit_strands w ↦ passed-on (sym c.unfit_strands.ensures) w.if-unfit_strands.false (w.value-is ∙ w.unfit_names.ensures)
+    ] in
+    let three : c.if-unfit_names.value ≡ (strands || names || quencher) =
+    elim c.if-unfit_names.branch [
+      | then-unfit_names w ↦ joined quencher (sym two) w.if-unfit_names.true w.value-is
+      | else-unfit_names w ↦ passed-on (sym two) w.if-unfit_names.false (w.value-is ∙ w.unfit_copied.ensures)
+    ] in
+    let four : c.if-unfit_copied.value ≡ (strands || names || quencher || reporter) =
+    elim c.if-unfit_copied.branch [
+      | then-unfit_copied w ↦ joined reporter (sym three) w.if-unfit_copied.true w.value-is
+      | else-unfit_copied w ↦ passed-on (sym three) w.if-unfit_copied.false (w.value-is ∙ w.unfit_copied-else-unfit_copied.ensures)
+    ] in
+    joined (unfit_lent p lent) (sym four) c.if-unfit_copied-2.true refl ∙ sym (size-looked p lent c.requires a.set.now.fit)
 
-pub unfit_lengths-requires : goal.unfit_lengths-requires
-unfit_lengths-requires c =
+pub returns-else-unfit_copied-2 : goal.returns-else-unfit_copied-2
+returns-else-unfit_copied-2 c =
     let a = c.args in
-    few-strands a.set.now.users a.set.now.text.now (names_of a.set.now.strands.now) (sym c.unfit_strands.ensures ∙ c.if-unfit_strands.false)
-
-pub returns : goal.returns
-returns c =
-    let a = c.args in
-    let lent : Outcome = lent_of a.strand_glues.now a.scaffold_glues.now a.dg.now a.ds.now in
-    let e0 : unfit_strands a.set.now.users a.set.now.text.now (names_of a.set.now.strands.now) ≡ false = sym c.unfit_strands.ensures ∙ c.if-unfit_strands.false in
-    let e1 : unfit_names (length a.scaffold_glues.now) a.set.now.text.now (names_of a.set.now.scaffold.now) ≡ false = sym c.unfit_names.ensures ∙ c.if-unfit_names.false in
-    let e2 : unfit_entries a.set.now.text.now (entries_of a.set.now.entries.now a.set.now.energies.now) ≡ false = sym c.unfit_entries.ensures ∙ c.if-unfit_entries.false in
-    let e3 : unfit_copied a.set.now.users a.set.now.copies.quencher ≡ false = sym c.unfit_copied.ensures ∙ c.if-unfit_copied.false in
-    let e4 : unfit_copied a.set.now.users a.set.now.copies.reporter ≡ false = sym c.unfit_copied-2.ensures ∙ c.if-unfit_copied-2.false in
-    rw (size-looked (params_of a.set.now.text.now a.set.now.users a.set.now.strands.now a.set.now.scaffold.now a.set.now.entries.now a.set.now.energies.now a.set.now.penalty a.set.now.copies) lent c.requires, e0, e1, e2, e3, e4) c.unfit_lengths.ensures
+    let p = set_of a.set.now in
+    let lent = as_lent a.lent.now in
+    let strands = unfit_strands p.users p.text p.strands in
+    let names = unfit_names (length lent.scaffold_glues) p.text p.scaffold in
+    let quencher = unfit_copied p.users p.quencher in
+    let reporter = unfit_copied p.users p.reporter in
+    let two : c.if-unfit_strands.value ≡ (strands || names) =
+    elim c.if-unfit_strands.branch [
+      | then-unfit_strands w ↦ joined names (sym c.unfit_strands.ensures) w.if-unfit_strands.true w.value-is
+      | else-unfit_strands w ↦ passed-on (sym c.unfit_strands.ensures) w.if-unfit_strands.false (w.value-is ∙ w.unfit_names.ensures)
+    ] in
+    let three : c.if-unfit_names.value ≡ (strands || names || quencher) =
+    elim c.if-unfit_names.branch [
+      | then-unfit_names w ↦ joined quencher (sym two) w.if-unfit_names.true w.value-is
+      | else-unfit_names w ↦ passed-on (sym two) w.if-unfit_names.false (w.value-is ∙ w.unfit_copied.ensures)
+    ] in
+    let four : c.if-unfit_copied.value ≡ (strands || names || quencher || reporter) =
+    elim c.if-unfit_copied.branch [
+      | then-unfit_copied w ↦ joined reporter (sym three) w.if-unfit_copied.true w.value-is
+      | else-unfit_copied w ↦ passed-on (sym three) w.if-unfit_copied.false (w.value-is ∙ w.unfit_copied-else-unfit_copied.ensures)
+    ] in
+    passed-on (sym four) c.if-unfit_copied-2.false c.unfit_lengths.ensures ∙ sym (size-looked p lent c.requires a.set.now.fit)

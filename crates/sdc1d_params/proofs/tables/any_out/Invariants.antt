@@ -8,4 +8,4 @@ use Rattle.sdc1d_params.specs.inner.Cells.{write_at}
 use Rattle.sdc1d_params.proofs.tables.any_out.Given as goal
 
 abbrev pub invariant-loop-i : goal.invariant-loop-i
-invariant-loop-i l = any out_of_range (tabulate l.i (write_at l.text l.entries l.energies l.penalty.dg.0 l.penalty.ds.0 l.cells)) ≡ false
+invariant-loop-i l = any out_of_range (tabulate l.i (write_at l.set.text.now l.set.entries.now l.set.energies.now l.set.penalty.dg.0 l.set.penalty.ds.0 l.cells)) ≡ false

@@ -29,7 +29,7 @@ unfolding out_of_range
 returns-then-not-in_range c =
     let a = c.args in
     let written : is_written a.cell ≡ true = sym c.is_written.ensures ∙ c.if-is_written.true in
-    let out : dg_in_range a.gs.dg.0 ≡ false = dg-range _ ∙ sym c.in_range.ensures ∙ not-true _ c.if-not-in_range.true-raw in
+    let out : dg_in_range a.sum.dg.0 ≡ false = dg-range _ ∙ sym c.in_range.ensures ∙ not-true _ c.if-not-in_range.true-raw in
     rw (written, out) c.if-not-in_range.true-raw
 
 pub returns-else-not-in_range : goal.returns-else-not-in_range
@@ -37,6 +37,6 @@ unfolding out_of_range
 returns-else-not-in_range c =
     let a = c.args in
     let written : is_written a.cell ≡ true = sym c.is_written.ensures ∙ c.if-is_written.true in
-    let in-dg : dg_in_range a.gs.dg.0 ≡ true = dg-range _ ∙ sym c.in_range.ensures ∙ not-false _ c.if-not-in_range.false-raw in
-    let said : c.in_range-else-not-in_range.result ≡ ds_in_range a.gs.ds.0 = c.in_range-else-not-in_range.ensures ∙ sym (ds-range _) in
+    let in-dg : dg_in_range a.sum.dg.0 ≡ true = dg-range _ ∙ sym c.in_range.ensures ∙ not-false _ c.if-not-in_range.false-raw in
+    let said : c.in_range-else-not-in_range.result ≡ ds_in_range a.sum.ds.0 = c.in_range-else-not-in_range.ensures ∙ sym (ds-range _) in
     rw (written, in-dg) (ap not said)

@@ -1,15 +1,11 @@
-use mathlib.Core.Path.{◌≡◌, sym, ap, ◌∙◌}
+use mathlib.Core.Path.{◌≡◌, ap, ◌∙◌}
 use Prim.Native.Nat.{ℕ, ◌+◌, ◌-◌}
 use native.Mathlib.Omega.{arith}
 use lib.ListN.{take}
-use lib.Seq.{take-length}
 use Rattle.sdc_common.specs.Names.{base_length}
 use Rattle.sdc_common.proofs.Bases.{base-none, strip-star, strip-none}
 use Rattle.sdc_common.proofs.Held.{base-is, no-base}
 use Rattle.sdc_common.proofs.names.base_of.Goals as goal
-
-pub loop-last-init : goal.loop-last-init
-loop-last-init c = rw take-length
 
 pub returns-then-name-last-ne42 : goal.returns-then-name-last-ne42
 returns-then-name-last-ne42 c =

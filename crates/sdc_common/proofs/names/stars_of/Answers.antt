@@ -1,5 +1,5 @@
 -- `sdc_common::stars_of` meets its contract: the stars are what the base lacks. Assumes nothing.
-use mathlib.Core.Path.{ap, ◌∙◌}
+use mathlib.Core.Path.{ap}
 use native.Mathlib.Omega.{arith}
 use lib.ListN.{length}
 use Rattle.sdc_common.specs.Names.{stars_of}

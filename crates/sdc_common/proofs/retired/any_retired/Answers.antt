@@ -14,12 +14,6 @@ pub loop-row-init : goal.loop-row-init
 unfolding any tabulate
 loop-row-init c = refl
 
-pub is_retired-requires : goal.is_retired-requires
-is_retired-requires c =
-    let i = c.loop-row.row-index in
-    let many = c.rows-row-items.ensures.len in
-    rw (c.from.ensures ∙ c.rows-row-items.ensures.by_index i (omega arith)) (c.requires i (omega arith))
-
 pub returns-then-is_retired : goal.returns-then-is_retired
 returns-then-is_retired c =
     let a = c.args in

@@ -1,11 +1,7 @@
 -- `sdc_common::is_retired` meets its contract: an absent name has no stars. Assumes nothing.
-use mathlib.Core.Path.{sym, ap, ◌∙◌}
+use mathlib.Core.Path.{ap, ◌∙◌}
 use lib.Dec.{leb}
-use denote.Ref.{Bor}
-use Rattle.std.specs.Prelude.{Option}
-use Rattle.sdc_common.specs.Names.{Name}
 use Rattle.sdc_common.specs.Lent.{is_retired_glue}
-use Rattle.sdc_common.specs.inner.Table.{glue}
 use Rattle.sdc_common.proofs.retired.is_retired.Goals as goal
 
 pub returns-in-None : goal.returns-in-None

@@ -7,4 +7,4 @@ use Rattle.sheet.specs.Once.{is_named}
 use Rattle.sheet.proofs.once.strand_named.Given as goal
 
 abbrev pub invariant-loop-k : goal.invariant-loop-k
-invariant-loop-k l = first_index (is_named l.text l.rows l.name) l.chosen ≡ l.k + first_index (is_named l.text l.rows l.name) (drop l.k l.chosen)
+invariant-loop-k l = first_index (is_named l.text l.strands.rows.now l.name) l.strands.places.now ≡ l.k + first_index (is_named l.text l.strands.rows.now l.name) (drop l.k l.strands.places.now)

@@ -5,16 +5,11 @@ use native.Mathlib.Omega.{arith}
 use lib.ListN.{length, drop, take}
 use lib.Seq.{take-nil}
 use Rattle.lists.specs.Front.{over}
-use Rattle.lists.proofs.Front.{front-none, front-step, front_same, front-whole}
+use Rattle.lists.proofs.Front.{front-step, front_same, front-whole}
 use Rattle.sheet.specs.Rows.{places_from, laid}
 use Rattle.sheet.proofs.Chosen.{chosen-here, chosen-later, chosen-past}
 use Rattle.sheet.proofs.Fill.{take_next}
 use Rattle.sheet.proofs.rows.rows_of.Goals as goal
-
-pub loop-i-init : goal.loop-i-init
-loop-i-init c =
-    let all : length c.args.chosen.now - 0 ≡ length c.args.chosen.now = omega arith in
-    (omega arith, rw all (front-none _ _))
 
 pub loop-i-preserved : goal.loop-i-preserved
 loop-i-preserved c =

@@ -7,9 +7,6 @@ use Rattle.statements.specs.Words.{words_in}
 use Rattle.statements.proofs.Fitting.{fit-done, fit-fault, fit-more}
 use Rattle.statements.proofs.statement.fit.Goals as goal
 
-pub loop-word-init : goal.loop-word-init
-loop-word-init c = (omega arith, omega arith, rw (c.blank-row.ensures, c.end-at.ensures))
-
 pub returns-in_err-row : goal.returns-in_err-row
 returns-in_err-row c =
     let l = c.loop-word in
@@ -20,13 +17,6 @@ returns-in_err-row c =
     ∙ sym (l.invariant.2
     ∙ fit-fault line c.args.key l.place l.row c.item_at.result c.item_at.ensures.value (words_in line l.at) word (words_in line (word.start + word.size))
     c.in-Some.ensures.more c.bytes.result.now c.bytes.ensures c.accept.result c.accept.ensures c.in_err-row.field-0.0 c.in_err-row.was)
-
-pub overflow_add-place : goal.overflow_add-place
-overflow_add-place c =
-    let inside = c.in-Some.ensures.inside in
-    let on = c.in-Some.ensures.on in
-    let some = c.in-Some.ensures.some in
-    search rules
 
 pub loop-word-preserved : goal.loop-word-preserved
 loop-word-preserved c =

@@ -1,4 +1,4 @@
-use mathlib.Core.Path.{sym, ◌∙◌}
+use mathlib.Core.Path.{◌∙◌}
 use native.Mathlib.Omega.{arith}
 use borrow.Author.Rules.{rules}
 use borrow.Author.Tests.{tests}
@@ -8,11 +8,6 @@ use mathlib.Core.Bool.{true}
 use lib.ListN.{get_or}
 use Rattle.statements.proofs.Bytes.{blank-on, words-past}
 use Rattle.statements.proofs.words.after_blanks.Goals as goal
-
-pub returns-then-not-is_blank : goal.returns-then-not-is_blank
-returns-then-not-is_blank c =
-    let l = c.loop-i in
-    record { on = omega arith; inside = omega arith; same = l.invariant; other = sym c.is_blank.ensures ∙ c.if-not-is_blank.true }
 
 pub loop-i-preserved : goal.loop-i-preserved
 loop-i-preserved c =

@@ -2,7 +2,7 @@
 use mathlib.Core.Path.{◌∙◌}
 use native.Mathlib.Omega.{arith}
 use Rattle.logarithm.specs.Figure.{fixed}
-use Rattle.logarithm.proofs.Double.{held, unit-is}
+use Rattle.logarithm.proofs.Double.{unit-is}
 use Rattle.utils.proofs.LoopCode.{own_at, base-at, between-at}
 use Rattle.utils.proofs.tables.loop_energy.Goals as goal
 
@@ -14,9 +14,6 @@ pub loop_units-requires : goal.loop_units-requires
 loop_units-requires c =
     let b = base-at c.args.length c.entry_up_to-at.result c.entry_up_to-at.ensures.1 (omega arith) (omega arith) c.if-base-length.false in
     (c.loop_tenths-tenths.ensures.1, b.0, b.1, omega arith)
-
-pub int_to_float-result : goal.int_to_float-result
-int_to_float-result c = held c.loop_units.result c.loop_units.ensures.1
 
 pub returns : goal.returns
 unfolding fixed

@@ -7,11 +7,6 @@ use Rattle.utils.specs.Figures.{loop_rows}
 use Rattle.utils.proofs.Loops.{tenths-in-row, tenths-small, narrow}
 use Rattle.utils.proofs.tables.loop_tenths.Goals as goal
 
-pub overflow_cast-result : goal.overflow_cast-result
-unfolding loop_rows keep table4
-overflow_cast-result c =
-    rw (tenths-in-row c.args.kind c.index-row.result c.args.at c.index-row.ensures.0 (omega arith), narrow c.args.kind c.args.at) (tt, omega (arith, tenths-small c.args.kind c.args.at))
-
 pub returns : goal.returns
 unfolding loop_rows keep table4
 returns c =

@@ -1,5 +1,5 @@
 -- Choices that are not yet made are all 0. Assumes nothing.
-use Rattle.ensemble.proofs.Lent.{table-zeros, choice-zeros}
+use Rattle.ensemble.proofs.LentParts.{table-zeros, choice-zeros}
 use Rattle.ensemble.proofs.choices.Choices.new.Goals as goal
 
 pub invariant_of-result : goal.invariant_of-result

@@ -1,4 +1,4 @@
-use mathlib.Core.Path.{◌≡◌, sym, ap, ◌∙◌}
+use mathlib.Core.Path.{sym, ap, ◌∙◌}
 use mathlib.Core.List.{map}
 use Prim.Native.Nat.{ℕ, ◌/◌}
 use native.Mathlib.Omega.{arith}
@@ -12,22 +12,6 @@ use Rattle.sdc_common.proofs.table.BaseTable.fill_glues.Goals as goal
 
 pub loop-i-init : goal.loop-i-init
 loop-i-init c = let a = c.args in stored-none (λ (k : ℕ). glue_number a.self.now (glue_at a.text.now a.names.now k)) a.glues.now
-
-pub bytes-requires : goal.bytes-requires
-bytes-requires c =
-    let i = c.loop-i.i in
-    let many = c.rows-row-items.ensures.len in
-    rw (c.from.ensures ∙ c.rows-row-items.ensures.by_index i (omega arith)) (c.requires.fit_names i (omega arith))
-
-pub bounds-glues-i : goal.bounds-glues-i
-bounds-glues-i c =
-    let many = c.rows-row-items.ensures.len in
-    let n = c.requires.glues_len in
-    let m = c.loop-i.auto.glues in
-    omega arith
-
-pub overflow_cast-glues : goal.overflow_cast-glues
-overflow_cast-glues c = let b = c.requires.count_bound in omega (arith, c.number.ensures.upper_bound)
 
 pub loop-i-preserved : goal.loop-i-preserved
 loop-i-preserved c =

@@ -1,13 +1,12 @@
 -- `sdc_common::learn` meets its contract: a base that the table lacks is put at its end. Assumes nothing.
-use mathlib.Core.Path.{◌≡◌, sym, ap, ◌∙◌}
+use mathlib.Core.Path.{sym, ap, ◌∙◌}
 use mathlib.Core.List.{List, ◌∷◌, [], ◌++◌}
-use mathlib.Core.Option.{some}
 use Prim.Native.Nat.{◌<◌}
 use native.Mathlib.Omega.{arith}
 use lib.ListN.{length}
 use Rattle.std.specs.Prelude.{Option}
 use denote.Ref.{Bor}
-use Rattle.sdc_common.specs.Names.{Name, base_of}
+use Rattle.sdc_common.specs.Names.{Name}
 use Rattle.sdc_common.specs.Numbers.{learn, is_known}
 use Rattle.sdc_common.specs.inner.Table.{glue}
 use Rattle.sdc_common.proofs.Held.{learn-none, learn-known, learn-new}

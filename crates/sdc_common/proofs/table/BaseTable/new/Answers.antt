@@ -15,18 +15,6 @@ pub loop-row-init : goal.loop-row-init
 unfolding tabulate foldl
 loop-row-init c = (omega arith, refl)
 
-pub bytes-requires : goal.bytes-requires
-bytes-requires c =
-    let i = c.loop-row.row-index in
-    let many = c.rows-row-items.ensures.len in
-    rw (c.from.ensures ∙ c.rows-row-items.ensures.by_index i (omega arith)) (c.requires.fit_names i (omega arith))
-
-pub learn-requires : goal.learn-requires
-learn-requires c =
-    let many = c.rows-row-items.ensures.len in
-    let b = c.requires.names_len_bound in
-    omega arith
-
 pub loop-row-preserved : goal.loop-row-preserved
 loop-row-preserved c =
     let a = c.args in

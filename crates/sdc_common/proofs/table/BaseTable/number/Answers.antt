@@ -1,9 +1,5 @@
 -- `sdc_common::number` meets its contract: the place of the base in the table gives two numbers, and the stars choose one. Assumes nothing.
-use mathlib.Core.Path.{◌≡◌, sym, ap, ap₂, ◌∙◌}
-use mathlib.Core.List.{List}
-use Prim.Native.Nat.{ℕ}
-use native.Mathlib.Nat.{mod-lt}
-use native.Mathlib.Omega.{arith}
+use mathlib.Core.Path.{sym, ap, ap₂, ◌∙◌}
 use denote.Ref.{Bor}
 use Rattle.std.specs.Prelude.{Option}
 use Rattle.lists.specs.Find.{first_index}
@@ -15,15 +11,6 @@ use Rattle.sdc_common.proofs.table.BaseTable.number.Goals as goal
 
 pub returns-in_default-clause-value : goal.returns-in_default-clause-value
 returns-in_default-clause-value c = number-none c.args.self.now ∙ ap (λ (n : Option (Bor Name)). glue_number c.args.self.now (glue n)) (sym c.in_default.is)
-
-pub overflow_mul-result : goal.overflow_mul-result
-overflow_mul-result c = let h = c.in-Some-find.ensures.found in omega (arith, c.find.ensures.room)
-
-pub overflow_add-result : goal.overflow_add-result
-overflow_add-result c = let h = c.in-Some-find.ensures.found in omega (arith, c.find.ensures.room)
-
-pub overflow_add-result-in-Some-find : goal.overflow_add-result-in-Some-find
-overflow_add-result-in-Some-find c = let h = c.in-Some-find.ensures.found in omega (arith, c.find.ensures.room, mod-lt c.stars_of.result {m = 2} (omega arith))
 
 pub returns-in-None-clause-value : goal.returns-in-None-clause-value
 returns-in-None-clause-value c =
@@ -39,6 +26,3 @@ returns-in-Some-find-clause-value c =
     ap₂ number_at (h.1 ∙ ap (λ (b : Name). first_index (same_name b) bases) c.base_of.ensures) c.stars_of.ensures
     ∙ number-known bases name (ap (is_known bases) (sym c.base_of.ensures) ∙ h.0) ∙ number-some bases name
     ∙ ap (λ (n : Option (Bor Name)). glue_number bases (glue n)) (sym c.in-Some.is)
-
-pub returns-in-Some-find-clause-upper_bound : goal.returns-in-Some-find-clause-upper_bound
-returns-in-Some-find-clause-upper_bound c = let h = c.in-Some-find.ensures.found in omega (arith, mod-lt c.stars_of.result {m = 2} (omega arith))

@@ -1,0 +1,93 @@
+// Entries that are fit: their names and sequences lie in the text, and no sequence is too long.
+ghost use Rattle.std.specs.Prelude.{◌≡◌, false, map};
+ghost use Rattle.lists.specs.Find.{any};
+ghost use Rattle.sdc1d_params.specs.Entries.{energy_of, unfit_entry, has_bad_base, is_short, entry_dg, entry_ds, entries_of};
+
+use crate::Entry;
+use crate::entries::{GsOrSeq, any_entry, gs_or_seq};
+use crate::set::ParameterSet;
+use reply::Refusal;
+use units::{KcalPerMol, KcalPerMolKelvin};
+use utils::DgDs;
+
+// The shortest sequence.
+const SHORTEST: usize = 2;
+
+// What a sequence without an energy is taken for; those were refused before.
+const NO_ENERGY: DgDs = DgDs {
+    dg: KcalPerMol(0.0),
+    ds: KcalPerMolKelvin(0.0),
+};
+
+// An entry, and the text that its names and its sequence lie in.
+#[derive(Clone, Copy)]
+pub(crate) struct FitEntry<'a> {
+    pub(crate) text: &'a [u8],
+    pub(crate) entry: Entry,
+    ghost fit: { unfit_entry text.now entry ≡ false },
+}
+
+impl FitEntry<'_> {
+    // dG and dS that the entry gives.
+    pub(crate) fn dg_ds(&self) -> DgDs
+        ensures { (result.dg.0 ≡ entry_dg self.now.text.now (energy_of self.now.entry)) × (result.ds.0 ≡ entry_ds self.now.text.now (energy_of self.now.entry)) }
+    {
+        match gs_or_seq(self.entry) {
+            GsOrSeq::Given(dg, ds) => DgDs {
+                dg: KcalPerMol(dg),
+                ds: KcalPerMolKelvin(ds),
+            },
+            GsOrSeq::Sequence(start, length) => {
+                let end = start + length;
+                match utils::string_dna_dg_ds(&self.text[start..end]) {
+                    Ok(energy) => energy,
+                    Err(_) => NO_ENERGY,
+                }
+            }
+        }
+    }
+
+    // Whether its sequence has a byte that is no base.
+    fn has_bad_base(&self) -> bool
+        ensures { result ≡ has_bad_base self.now.text.now (energy_of self.now.entry) }
+    {
+        match gs_or_seq(self.entry) {
+            GsOrSeq::Given(_, _) => false,
+            GsOrSeq::Sequence(start, length) => {
+                let end = start + length;
+                match utils::string_dna_dg_ds(&self.text[start..end]) {
+                    Ok(_) => false,
+                    Err(refusal) => refusal == Refusal::NotABase
+                }
+            }
+        }
+    }
+
+    // Whether its sequence has fewer than 2 bases.
+    fn is_short(&self) -> bool
+        ensures { result ≡ is_short self.now.text.now (energy_of self.now.entry) }
+    {
+        match gs_or_seq(self.entry) {
+            GsOrSeq::Given(_, _) => false,
+            GsOrSeq::Sequence(_, length) => length < SHORTEST,
+        }
+    }
+}
+
+// Whether some entry's sequence has a byte that is no base, whether or not the entry is then passed over.
+pub(crate) fn any_bad_base(set: &ParameterSet) -> bool
+    ensures { result ≡ any (has_bad_base set.now.text.now) (map energy_of (entries_of set.now.entries.now set.now.energies.now).each) }
+{
+    any_entry(
+        set.entries,
+        set.energies,
+        |entry| set.fit(entry).has_bad_base(),
+    )
+}
+
+// Whether some entry's sequence is too short, whether or not the entry is then passed over.
+pub(crate) fn any_short(set: &ParameterSet) -> bool
+    ensures { result ≡ any (is_short set.now.text.now) (map energy_of (entries_of set.now.entries.now set.now.energies.now).each) }
+{
+    any_entry(set.entries, set.energies, |entry| set.fit(entry).is_short())
+}

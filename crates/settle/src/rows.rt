@@ -1,0 +1,88 @@
+// A file's rows, and what is looked for among them.
+use crate::lines::word_on_line;
+use crate::reads::first;
+use answers::reasons::Why;
+use answers::{Found, Spot};
+use sheet::faults::Counts;
+use sheet::rows::{Chosen, Group};
+use statements::grammar::Kind;
+use statements::statement::Row;
+use statements::words::Word;
+
+// A file whose every line can be read: its text, its rows, those of its strands, and how many strands, positions and entries it has.
+#[derive(Clone, Copy)]
+pub(crate) struct Sheet<'a> {
+    pub(crate) text: &'a [u8],
+    pub(crate) rows: &'a [Row],
+    pub(crate) strand_rows: &'a [usize],
+    pub(crate) counts: Counts,
+}
+
+// A reason that lies in a line.
+pub(crate) fn at_line(line: usize, why: Why) -> Found {
+    Found {
+        spot: Spot {
+            line: Some(line),
+            word: None,
+        },
+        why,
+    }
+}
+
+// At the n-th word of a line.
+pub(crate) fn on_line(text: &[u8], line: usize, n: usize, why: Why) -> Found {
+    Found {
+        spot: Spot {
+            line: Some(line),
+            word: word_on_line(text, line, n),
+        },
+        why,
+    }
+}
+
+// At a word of a row.
+pub(crate) fn in_row(row: &Row, word: Word, why: Why) -> Found {
+    Found {
+        spot: Spot::at(Some(row.line), word),
+        why,
+    }
+}
+
+impl Sheet<'_> {
+    // The rows of the strands.
+    pub(crate) fn strands(&self) -> Chosen<'_> {
+        Chosen {
+            rows: self.rows,
+            places: self.strand_rows,
+        }
+    }
+
+    // Those of the first so many strands.
+    pub(crate) fn first_strands(&self, users: usize) -> Chosen<'_> {
+        Chosen {
+            rows: self.rows,
+            places: first(self.strand_rows, users),
+        }
+    }
+
+    // The first row of a kind.
+    pub(crate) fn row_of(&self, kind: Kind) -> Option<&Row> {
+        self.rows.iter().find(|row| row.kind == kind)
+    }
+
+    // A group's member, counted from 0.
+    pub(crate) fn member(&self, group: Group, member: usize) -> Option<&Row> {
+        self.rows
+            .iter()
+            .filter(|row| Group::from(row.kind) == group)
+            .nth(member)
+    }
+
+    // At the n-th word of the first row of a kind.
+    pub(crate) fn on_row_of(&self, kind: Kind, n: usize, why: Why) -> Found {
+        match self.row_of(kind) {
+            Some(row) => on_line(self.text, row.line, n, why),
+            None => Found::nowhere(why),
+        }
+    }
+}
