@@ -94,7 +94,8 @@ impl<W: Write> Printer<'_, W> {
         Ok(end)
     }
 
-    // A stretch has one position at least, so there are no more stretches than positions.
+    // A stretch has one position at least, so there are no more stretches than positions. A `while` would have to be shown to end; so many turns are
+    // enough.
     pub(crate) fn draw(&mut self, design: &SettledDesign) -> io::Result<()> {
         let mut from = 0;
         for turn in 0..design.configuration.len() {

@@ -1,6 +1,7 @@
 // Who sits at a position, and the names under which strands are shown.
 use crate::SettledDesign;
 use crate::reads::part;
+use design::friends::BLOCKED;
 use design::reads::byte_at;
 use statements::words::Word;
 
@@ -35,7 +36,7 @@ impl SettledDesign<'_> {
 
     // At position i. Where the position is blocked, nobody can sit.
     pub(crate) fn occupant_at(&self, i: usize) -> Occupant {
-        if byte_at(self.marks, i) == 1 {
+        if byte_at(self.marks, i) == BLOCKED {
             return Occupant::Blocked;
         }
         self.occupant_of(byte_at(self.configuration, i))

@@ -11,7 +11,8 @@ pub enum Style {
     Json,
 }
 
-// A writer, and whom it writes for.
+// A writer, and whom it writes for. It isn't public, and a public function takes both and makes it: `.ci/contracts` knows a function that prints
+// by its `out: &mut W`.
 #[derive(Drop)]
 pub(crate) struct Printer<'a, W: Write> {
     pub(crate) out: &'a mut W,
@@ -83,7 +84,7 @@ impl<W: Write> Printer<'_, W> {
         }
     }
 
-    // Bytes of a file, or of its name. A run has a byte at least, so there are turns enough.
+    // Bytes of a file, or of its name. A run has a byte at least. A `while` would have to be shown to end; so many turns are enough.
     pub(crate) fn print_bytes(&mut self, bytes: &[u8]) -> io::Result<()> {
         let mut rest = bytes;
         for turn in 0..bytes.len() {
@@ -95,7 +96,7 @@ impl<W: Write> Printer<'_, W> {
         Ok(())
     }
 
-    // So many blanks.
+    // So many blanks: the loop runs so often, and no number is read.
     pub(crate) fn print_blanks(&mut self, n: usize) -> io::Result<()> {
         for turn in 0..n {
             self.print(b" ")?;

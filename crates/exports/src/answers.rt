@@ -1,5 +1,5 @@
-// A design's answers told to C, all of them here: the reply number is the result, the place and the figures go through pointers. A refusal
-// has no figure: 0.
+// Answers of calls whose refusals may have a place, told to C by `tell`: the reply number is the result, the place and the figure go through
+// pointers. A refusal has a blank figure: 0. Here are also the energies of a design, which are told as doubles.
 ghost use Rattle.std.specs.Prelude.{◌≡◌};
 ghost use Rattle.reply.specs.Figures.{result_figures};
 ghost use Rattle.design.specs.Answers.{energy_figures, chain_figures};

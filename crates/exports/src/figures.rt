@@ -6,16 +6,16 @@ ghost use Rattle.std.specs.Float.Ieee as Ieee;
 ghost use Rattle.std.specs.Float.{binary64};
 ghost use Rattle.units.specs.Ambient.{ambient_figures};
 ghost use Rattle.utils.specs.Answers.{dg_ds_figures, dg_figures};
-ghost use Rattle.exports.specs.Told.{placeless_figures};
+ghost use Rattle.exports.specs.Told.{placeless_figures, answer_number};
 
 use doubles::bits;
 use reply::{ANSWERED, Refusal};
-use units::{Ambient, KcalPerMol};
+use units::{Ambient, KcalPerMol, KcalPerMolKelvin, Kelvin};
 use utils::DgDs;
 
-// The reply number of one or two sequences.
-pub(crate) fn dg_ds_reply(answer: Result<DgDs, Refusal>) -> u32
-    ensures { result ≡ (dg_ds_figures answer).number }
+// The reply number of a call whose refusals have no place.
+pub(crate) fn reply<T: Copy>(answer: Result<T, Refusal>) -> u32
+    ensures { result ≡ answer_number answer }
 {
     match answer {
         Ok(_) => ANSWERED,
@@ -23,7 +23,7 @@ pub(crate) fn dg_ds_reply(answer: Result<DgDs, Refusal>) -> u32
     }
 }
 
-// Their dG.
+// The dG of one or two sequences.
 pub(crate) fn dg_ds_dg(answer: Result<DgDs, Refusal>) -> u64
     ensures { result ≡ Ieee.to_bits binary64 (dg_ds_figures answer).dg }
 {
@@ -43,18 +43,14 @@ pub(crate) fn dg_ds_tell(answer: Result<DgDs, Refusal>, dg: &mut f64, ds: &mut f
     ensures dg_after { dg.new ≡ (dg_ds_figures answer).dg }
     ensures ds_after { ds.new ≡ (dg_ds_figures answer).ds }
 {
-    match answer {
-        Ok(given) => {
-            *dg = given.dg.0;
-            *ds = given.ds.0;
-            ANSWERED
-        }
-        Err(refusal) => {
-            *dg = 0.0;
-            *ds = 0.0;
-            refusal.number()
-        }
-    }
+    let mut given = DgDs {
+        dg: KcalPerMol(0.0),
+        ds: KcalPerMolKelvin(0.0),
+    };
+    let number = figure_tell(answer, given, &mut given);
+    *dg = given.dg.0;
+    *ds = given.ds.0;
+    number
 }
 
 // The reply number and the one figure of a call whose refusals have no place, a blank figure where it refuses.
@@ -94,18 +90,14 @@ pub(crate) fn ambient_tell(
     ensures strand_excess_after { strand_excess.new ≡ (ambient_figures answer).strand_excess }
     ensures scaffold_excess_after { scaffold_excess.new ≡ (ambient_figures answer).scaffold_excess }
 {
-    match answer {
-        Ok(ambient) => {
-            *rt = ambient.rt.0;
-            *strand_excess = ambient.strand_excess.0;
-            *scaffold_excess = ambient.scaffold_excess.0;
-            ANSWERED
-        }
-        Err(refusal) => {
-            *rt = 0.0;
-            *strand_excess = 0.0;
-            *scaffold_excess = 0.0;
-            refusal.number()
-        }
-    }
+    let mut ambient = Ambient {
+        rt: KcalPerMol(0.0),
+        strand_excess: Kelvin(0.0),
+        scaffold_excess: Kelvin(0.0),
+    };
+    let number = figure_tell(answer, ambient, &mut ambient);
+    *rt = ambient.rt.0;
+    *strand_excess = ambient.strand_excess.0;
+    *scaffold_excess = ambient.scaffold_excess.0;
+    number
 }

@@ -1,5 +1,5 @@
-// The calls that include/mujplesten.h declares as C callers have them, but that a design and tables of bonds are each lent as one, which exports_c
-// puts together out of the parts that C lends; in this file those on sequences and temperatures.
+// The calls that include/mujplesten.h declares as C callers have them, but that a design, tables of bonds, weights and lists are each
+// lent as one, which exports_c puts together out of the parts that C lends; in this file those on sequences and temperatures.
 // One function is one call: it answers the reply number and writes places and figures through pointers. Of one and of two sequences there is
 // also a function for the reply number and one for each double, as its 64 bits.
 #![tactic(auto)]
@@ -34,7 +34,7 @@ use units::Kelvin;
 pub fn mj_sequence_reply(s: &[u8]) -> u32
     ensures { result ≡ (string_dna_dg_ds s.now).number }
 {
-    figures::dg_ds_reply(utils::string_dna_dg_ds(s))
+    figures::reply(utils::string_dna_dg_ds(s))
 }
 
 // Its dG.
@@ -64,7 +64,7 @@ pub fn mj_sequence(s: &[u8], dg: &mut f64, ds: &mut f64) -> u32
 pub fn mj_published_reply(s: &[u8]) -> u32
     ensures { result ≡ (published_dna_dg_ds s.now).number }
 {
-    figures::dg_ds_reply(utils::published_dna_dg_ds(s))
+    figures::reply(utils::published_dna_dg_ds(s))
 }
 
 // Its dG.
@@ -85,7 +85,7 @@ pub fn mj_published_ds(s: &[u8]) -> u64
 pub fn mj_pair_reply(a: &[u8], b: &[u8]) -> u32
     ensures { result ≡ (sequence_pair_dg_ds a.now b.now).number }
 {
-    figures::dg_ds_reply(utils::sequence_pair_dg_ds(a, b))
+    figures::reply(utils::sequence_pair_dg_ds(a, b))
 }
 
 // Their dG.

@@ -4,7 +4,8 @@ ghost use Rattle.sdc_common.specs.Lent.{names_of};
 ghost use Rattle.sdc_common.specs.Calls.{name_figures, self_and_inverse, strand_glues, glues_after};
 ghost use Rattle.exports.specs.Flag.{flag};
 
-use reply::{ANSWERED, Refusal};
+use super::figures;
+use reply::Refusal;
 use sdc_common::NameBase;
 
 // The reply number of a name, where its base starts, how long that is, and 1 where the name stands for it, 0 where it stands for base*.
@@ -19,20 +20,16 @@ fn tell_name(
     ensures base_length_after { base_length.new ≡ (name_figures answer).size }
     ensures is_base_after { is_base.new ≡ flag (name_figures answer).from }
 {
-    match answer {
-        Ok(base) => {
-            *base_start = base.start as u64;
-            *base_length = base.size as u64;
-            *is_base = base.is_base as u64;
-            ANSWERED
-        }
-        Err(refusal) => {
-            *base_start = 0;
-            *base_length = 0;
-            *is_base = 0;
-            refusal.number()
-        }
-    }
+    let mut base = NameBase {
+        start: 0,
+        size: 0,
+        is_base: false,
+    };
+    let number = figures::figure_tell(answer, base, &mut base);
+    *base_start = base.start as u64;
+    *base_length = base.size as u64;
+    *is_base = base.is_base as u64;
+    number
 }
 
 // A name's base: where it starts, its length, and whether the name stands for it or for base*.
@@ -62,8 +59,5 @@ pub fn mj_strand_glues(text: &[u8], users: usize, strands: &[usize], glues: &mut
     ensures value { result ≡ strand_glues users text.now (names_of strands.now) (length glues.old) }
     ensures glues_after { glues.new ≡ glues_after users text.now (names_of strands.now) glues.old }
 {
-    match sdc_common::strand_glues(text, users, strands, glues) {
-        Ok(()) => ANSWERED,
-        Err(refusal) => refusal.number(),
-    }
+    figures::reply(sdc_common::strand_glues(text, users, strands, glues))
 }

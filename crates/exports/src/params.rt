@@ -4,7 +4,8 @@ ghost use Rattle.sdc1d_params.specs.Params.{outcome_of, params_of, lent_of};
 ghost use Rattle.exports.specs.Builds.{build_numbered, built_in};
 ghost use Rattle.exports.specs.Copied.{copied_of, copies_of, penalty_of};
 
-use reply::{ANSWERED, Refusal};
+use super::figures;
+use reply::Refusal;
 use sdc1d_params::{Build, Copied, Copies, Penalty};
 use units::{KcalPerMol, KcalPerMolKelvin};
 
@@ -82,8 +83,5 @@ pub fn mj_params(
         dg,
         ds,
     );
-    match answer {
-        Ok(()) => ANSWERED,
-        Err(refusal) => refusal.number(),
-    }
+    figures::reply(answer)
 }

@@ -1,10 +1,10 @@
 // Stored configurations as C callers have them. A form is a number: 0 document 01's, 1 with runs; any other is refused with 1.
 ghost use Rattle.std.specs.Prelude.{◌≡◌, take};
 ghost use Rattle.reply.specs.Number.{answered};
-ghost use Rattle.deck.specs.Reading.{read_figures_of};
+ghost use Rattle.reply.specs.Figures.{result_figures};
 ghost use Rattle.deck.specs.Writing.{write_figures_of};
-ghost use Rattle.deck.specs.Moving.{move_figures_of};
 ghost use Rattle.exports.specs.Place.{place_number};
+ghost use Rattle.exports.specs.Told.{Told};
 ghost use Rattle.exports.specs.Stored.{form_numbered, read_in, entries_in, write_in, words_in, move_from, moved_from, MovesFrom};
 
 use super::answers::tell;
@@ -23,11 +23,9 @@ fn form_of(number: u32) -> Option<DeckForm>
     }
 }
 
-// The reply number of reading, the place of a fault, and the number of positions.
-fn tell_read(answer: Result<usize, Refused>, place: &mut u64, count: &mut u64) -> u32
-    ensures value { result ≡ (read_figures_of answer).number }
-    ensures place_after { place.new ≡ place_number (read_figures_of answer).place }
-    ensures count_after { count.new ≡ (read_figures_of answer).count }
+// The reply number of reading or moving, the place of a fault, and the number of positions or of words.
+fn tell_count(answer: Result<usize, Refused>, place: &mut u64, count: &mut u64) -> u32
+    ensures { Told (result_figures 0 (λ count. count) answer) result place.new count.new }
 {
     tell(answer.map(|count| count as u64), 0, place, count)
 }
@@ -38,15 +36,6 @@ fn tell_written(answer: Result<usize, Refusal>, count: &mut u64) -> u32
     ensures count_after { count.new ≡ (write_figures_of answer).count }
 {
     figure_tell(answer.map(|count| count as u64), 0, count)
-}
-
-// The reply number of moving, the place of a fault, and the number of words.
-fn tell_moved(answer: Result<usize, Refused>, place: &mut u64, count: &mut u64) -> u32
-    ensures value { result ≡ (move_figures_of answer).number }
-    ensures place_after { place.new ≡ place_number (move_figures_of answer).place }
-    ensures count_after { count.new ≡ (move_figures_of answer).count }
-{
-    tell(answer.map(|count| count as u64), 0, place, count)
 }
 
 // Reads a deck into 128 lent entries, and tells how many positions it has. Replies 1, 14.
@@ -66,7 +55,7 @@ pub fn mj_deck_read(
         Some(known) => deck::read(known, words, entries),
         None => Err(Refusal::WrongSize.into()),
     };
-    tell_read(answer, place, count)
+    tell_count(answer, place, count)
 }
 
 // Writes the deck of a configuration into 129 lent words, and tells how many it has. Replies 1, 9.
@@ -100,5 +89,5 @@ pub fn mj_deck_move(
         Some(known) => deck::move_deck(known, words, moved),
         None => Err(Refusal::WrongSize.into()),
     };
-    tell_moved(answer, place, count)
+    tell_count(answer, place, count)
 }

@@ -12,6 +12,7 @@ ghost use Rattle.exports.specs.Told.{Told};
 
 use design::Design;
 use exports::designs::ambient;
+use state_sums::{LentLists, LentWeights};
 
 // The sum over all states.
 #[unsafe(no_mangle)]
@@ -45,16 +46,13 @@ pub extern "C" fn mj_free_sum(
         potentials,
         ambient: ambient(rt, strand_excess, scaffold_excess),
     };
-    exports::sums::mj_free_sum(
-        &design,
+    let weights = LentWeights {
         place_digits,
         place_powers,
         pair_digits,
         pair_powers,
-        place,
-        digits,
-        power,
-    )
+    };
+    exports::sums::mj_free_sum(&design, &weights, place, digits, power)
 }
 
 // The sum over the states that lists of allowed occupants leave.
@@ -92,17 +90,16 @@ pub extern "C" fn mj_constrained_sum(
         potentials,
         ambient: ambient(rt, strand_excess, scaffold_excess),
     };
-    exports::sums::mj_constrained_sum(
-        &design,
+    let weights = LentWeights {
         place_digits,
         place_powers,
         pair_digits,
         pair_powers,
+    };
+    let lists = LentLists {
         numbers,
         starts,
         lengths,
-        place,
-        digits,
-        power,
-    )
+    };
+    exports::sums::mj_constrained_sum(&design, &weights, &lists, place, digits, power)
 }

@@ -1,14 +1,11 @@
-// The design that lines have set, and lines about it.
+// The design that lines have set.
 ghost use Rattle.std.specs.Prelude.{◌≤◌};
 
-use crate::designs;
-use crate::kind::Kind;
 use crate::numbers::{decimal, hex};
 use crate::parts::{past, up_to};
-use crate::places::read_places;
 use crate::setting::{set_byte, set_double};
 use doubles::double;
-use units::{Ambient, KcalPerMol, Kelvin};
+use units::Ambient;
 
 // The Rust knows no blocked positions: all are open.
 const OPEN: [u8; 128] = [0; 128];
@@ -100,58 +97,17 @@ impl Design {
         }
     }
 
-    // The design as calls are lent it.
-    fn lent(&self) -> Option<design::Design<'_>> {
-        let scaffold = self.scaffold.get(..self.positions)?;
-        let marks = OPEN.get(..self.positions)?;
-        let glues = self.glues.get(..self.strands.checked_mul(3)?)?;
-        let potentials = self.potentials.get(..self.strands)?;
-        let ambient = Ambient {
-            rt: KcalPerMol(self.rt),
-            strand_excess: Kelvin(self.strand_excess),
-            scaffold_excess: Kelvin(self.scaffold_excess),
-        };
-        Some(lent_of(
+    // The design as calls are lent it. `begun` sets no more positions and strands than these, which a field does not tell.
+    pub(crate) fn lent(&self) -> design::Design<'_> {
+        let positions = self.positions.min(128);
+        let strands = self.strands.min(64);
+        let scaffold = &self.scaffold[..positions];
+        let marks = &OPEN[..positions];
+        let glues = &self.glues[..3 * strands];
+        let potentials = &self.potentials[..strands];
+        let ambient = exports::designs::ambient(self.rt, self.strand_excess, self.scaffold_excess);
+        lent_of(
             scaffold, marks, glues, &self.dg, &self.ds, potentials, ambient,
-        ))
-    }
-
-    // Whether a line about the design says what is answered.
-    pub(crate) fn agrees(&self, kind: Kind, words: &[u8]) -> bool {
-        match self.lent() {
-            Some(design) => says_of(kind, words, &design),
-            None => false,
-        }
-    }
-}
-
-// Of bonds, friends and states, of the search, or of the energies of a configuration.
-fn says_of(kind: Kind, words: &[u8], design: &design::Design<'_>) -> bool {
-    let mut entries = [0u8; 64];
-    let mut room = [0u8; 128];
-    let Some(places) = room.get_mut(..design.scaffold.len()) else {
-        return false;
-    };
-    match kind {
-        Kind::StrandBond => designs::strand_bond(words, design),
-        Kind::ScaffoldBond => designs::scaffold_bond(words, design),
-        Kind::Friends => designs::friends(words, design, &mut entries),
-        Kind::Count => designs::count(words, design),
-        Kind::State => designs::state(words, design, places),
-        Kind::Search => designs::search(words, design, places),
-        Kind::Settled => designs::settled(words, design, places),
-        _ => says_energy(kind, words, design),
-    }
-}
-
-// Of the energies of a configuration.
-fn says_energy(kind: Kind, words: &[u8], design: &design::Design<'_>) -> bool {
-    let mut room = [0u8; 128];
-    let n = read_places(up_to(words, b' '), &mut room);
-    let configuration = &room[..n];
-    match kind {
-        Kind::StateEnergy => designs::state_energy(words, design, configuration),
-        Kind::ChainEnergy => designs::chain_energy(words, design, configuration),
-        _ => false,
+        )
     }
 }

@@ -15,6 +15,7 @@ mod setting;
 
 use about::Design;
 use kind::{KINDS, Kind};
+use places::read_places;
 use std::fs::File;
 use std::io;
 use std::io::Write;
@@ -54,8 +55,18 @@ struct Tally {
 // A block of a line and what follows it has 4,096 bytes, so that a longer line could be cut short.
 const LONGEST_LINE: usize = 4095;
 
-// Whether a line says what the port answers.
+// The configuration of a line, read into the lent places.
+fn configuration_of<'a>(words: &[u8], room: &'a mut [u8; 128]) -> &'a [u8] {
+    let n = read_places(parts::up_to(words, b' '), room);
+    &room[..n]
+}
+
+// Whether a line says what the port answers. Calls are lent as many places as there are positions, which a field does not say are 128 at most.
 fn agrees(kind: Kind, words: &[u8], design: &Design) -> bool {
+    let design = design.lent();
+    let mut entries = [0u8; 64];
+    let mut room = [0u8; 128];
+    let n = design.scaffold.len().min(128);
     match kind {
         Kind::Sequence => kinds::sequence(words),
         Kind::Pair => kinds::pair(words),
@@ -64,7 +75,19 @@ fn agrees(kind: Kind, words: &[u8], design: &Design) -> bool {
         Kind::Strength2 => kinds::strength2(words),
         Kind::Ambient => kinds::ambient(words),
         Kind::Name => kinds::name(words),
-        _ => design.agrees(kind, words),
+        Kind::StrandBond => designs::strand_bond(words, &design),
+        Kind::ScaffoldBond => designs::scaffold_bond(words, &design),
+        Kind::Friends => designs::friends(words, &design, &mut entries),
+        Kind::Count => designs::count(words, &design),
+        Kind::State => designs::state(words, &design, &mut room[..n]),
+        Kind::StateEnergy => {
+            designs::state_energy(words, &design, configuration_of(words, &mut room))
+        }
+        Kind::ChainEnergy => {
+            designs::chain_energy(words, &design, configuration_of(words, &mut room))
+        }
+        Kind::Search => designs::search(words, &design, &mut room[..n]),
+        Kind::Settled => designs::settled(words, &design, &mut room[..n]),
     }
 }
 

@@ -3,7 +3,6 @@
 ghost use Rattle.std.specs.Prelude.{◌≡◌, ◌≤◌, true, IfSome};
 ghost use Rattle.replay.specs.Text.{hex_text, Decimal};
 
-use crate::parts::same;
 use decimals::{write_count, write_hex};
 
 // Whether a word is 16 hex digits, and those of x.
@@ -12,7 +11,7 @@ pub(crate) fn is_hex(word: &[u8], x: u64) -> bool
 {
     let mut text = [0u8; 16];
     match write_hex(x, 16, &mut text) {
-        Ok(size) => same(word, &text[..size]),
+        Ok(size) => word == &text[..size],
         Err(_) => false,
     }
 }
@@ -23,7 +22,7 @@ pub(crate) fn is_decimal(word: &[u8], x: u64) -> bool
 {
     let mut text = [0u8; 20];
     match write_count(x, &mut text) {
-        Ok(size) => same(word, &text[..size]),
+        Ok(size) => word == &text[..size],
         Err(_) => false,
     }
 }

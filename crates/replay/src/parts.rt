@@ -1,14 +1,7 @@
 // A text in parts: a list in lines, a line in words. A mark is the byte that is looked for: the newline or the blank behind a part.
-ghost use Rattle.std.specs.Prelude.{◌≡◌, ◌≤◌, true, nat_eq, length, position};
+ghost use Rattle.std.specs.Prelude.{◌≡◌, ◌≤◌, nat_eq, length, position};
 ghost use Rattle.lists.specs.Find.{first_index};
 ghost use Rattle.replay.specs.Text.{up_to, past};
-
-// Whether two texts are the same.
-pub(crate) fn same(a: &[u8], b: &[u8]) -> bool
-    ensures { (result ≡ true → a.now ≡ b.now) × (a.now ≡ b.now → result ≡ true) }
-{
-    a == b
-}
 
 // The place of the first mark, if there is one.
 fn first_mark(text: &[u8], mark: u8) -> Option<usize>

@@ -4,7 +4,7 @@ ghost use Rattle.std.specs.Prelude.{◌≡◌, ◌≤◌, true, map, length};
 ghost use Rattle.replay.specs.Places.{letter, SaysPlaces, Places};
 
 use crate::kinds::letters;
-use crate::parts::{past, same, up_to};
+use crate::parts::{past, up_to};
 use crate::says::refused;
 
 // Whether the letters are those of the places.
@@ -44,7 +44,7 @@ pub(crate) fn says_places(words: &[u8], number: u32, places: &[u8]) -> bool
     if number != 0 {
         return refused(words, number);
     }
-    if !same(up_to(words, b' '), b"ok") {
+    if up_to(words, b' ') != b"ok".as_slice() {
         return false;
     }
     is_places(past(words, b' '), places)

@@ -3,13 +3,13 @@ ghost use Rattle.std.specs.Prelude.{◌≡◌, true, ◌++◌};
 ghost use Rattle.replay.specs.Says.{ok, figures_text, FigureAt, SaysRefused, Says};
 
 use crate::numbers::{is_decimal, is_hex};
-use crate::parts::{past, same, up_to};
+use crate::parts::{past, up_to};
 
 // `refused NUMBER`.
 pub(crate) fn refused(words: &[u8], number: u32) -> bool
     ensures { result ≡ true → SaysRefused words.now number }
 {
-    if same(up_to(words, b' '), b"refused") {
+    if up_to(words, b' ') == b"refused".as_slice() {
         return is_decimal(past(words, b' '), number as u64);
     }
     false
@@ -41,7 +41,7 @@ fn given(words: &[u8], figures: &[u64]) -> bool
     if words.len() < 2 {
         return false;
     }
-    if !same(&words[..2], b"ok") {
+    if &words[..2] != b"ok".as_slice() {
         return false;
     }
     let mut at = 2;

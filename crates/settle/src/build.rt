@@ -3,11 +3,10 @@ use crate::reads::first_mut;
 use crate::rows::Sheet;
 use reply::Refusal;
 use sdc_common::strand_glues;
-use sdc1d_params::{Build, Copies, Penalty, from_params};
+use sdc1d_params::{Build, Copies, from_params};
 use sheet::faults::Counts;
 use sheet::once::{copied, junction_penalty};
 use sheet::rows::{Chosen, Group, rows_of};
-use units::{KcalPerMol, KcalPerMolKelvin};
 
 // ---- document 01's limits, for which there is room here
 
@@ -29,7 +28,8 @@ pub(crate) struct Tables<'a> {
     pub(crate) ds: &'a mut [f64],
 }
 
-// What `from_params` reads of a sheet's rows: the names of the strands, the positions and the entries, and the entries' energies.
+// What `from_params` reads of a sheet's rows, as rows of numbers, which is how C lends them: the names of the strands, the positions and the
+// entries, and the entries' energies.
 #[derive(Clone, Copy)]
 struct Parts<'a> {
     strands: &'a [usize],
@@ -98,7 +98,6 @@ fn fill(
     tables: Tables,
 ) -> Result<(), Refusal> {
     let users = counts.strands;
-    let penalty = junction_penalty(sheet.rows);
     let strands = sheet.strands();
     let Tables {
         strand_glues,
@@ -114,10 +113,7 @@ fn fill(
         parts.scaffold,
         parts.entries,
         parts.energies,
-        Penalty {
-            dg: KcalPerMol(penalty.dg),
-            ds: KcalPerMolKelvin(penalty.ds),
-        },
+        junction_penalty(sheet.rows),
         Copies {
             quencher: copied(sheet.text, &strands, Group::Quencher),
             reporter: copied(sheet.text, &strands, Group::Reporter),

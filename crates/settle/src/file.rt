@@ -16,7 +16,8 @@ fn reason(error: Error) -> Why {
     }
 }
 
-// Fills the lent bytes as far as the file goes: how many stand in them. Each turn reads a byte at least, so there are turns enough.
+// Fills the lent bytes as far as the file goes: how many stand in them. Each turn reads a byte at least. A `while` would
+// have to be shown to end; so many turns are enough.
 fn fill<F: Read>(file: &mut F, bytes: &mut [u8]) -> Result<usize, Why> {
     let mut size = 0usize;
     for turn in 0..bytes.len() {

@@ -1,13 +1,12 @@
 // Words of a line by their place in it. The rows have the words that are names; a number or a keyword is found here.
 use statements::words::{Word, is_blank};
 
-// Where a walk over the text is: the line, how many words have begun on it, and the last of them.
+// Where a walk over the text is: the line, how many words have begun on it, and the start of the word that it is in.
 #[derive(Clone, Copy)]
 struct Walk {
     line: usize,
     begun: usize,
-    inside: bool,
-    start: usize,
+    start: Option<usize>,
 }
 
 // One byte further.
@@ -16,24 +15,31 @@ fn step(walk: Walk, byte: u8, i: usize) -> Walk {
         return Walk {
             line: walk.line.wrapping_add(1),
             begun: 0,
-            inside: false,
-            start: i,
+            start: None,
         };
     }
     if is_blank(byte) {
         return Walk {
-            inside: false,
+            start: None,
             ..walk
         };
     }
-    if walk.inside {
+    if walk.start.is_some() {
         return walk;
     }
     Walk {
         begun: walk.begun.wrapping_add(1),
-        inside: true,
-        start: i,
+        start: Some(i),
         ..walk
+    }
+}
+
+// The start of the n-th word of a line, where a walk is in it.
+fn start_of(walk: Walk, line: usize, n: usize) -> Option<usize> {
+    if walk.line == line && walk.begun == n {
+        walk.start
+    } else {
+        None
     }
 }
 
@@ -50,18 +56,17 @@ pub(crate) fn word_on_line(text: &[u8], line: usize, n: usize) -> Option<Word> {
     let mut walk = Walk {
         line: 1,
         begun: 0,
-        inside: false,
-        start: 0,
+        start: None,
     };
+    // By number: a byte's place is where a word begins or ends.
     for (i, byte) in text.iter().enumerate() {
         let next = step(walk, *byte, i);
-        if walk.line == line && walk.begun == n && walk.inside && !next.inside {
-            return Some(word_up_to(walk.start, i));
+        if let Some(start) = start_of(walk, line, n) {
+            if next.start.is_none() {
+                return Some(word_up_to(start, i));
+            }
         }
         walk = next;
     }
-    if walk.line == line && walk.begun == n && walk.inside {
-        return Some(word_up_to(walk.start, text.len()));
-    }
-    None
+    start_of(walk, line, n).map(|start| word_up_to(start, text.len()))
 }

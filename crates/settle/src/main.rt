@@ -97,7 +97,7 @@ fn is_given<R: Env>(rt: &R, i: usize) -> bool {
     }
 }
 
-// All files in turn. Answers whether each was settled.
+// All files in turn. Answers whether each was settled. A `while` would have to be shown to end; so many turns are enough.
 fn settle_all<R: Env + Files, W: Write>(
     rt: &R,
     out: &mut W,

@@ -9,6 +9,7 @@ use std::io;
 use std::io::Write;
 
 // Prints what became of a file. Answers whether its configuration was settled.
+// `out` and `style` go on as they came: `answers` alone has a type of both.
 pub(crate) fn report<W: Write>(
     out: &mut W,
     style: Style,
@@ -17,12 +18,11 @@ pub(crate) fn report<W: Write>(
 ) -> io::Result<bool> {
     match outcome {
         Ok(design) => report_settled(out, style, file, &design),
-        Err(Unsettled::Unreadable(found)) => {
-            unreadable(out, style, file, found)?;
-            Ok(false)
-        }
-        Err(Unsettled::Refused(refusal, found)) => {
-            refused(out, style, file, refusal, found)?;
+        Err(Unsettled { found, refusal }) => {
+            match refusal {
+                Some(refusal) => refused(out, style, file, refusal, found)?,
+                None => unreadable(out, style, file, found)?,
+            }
             Ok(false)
         }
     }

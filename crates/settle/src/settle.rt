@@ -18,11 +18,27 @@ use statements::statement::Row;
 use statements::words::Word;
 use units::{Ambient, KcalPerMol, Kelvin};
 
-// Why a file gives no settled configuration: it can't be read, or a call refuses its design.
+// Why a file gives no settled configuration, and the refusal where a call refuses its design; without one it can't be read.
 #[derive(Clone, Copy)]
-pub(crate) enum Unsettled {
-    Unreadable(Found),
-    Refused(Refusal, Found),
+pub(crate) struct Unsettled {
+    pub(crate) found: Found,
+    pub(crate) refusal: Option<Refusal>,
+}
+
+// Of a file that can't be read.
+fn unreadable(found: Found) -> Unsettled {
+    Unsettled {
+        found,
+        refusal: None,
+    }
+}
+
+// Of a design that a call refuses.
+fn refused(refusal: Refusal, found: Found) -> Unsettled {
+    Unsettled {
+        found,
+        refusal: Some(refusal),
+    }
 }
 
 // A settled design, of each array as much as it has positions or strands.
@@ -43,14 +59,14 @@ pub(crate) struct Settled {
 // Why the lines of a text can't be read.
 fn of_lines(fault: ReadFault) -> Unsettled {
     match fault {
-        ReadFault::Unreadable(line, fault) => Unsettled::Unreadable(Found {
+        ReadFault::Unreadable(line, fault) => unreadable(Found {
             spot: Spot::at(Some(line), fault.word),
             why: Why::Line(fault.reason),
         }),
         ReadFault::TooManyRows(line) => {
-            Unsettled::Refused(Refusal::WrongSize, at_line(line, Why::TooManyRows))
+            refused(Refusal::WrongSize, at_line(line, Why::TooManyRows))
         }
-        ReadFault::TooLong => Unsettled::Unreadable(Found::nowhere(Why::TooLong)),
+        ReadFault::TooLong => unreadable(Found::nowhere(Why::TooLong)),
     }
 }
 
@@ -67,17 +83,15 @@ fn too_many(group: Group) -> Why {
 // Why the lines make no sheet.
 fn of_sheet(text: &[u8], fault: SheetFault) -> Unsettled {
     match fault {
-        SheetFault::NameTwice(line, word) => Unsettled::Unreadable(Found {
+        SheetFault::NameTwice(line, word) => unreadable(Found {
             spot: Spot::at(Some(line), word),
             why: Why::NameTwice,
         }),
-        SheetFault::GivenTwice(line, _) => {
-            Unsettled::Unreadable(on_line(text, line, 1, Why::GivenTwice))
-        }
+        SheetFault::GivenTwice(line, _) => { unreadable(on_line(text, line, 1, Why::GivenTwice)) }
         SheetFault::TooMany(line, group) => {
-            Unsettled::Refused(Refusal::WrongSize, at_line(line, too_many(group)))
+            refused(Refusal::WrongSize, at_line(line, too_many(group)))
         }
-        SheetFault::NoAmbient => Unsettled::Unreadable(Found::nowhere(Why::NoAmbient)),
+        SheetFault::NoAmbient => unreadable(Found::nowhere(Why::NoAmbient)),
     }
 }
 
@@ -147,16 +161,13 @@ impl Sheet<'_> {
             dg: &mut dg,
             ds: &mut ds,
         };
-        build(which, self, self.counts, tables).map_err(|refusal| Unsettled::Refused(
+        build(which, self, self.counts, tables).map_err(|refusal| refused(
             refusal,
             self.of_build(refusal),
         ))?;
-        let ambient = ambient_of(self.rows).map_err(|refusal| Unsettled::Refused(
-            refusal,
-            self.of_kelvin(),
-        ))?;
+        let ambient = ambient_of(self.rows).map_err(|refusal| refused(refusal, self.of_kelvin()))?;
         self.search(&strand_glues, &scaffold_glues, &dg, &ds, ambient)
-            .map_err(|given| Unsettled::Refused(given.refusal, self.of_design(given)))
+            .map_err(|given| refused(given.refusal, self.of_design(given)))
     }
 
     // The search over the design of these tables, and what is shown of it.

@@ -6,7 +6,7 @@ use reply::{Refusal, Refused};
 use statements::grammar::Kind;
 use statements::statement::Row;
 
-// The word of the ambient's line that holds one of its numbers: RT, then the two excesses.
+// The word of the ambient's line that holds one of its numbers: RT, then the two excesses. A refusal's place is a number, as C is told it.
 fn ambient_word(number: usize) -> usize {
     match number {
         0 => 2,

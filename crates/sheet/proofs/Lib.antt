@@ -1,4 +1,5 @@
 pub mod Chosen
 pub mod Faulty
 pub mod Fill
+mod Named
 pub mod Theorems

@@ -27,7 +27,7 @@ pub struct Counts {
     pub entries: usize,
 }
 
-// How many rows of a group there may be.
+// How many rows of a group there may be: document 01's limits, or one.
 fn limit_of(group: Group) -> usize
     ensures { result ≡ limit_of group }
 {
@@ -87,6 +87,7 @@ fn check_row(text: &[u8], before: &[Row], row: &Row) -> Result<(), SheetFault>
 pub fn check(text: &[u8], rows: &[Row]) -> Result<Counts, SheetFault>
     ensures { result ≡ sheet_answer text.now rows.now }
 {
+    // By number: a row is held against those before it.
     for (i, row) in rows.iter().enumerate() {
         check_row(text, &rows[..i], row)?;
     }

@@ -1,14 +1,15 @@
 // What stands in the file at most once.
-ghost use Rattle.std.specs.Prelude.{◌≡◌, ◌<◌};
-ghost use Rattle.sheet.specs.Once.{number_once, ambient_of, strand_named, copied_of};
+ghost use Rattle.std.specs.Prelude.{◌≡◌, ◌<◌, position};
+ghost use Rattle.sheet.specs.Once.{number_once, ambient_of, is_named, copied_of};
 ghost use Rattle.sheet.specs.declared.rows.Group.TheVariants as group;
 
 use crate::faults::same_word;
 use crate::rows::{Chosen, Group, first_of, word_of};
-use sdc1d_params::Copied;
+use sdc1d_params::{Copied, Penalty};
 use statements::grammar::Kind;
 use statements::statement::Row;
 use statements::words::Word;
+use units::{KcalPerMol, KcalPerMolKelvin};
 
 // The ambient as a file gives it.
 #[derive(Clone, Copy)]
@@ -16,13 +17,6 @@ pub enum Ambient {
     Kelvin(f64),
     // RT, strand excess and scaffold excess.
     Given(f64, f64, f64),
-}
-
-// The junction penalty.
-#[derive(Clone, Copy)]
-pub struct Penalty {
-    pub dg: f64,
-    pub ds: f64,
 }
 
 // Number j of the first row of a group, or 0.0.
@@ -47,34 +41,31 @@ pub fn ambient_of(rows: &[Row]) -> Option<Ambient>
 
 // The junction penalty; 0.0 twice where there is none.
 pub fn junction_penalty(rows: &[Row]) -> Penalty
-    ensures { (result.dg ≡ number_once group.Penalty rows.now 0) × (result.ds ≡ number_once group.Penalty rows.now 1) }
+    ensures { (result.dg.0 ≡ number_once group.Penalty rows.now 0) × (result.ds.0 ≡ number_once group.Penalty rows.now 1) }
 {
     Penalty {
-        dg: number_once(rows, Group::Penalty, 0),
-        ds: number_once(rows, Group::Penalty, 1),
+        dg: KcalPerMol(number_once(rows, Group::Penalty, 0)),
+        ds: KcalPerMolKelvin(number_once(rows, Group::Penalty, 1)),
     }
 }
 
-// The number of the strand with a name, from 1, or 0.
-fn strand_named(text: &[u8], strands: &Chosen, name: Word) -> usize
-    ensures { result ≡ strand_named text.now strands.now.rows.now strands.now.places.now name }
+// The place of the strand with a name among the strands' rows.
+fn strand_named(text: &[u8], strands: &Chosen, name: Word) -> Option<usize>
+    ensures { result ≡ position (is_named text.now strands.now.rows.now name) strands.now.places.now }
 {
-    for (k, row) in strands.places.iter().enumerate() {
-        if same_word(text, name, word_of(strands.rows, *row, 0)) {
-            return k + 1;
-        }
-    }
-    0
+    strands.places.iter().position(|row| same_word(text, name, word_of(strands.rows, *row, 0)))
 }
 
-// Whose glues the quencher or the reporter, by its group, copies. A name that no strand has gives strand 0, which `from_params` refuses.
+// Whose glues the quencher or the reporter, by its group, copies; strands are numbered from 1. A name that no strand has gives strand 0, which
+// `from_params` refuses.
 pub fn copied(text: &[u8], strands: &Chosen, group: Group) -> Copied
     ensures { result ≡ copied_of group text.now strands.now.rows.now strands.now.places.now }
 {
     match first_of(strands.rows, group) {
-        Some(row) if row.words[0].size != 0 => {
-            Copied::Strand(strand_named(text, strands, row.words[0]))
-        }
+        Some(row) if row.words[0].size != 0 => match strand_named(text, strands, row.words[0]) {
+            Some(place) => Copied::Strand(place + 1),
+            None => Copied::Strand(0),
+        },
         _ => Copied::Nothing,
     }
 }

@@ -22,7 +22,7 @@ fn is_sequence(kind: Option<Kind>) -> bool
     matches!(kind, Some(Kind::EnergySequence | Kind::PairSequence))
 }
 
-// Each entry of a slice by a rule.
+// Each entry of a slice by a rule, which is asked by number.
 fn fill<T: Copy, F: Fn(usize) -> T>(out: &mut [T], rule: F)
     requires { F.IsAlwaysCallable rule }
     ensures { (f : ℕ → T) → ((k : ℕ) (x : T) → F.post rule k x → x ≡ f k) → out.new ≡ tabulate (length out.old) f }
@@ -32,7 +32,7 @@ fn fill<T: Copy, F: Fn(usize) -> T>(out: &mut [T], rule: F)
     }
 }
 
-// Number k of rows of three: the mark, the start and the size of a word.
+// Number k of rows of three, the names as C lends them to `from_params`: the mark, the start and the size of a word.
 fn name_number(word: Word, k: usize) -> usize
     ensures { result ≡ name_number word k }
 {
@@ -55,7 +55,7 @@ impl Chosen<'_> {
         }
     }
 
-    // Number k of rows of eight, all that an entry is but its two doubles.
+    // Number k of rows of eight, as C lends them: all that an entry is but its two doubles.
     #[tactic(auto, unfolding(crate::specs::Parts::entry_number_at))]
     fn entry_number(&self, k: usize) -> usize
         ensures { result ≡ entry_number_at self.now.rows.now self.now.places.now k }

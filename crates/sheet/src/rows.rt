@@ -53,7 +53,7 @@ pub(crate) fn first_of(rows: &[Row], group: Group) -> Option<&Row>
     rows.iter().find(|row| Group::from(row.kind) == group)
 }
 
-// The places of a group's rows, in order, into a slice as long as there are.
+// The places of a group's rows, in order, into a slice as long as there are: lent memory, and no heap for a list of them.
 pub fn rows_of(rows: &[Row], group: Group, chosen: &mut [usize])
     ensures { chosen.new ≡ laid group rows.now chosen.old }
 {

@@ -4,6 +4,13 @@ use Rattle.std.specs.Borrow.{Bor}
 use Rattle.lists.specs.Build.{up_to, tabulate}
 use Rattle.lists.specs.Find.{any}
 use Rattle.partition.specs.Weights.{Weights}
+use Rattle.partition_sums.specs.Layout.{lent_weights}
+use Rattle.state_sums.specs.declared.LentWeights.{LentWeights}
+use Rattle.state_sums.specs.declared.LentLists.{LentLists}
+
+-- the weights of so many strands out of what a call is lent
+abbrev pub weights_lent : ℕ → LentWeights → Weights
+weights_lent strands w = lent_weights strands w.place_digits w.place_powers w.pair_digits w.pair_powers
 
 -- not one weight for each position and strand, or for each left and right strand; digits and exponents alike
 abbrev pub wrong_cells : ℕ → Weights → Bool
@@ -20,6 +27,10 @@ pub record Lists : Type 0 where
 -- those that a call is lent
 abbrev pub lent_lists : Bor (List ℕ) → Bor (List ℕ) → Bor (List ℕ) → Lists
 lent_lists numbers starts lengths = record { numbers = numbers.now; starts = starts.now; lengths = lengths.now }
+
+-- those of a struct
+abbrev pub lists_lent : LentLists → Lists
+lists_lent l = lent_lists l.numbers l.starts l.lengths
 
 -- a list starts or ends past so many numbers
 abbrev pub list_outside : ℕ → ℕ → ℕ → Bool

@@ -12,8 +12,8 @@ ghost use Rattle.model.specs.Model.{options};
 ghost use Rattle.design.specs.Design.{positions, strands, model_of};
 ghost use Rattle.design.specs.Checks.{Admitted};
 ghost use Rattle.partition.specs.Weights.{weights_out};
-ghost use Rattle.partition_sums.specs.Layout.{lent_weights, options_of, weights_of, Celled};
-ghost use Rattle.state_sums.specs.Sizes.{lent_lists};
+ghost use Rattle.partition_sums.specs.Layout.{options_of, weights_of, Celled};
+ghost use Rattle.state_sums.specs.Sizes.{weights_lent, lists_lent};
 ghost use Rattle.state_sums.specs.Answers.{sum_figures, free_answer, constrained_answer, FreeShown, ConstrainedShown};
 
 use design::Design;
@@ -28,6 +28,47 @@ use partition_sums::weights::Weights;
 use reply::limits::POSITIONS;
 use reply::{Refusal, Refused, refused_if};
 use sizes::{wrong_cells, wrong_sizes};
+
+// The weights that a call is lent, row first: digits and exponents of each position and strand, and of each left and right strand. The slices may
+// have any lengths: a sum refuses those that do not fit its design.
+#[derive(Clone, Copy)]
+pub struct LentWeights<'a> {
+    pub place_digits: &'a [u32],
+    pub place_powers: &'a [i32],
+    pub pair_digits: &'a [u32],
+    pub pair_powers: &'a [i32],
+}
+
+// The lists of allowed occupants that a call is lent, one for each position, 0 for empty: all numbers in one slice, and where each list starts and
+// how long it is. A sum refuses those that do not fit, too.
+#[derive(Clone, Copy)]
+pub struct LentLists<'a> {
+    pub numbers: &'a [u8],
+    pub starts: &'a [usize],
+    pub lengths: &'a [usize],
+}
+
+impl<'a> LentWeights<'a> {
+    // The weights of the strands of a design.
+    fn of_design(&self, design: &Design) -> Weights<'a>
+        ensures same_strands { result.strands ≡ strands design.now }
+        ensures same_weights { weights_of result ≡ weights_lent (strands design.now) self.now }
+    {
+        let LentWeights {
+            place_digits,
+            place_powers,
+            pair_digits,
+            pair_powers,
+        } = *self;
+        Weights {
+            place_digits,
+            place_powers,
+            pair_digits,
+            pair_powers,
+            strands: design.strands(),
+        }
+    }
+}
 
 // The options of all positions, a row of 64 for each.
 const OPTIONS: usize = 8192;
@@ -66,26 +107,13 @@ fn formed<'a, 'b>(
     Ok(Formed { lent })
 }
 
-// The sum over all states of a design. The weights are lent row first: digits and exponents of each position and strand, and of each left and right
-// strand. Replies 1, 9, 10, 16, 17, 18, 19.
-pub fn free_sum<'a>(
-    design: &Design,
-    place_digits: &'a [u32],
-    place_powers: &'a [i32],
-    pair_digits: &'a [u32],
-    pair_powers: &'a [i32],
-) -> Result<Weight, Refused>
-    ensures result_value { sum_figures result ≡ free_answer design.now (lent_weights (strands design.now) place_digits.entry place_powers.entry pair_digits.entry pair_powers.entry) }
-    ensures free_shown { FreeShown design.now (lent_weights (strands design.now) place_digits.entry place_powers.entry pair_digits.entry pair_powers.entry) (sum_figures result) }
+// The sum over all states of a design. Replies 1, 9, 10, 16, 17, 18, 19.
+pub fn free_sum(design: &Design, weights: &LentWeights<'_>) -> Result<Weight, Refused>
+    ensures result_value { sum_figures result ≡ free_answer design.now (weights_lent (strands design.now) weights.now) }
+    ensures free_shown { FreeShown design.now (weights_lent (strands design.now) weights.now) (sum_figures result) }
 {
     let positions = design.positions();
-    let weights = Weights {
-        place_digits,
-        place_powers,
-        pair_digits,
-        pair_powers,
-        strands: design.strands(),
-    };
+    let weights = weights.of_design(design);
     design_reply(wrong_cells(positions, &weights), design)?;
     refused_if(Refusal::BareScaffold, positions == 0)?;
     let mut rows = [0u8; OPTIONS];
@@ -94,38 +122,23 @@ pub fn free_sum<'a>(
     Ok(partition_sums::sums::free_sum(&formed))
 }
 
-// The sum over the states that meet a constraint: a list of allowed occupants for each position, 0 for empty, all of them lent in one slice of
-// numbers, and where each list starts and how long it is. An empty list leaves its place free. Replies as the free sum's.
-pub fn constrained_sum<'a>(
+// The sum over the states that meet a constraint, lists of allowed occupants. An empty list leaves its place free. Replies as the free sum's.
+pub fn constrained_sum(
     design: &Design,
-    place_digits: &'a [u32],
-    place_powers: &'a [i32],
-    pair_digits: &'a [u32],
-    pair_powers: &'a [i32],
-    numbers: &'a [u8],
-    starts: &'a [usize],
-    lengths: &'a [usize],
+    weights: &LentWeights<'_>,
+    lists: &LentLists<'_>,
 ) -> Result<Weight, Refused>
-    ensures result_value { sum_figures result ≡ constrained_answer design.now (lent_weights (strands design.now) place_digits.entry place_powers.entry pair_digits.entry pair_powers.entry) (lent_lists numbers.entry starts.entry lengths.entry) }
-    ensures constrained_shown { ConstrainedShown design.now (lent_weights (strands design.now) place_digits.entry place_powers.entry pair_digits.entry pair_powers.entry) (lent_lists numbers.entry starts.entry lengths.entry) (sum_figures result) }
+    ensures result_value { sum_figures result ≡ constrained_answer design.now (weights_lent (strands design.now) weights.now) (lists_lent lists.now) }
+    ensures constrained_shown { ConstrainedShown design.now (weights_lent (strands design.now) weights.now) (lists_lent lists.now) (sum_figures result) }
 {
     let positions = design.positions();
-    let weights = Weights {
-        place_digits,
-        place_powers,
-        pair_digits,
-        pair_powers,
-        strands: design.strands(),
-    };
-    design_reply(
-        wrong_sizes(positions, &weights, numbers, starts, lengths),
-        design,
-    )?;
+    let weights = weights.of_design(design);
+    design_reply(wrong_sizes(positions, &weights, lists), design)?;
     refused_if(Refusal::BareScaffold, positions == 0)?;
     let constraint = Constraint {
-        numbers,
-        starts,
-        lengths,
+        numbers: lists.numbers,
+        starts: lists.starts,
+        lengths: lists.lengths,
     };
     let mut rows = [0u8; OPTIONS];
     let mut counts = [0u8; POSITIONS];

@@ -1,8 +1,9 @@
 // Whether what is lent beside a design has the design's sizes.
 ghost use Rattle.std.specs.Prelude.{◌≡◌, ◌||◌, ◌≤◌, false};
 ghost use Rattle.partition_sums.specs.Layout.{weights_of, Listed};
-ghost use Rattle.state_sums.specs.Sizes.{wrong_cells, lent_lists, list_outside, wrong_lists};
+ghost use Rattle.state_sums.specs.Sizes.{wrong_cells, lists_lent, list_outside, wrong_lists};
 
+use super::LentLists;
 use partition_sums::weights::Weights;
 use reply::limits::{POSITIONS, STRANDS};
 
@@ -35,29 +36,23 @@ fn list_outside(many: usize, start: usize, length: usize) -> bool
 
 // Whether there is not just one list for each position, or one leaves the numbers.
 #[tactic(auto, unfolding(crate::specs::Sizes::wrong_lists))]
-pub(crate) fn wrong_lists(
-    positions: usize,
-    numbers: &[u8],
-    starts: &[usize],
-    lengths: &[usize],
-) -> bool
-    ensures { result ≡ wrong_lists positions (lent_lists numbers.entry starts.entry lengths.entry) }
+pub(crate) fn wrong_lists(positions: usize, lists: &LentLists<'_>) -> bool
+    ensures { result ≡ wrong_lists positions (lists_lent lists.now) }
 {
+    let LentLists {
+        numbers,
+        starts,
+        lengths,
+    } = *lists;
     starts.len() != positions
         || lengths.len() != positions
         || (0..positions).any(|i| list_outside(numbers.len(), starts[i], lengths[i]))
 }
 
 // Whether weights or lists do not have a design's sizes.
-pub(crate) fn wrong_sizes(
-    positions: usize,
-    weights: &Weights<'_>,
-    numbers: &[u8],
-    starts: &[usize],
-    lengths: &[usize],
-) -> bool
-    ensures value { positions ≤ 128 → weights.now.strands ≤ 64 → result ≡ (wrong_cells positions (weights_of weights.now) || wrong_lists positions (lent_lists numbers.entry starts.entry lengths.entry)) }
-    ensures listed { result ≡ false → Listed positions numbers.now starts.now lengths.now }
+pub(crate) fn wrong_sizes(positions: usize, weights: &Weights<'_>, lists: &LentLists<'_>) -> bool
+    ensures value { positions ≤ 128 → weights.now.strands ≤ 64 → result ≡ (wrong_cells positions (weights_of weights.now) || wrong_lists positions (lists_lent lists.now)) }
+    ensures listed { result ≡ false → Listed positions lists.now.numbers.now lists.now.starts.now lists.now.lengths.now }
 {
-    wrong_cells(positions, weights) || wrong_lists(positions, numbers, starts, lengths)
+    wrong_cells(positions, weights) || wrong_lists(positions, lists)
 }

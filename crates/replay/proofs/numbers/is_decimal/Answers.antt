@@ -2,6 +2,7 @@
 use Rattle.std.proofs.Common.{refl, ◌∙◌, arith}
 use Rattle.decimals.specs.Digits.{places}
 use Rattle.decimals.proofs.Written.{decimal-is}
+use Rattle.replay.proofs.Words.{as-word}
 use Rattle.replay.proofs.Fewest.{places-fewest}
 use Rattle.replay.proofs.numbers.is_decimal.Goals as goal
 
@@ -11,5 +12,5 @@ returns-in-Ok c = λ e.
     record {
       places = places 10 19 x;
       fewest = places-fewest 19 x (omega (arith, c.ranges.x.fits));
-      written = c.same.ensures.0 e ∙ c.in-Ok.ensures.front.1 ∙ decimal-is x (places 10 19 x) refl;
+      written = as-word c.eq.ensures e ∙ c.in-Ok.ensures.front.1 ∙ decimal-is x (places 10 19 x) refl;
     }

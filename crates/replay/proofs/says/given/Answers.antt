@@ -1,4 +1,6 @@
-use Rattle.std.proofs.Common.{◌≡◌, length, sym, ◌∙◌, arith, take-append-drop, length-take-le, eqb-true}
+use Rattle.std.proofs.Common.{◌≡◌, length, take, sym, ◌∙◌, arith, take-append-drop, length-take-le, eqb-true}
+use Rattle.replay.specs.Says.{ok}
+use Rattle.replay.proofs.Words.{as-word-ne}
 use Rattle.replay.proofs.Tests.{never}
 use Rattle.replay.proofs.Figures.{figures-more, figures-done}
 use Rattle.replay.proofs.says.given.Goals as goal
@@ -6,16 +8,16 @@ use Rattle.replay.proofs.says.given.Goals as goal
 pub returns-then-words-lt2 : goal.returns-then-words-lt2
 returns-then-words-lt2 c = λ e. never e
 
-pub slice_bounds-same-end : goal.slice_bounds-same-end
-slice_bounds-same-end c = sym (length-take-le 2 c.args.words.now (omega arith))
+pub slice_bounds-ne-end : goal.slice_bounds-ne-end
+slice_bounds-ne-end c = sym (length-take-le 2 c.args.words.now (omega arith))
 
-pub returns-then-not-same : goal.returns-then-not-same
-returns-then-not-same c = λ e. never e
+pub returns-then-ne : goal.returns-then-ne
+returns-then-ne c = λ e. never e
 
 pub loop-figure-init : goal.loop-figure-init
 loop-figure-init c =
     let words = c.args.words.now in
-    let two = c.same.ensures.0 c.if-not-same.false in
+    let two : take 2 words ≡ ok = as-word-ne c.ne.ensures c.if-ne.false ∙ c.as_slice.ensures in
     (omega arith, λ e. sym (take-append-drop 2 words) ∙ rw (two, e))
 
 pub returns-then-not-has_figure : goal.returns-then-not-has_figure
