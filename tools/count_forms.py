@@ -58,6 +58,7 @@ places = collections.defaultdict(list)
 facts = collections.defaultdict(list)
 groups = collections.defaultdict(list)
 shapes = collections.defaultdict(list)
+constants = collections.defaultdict(list)
 for path, text in files():
     crate = path.split("/")[1]
     line_of = lambda at: f"{path}:{text.count(chr(10), 0, at) + 1}"
@@ -76,8 +77,14 @@ for path, text in files():
         places["4 compared or converted by hand"].append(f"{line_of(m.start())} {m.group(1)}")
     for m in re.finditer(r"^\s*(while|loop)\b", text, re.M):
         places["3 loops by hand"].append(line_of(m.start()))
-    for m in re.finditer(r"^\s*for \w+ in 0\.\.", text, re.M):
+    for m in re.finditer(r"^\s*for \w+ in [^{\[]*\.\.[^{\[]*\{$", text, re.M):
         places["3 for over indices"].append(line_of(m.start()))
+    for m in re.finditer(r"^( *)for [^{]*\{\n(?: +let [^;]*;\n)*( +)if [^{]*\{\n +return [^;]*;\n\2\}\n\1\}$", text, re.M):
+        places["3 any, all or position by hand"].append(line_of(m.start()))
+    for m in re.finditer(r"^\s*(?:pub(?:\(crate\))? )?const (NO_\w+|NONE|NOTHING)\b", text, re.M):
+        places["1 value for none"].append(f"{line_of(m.start())} {m.group(1)}")
+    for m in re.finditer(r"^(?:pub(?:\(crate\))? )?const (\w+): [^=]* = ([^;]*);", text, re.M):
+        constants[(m.group(1), m.group(2))].append(crate)
     for m in re.finditer(r"(\w+): &(?:mut )?\[\w+\],\s+(\w*(?:count|size|len|length|strands|many)\w*): (?:usize|u8|u64)", text):
         places["6 buffer with a length beside"].append(f"{line_of(m.start())} {m.group(1)}, {m.group(2)}")
     for name, head, clauses, body in functions(text):
@@ -91,6 +98,10 @@ for path, text in files():
         for kind, clause in clauses:
             if kind == "requires":
                 facts[(crate, clause)].append(name)
+        rooms = collections.Counter(re.findall(r"let mut \w+ = \[[^;\]]*; (\w+)\];", body))
+        for room, many in rooms.items():
+            if many >= 3:
+                places["6 parallel arrays"].append(f"{path} {name} ({many} of {room})")
         if body.count("\n") >= 4:
             shapes[shape(body)].append(f"{path} {name}")
 for (crate, clause), users in facts.items():
@@ -102,6 +113,9 @@ for (crate, pair), users in groups.items():
 for key, twins in shapes.items():
     if len(twins) > 1:
         places["2 functions of the same shape"].append("; ".join(twins))
+for (name, value), crates in constants.items():
+    if len(set(crates)) > 1:
+        places["2 a constant in two crates or more"].append(f"{name} = {value}: {', '.join(sorted(set(crates)))}")
 for what in sorted(places):
     print(f"{len(places[what]):5} {what}")
     if verbose:

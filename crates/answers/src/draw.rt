@@ -1,4 +1,6 @@
 // The settled configuration as people see it: the strands over the positions on which they sit, in as many stretches as lines are wide.
+ghost use Rattle.std.specs.Prelude.{◌<◌, IfOk, length};
+
 use crate::SettledDesign;
 use crate::print::{Printer, width};
 use std::io;
@@ -15,10 +17,10 @@ enum Line {
 }
 
 // The head of a line.
-fn head(line: Line) -> &'static [u8] {
+fn head(line: Line) -> &'static str {
     match line {
-        Line::Strands => b"    strands   ",
-        Line::Scaffold => b"    scaffold  ",
+        Line::Strands => "    strands   ",
+        Line::Scaffold => "    scaffold  ",
     }
 }
 
@@ -37,7 +39,9 @@ impl SettledDesign<'_> {
     }
 
     // The position after the last that has room on a line which begins with position `from`.
-    fn stretch_end(&self, from: usize) -> usize {
+    fn stretch_end(&self, from: usize) -> usize
+        ensures { from < length self.now.configuration.now → from < result }
+    {
         let mut used = 0usize;
         // By number: a column is asked for by its position.
         for i in from..self.configuration.len() {
@@ -59,34 +63,33 @@ impl<W: Write> Printer<'_, W> {
         from: usize,
         end: usize,
     ) -> io::Result<()> {
-        self.print(head(line))?;
+        let head = head(line);
+        write!(self.out, "{head}")?;
         // By number: a column is asked for by its position.
         for i in from..end {
             let word = design.shown(line, i);
             self.print_bytes(word)?;
             if i + 1 < end {
                 self.print_blanks(design.column(i).saturating_sub(width(word)))?;
-                self.print(b"  ")?;
+                write!(self.out, "  ")?;
             }
         }
-        self.print(b"\n")
+        writeln!(self.out)
     }
 
     // The head of a stretch, by its first and last position.
     fn print_range(&mut self, first: usize, last: usize) -> io::Result<()> {
         if first == last {
-            self.print(b"  position ")?;
+            writeln!(self.out, "  position {last}")
         } else {
-            self.print(b"  positions ")?;
-            self.print_count(first)?;
-            self.print(b" to ")?;
+            writeln!(self.out, "  positions {first} to {last}")
         }
-        self.print_count(last)?;
-        self.print(b"\n")
     }
 
     // One stretch, and where the next begins.
-    fn print_stretch(&mut self, design: &SettledDesign, from: usize) -> io::Result<usize> {
+    fn print_stretch(&mut self, design: &SettledDesign, from: usize) -> io::Result<usize>
+        ensures { IfOk result (λ end. from < length design.now.configuration.now → from < end) }
+    {
         let end = design.stretch_end(from);
         self.print_range(from.wrapping_add(1), end)?;
         self.print_line(design, Line::Strands, from, end)?;
@@ -94,14 +97,11 @@ impl<W: Write> Printer<'_, W> {
         Ok(end)
     }
 
-    // A stretch has one position at least, so there are no more stretches than positions. A `while` would have to be shown to end; so many turns are
-    // enough.
+    // All stretches in turn.
     pub(crate) fn draw(&mut self, design: &SettledDesign) -> io::Result<()> {
         let mut from = 0;
-        for turn in 0..design.configuration.len() {
-            if from < design.configuration.len() {
-                from = self.print_stretch(design, from)?;
-            }
+        while from < design.configuration.len() {
+            from = self.print_stretch(design, from)?;
         }
         Ok(())
     }

@@ -93,7 +93,7 @@ impl<W: Write> Printer<'_, W> {
     fn print_word(&mut self, text: &[u8], word: Word) -> io::Result<()> {
         if SHOWN < word.size {
             self.print_bytes(part(text, word.start, SHOWN))?;
-            return self.print(b"...");
+            return write!(self.out, "...");
         }
         self.print_bytes(part(text, word.start, word.size))
     }
@@ -101,41 +101,38 @@ impl<W: Write> Printer<'_, W> {
     // The place of a reason and, on a line of its own, the reason, for people.
     fn print_found(&mut self, text: &[u8], found: Found) -> io::Result<()> {
         if let Some(line) = found.spot.line {
-            self.print(b", line ")?;
-            self.print_count(line)?;
+            write!(self.out, ", line {line}")?;
         }
         if let Some(word) = found.spot.word {
-            self.print(b", at ")?;
+            write!(self.out, ", at ")?;
             self.print_word(text, word)?;
         }
-        self.print(b"\n  ")?;
-        self.print(reason_text(found.why))?;
-        self.print(b"\n")
+        let reason = reason_text(found.why);
+        writeln!(self.out, "\n  {reason}")
     }
 
     // The place of a reason and the reason, as the last fields.
     fn print_json_found(&mut self, text: &[u8], found: Found) -> io::Result<()> {
-        self.print(b",\"line\":")?;
+        write!(self.out, ",\"line\":")?;
         self.print_count_or_null(found.spot.line)?;
-        self.print(b",\"word\":")?;
+        write!(self.out, ",\"word\":")?;
         match found.spot.word {
             Some(word) => {
-                self.print(b"\"")?;
+                write!(self.out, "\"")?;
                 self.print_word(text, word)?;
-                self.print(b"\"")?;
+                write!(self.out, "\"")?;
             }
-            None => self.print(b"null")?,
+            None => write!(self.out, "null")?,
         }
-        self.print(b",\"reason\":\"")?;
-        self.print(reason_text(found.why))?;
-        self.print(b"\"}\n")
+        let reason = reason_text(found.why);
+        writeln!(self.out, ",\"reason\":\"{reason}\"}}")
     }
 
     // `{"file":"NAME","reply":`
     pub(crate) fn print_json_head(&mut self, path: &[u8]) -> io::Result<()> {
-        self.print(b"{\"file\":\"")?;
-        self.print_bytes(path)?;
-        self.print(b"\",\"reply\":")
+        write!(self.out, "{{\"file\":")?;
+        self.print_json_text(path)?;
+        write!(self.out, ",\"reply\":")
     }
 }
 
@@ -150,12 +147,12 @@ pub fn unreadable<W: Write>(
     match style {
         Style::People => {
             printer.print_bytes(file.path)?;
-            printer.print(b"\n  unreadable")?;
+            write!(printer.out, "\n  unreadable")?;
             printer.print_found(file.text, found)
         }
         Style::Json => {
             printer.print_json_head(file.path)?;
-            printer.print(b"null")?;
+            write!(printer.out, "null")?;
             printer.print_json_found(file.text, found)
         }
     }
@@ -170,22 +167,17 @@ pub fn refused<W: Write>(
     found: Found,
 ) -> io::Result<()> {
     let mut printer = Printer { out, style };
+    let number = refusal.number();
+    let word = trade_word(refusal);
     match style {
         Style::People => {
             printer.print_bytes(file.path)?;
-            printer.print(b"\n  refused ")?;
-            printer.print_count(refusal.number() as usize)?;
-            printer.print(b" (")?;
-            printer.print(trade_word(refusal))?;
-            printer.print(b")")?;
+            write!(printer.out, "\n  refused {number} ({word})")?;
             printer.print_found(file.text, found)
         }
         Style::Json => {
             printer.print_json_head(file.path)?;
-            printer.print_count(refusal.number() as usize)?;
-            printer.print(b",\"refused\":\"")?;
-            printer.print(trade_word(refusal))?;
-            printer.print(b"\"")?;
+            write!(printer.out, "{number},\"refused\":\"{word}\"")?;
             printer.print_json_found(file.text, found)
         }
     }

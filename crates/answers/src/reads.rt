@@ -5,12 +5,7 @@ ghost use Rattle.std.specs.Prelude.{◌≡◌, ◌+◌, [], length, take, drop, 
 pub fn part(text: &[u8], start: usize, size: usize) -> &[u8]
     ensures { result.now ≡ (if nat_lt (length text.now) (start + size) then [] else take size (drop start text.now)) }
 {
-    if text.len() < start {
-        return &text[0..0];
-    }
-    if text.len() - start < size {
-        return &text[0..0];
-    }
-    let end = start + size;
-    &text[start..end]
+    text.get(start..)
+        .and_then(|rest| rest.get(..size))
+        .unwrap_or(&[])
 }

@@ -6,100 +6,83 @@ use doubles::bits;
 use std::io;
 use std::io::Write;
 
-impl<W: Write> Printer<'_, W> {
+impl<'a, W: Write> Printer<'a, W> {
     // How many there are of something, in the singular where it is one.
-    fn print_number_of(&mut self, n: usize, one: &[u8], more: &[u8]) -> io::Result<()> {
-        self.print_count(n)?;
-        self.print(b" ")?;
-        if n == 1 {
-            self.print(one)
-        } else {
-            self.print(more)
-        }
+    fn print_number_of(&mut self, n: usize, one: &str, more: &str) -> io::Result<()> {
+        let what = if n == 1 { one } else { more };
+        write!(self.out, "{n} {what}")
     }
 
     // The number of states.
     fn print_states(&mut self, states: Option<u64>) -> io::Result<()> {
-        self.print(b"  ")?;
+        write!(self.out, "  ")?;
         match states {
-            Some(n) => self.print_number_of(n as usize, b"state", b"states")?,
-            None => self.print(b"more than 1048576 states")?,
+            Some(n) => self.print_number_of(n as usize, "state\n", "states\n"),
+            None => writeln!(self.out, "more than 1048576 states"),
         }
-        self.print(b"\n")
     }
 
     // The words of a deck, eight on a line.
     fn print_deck(&mut self, deck: &[u32]) -> io::Result<()> {
-        self.print(b"  deck")?;
+        write!(self.out, "  deck")?;
         for (i, word) in deck.iter().enumerate() {
             if 0 < i && i % 8 == 0 {
-                self.print(b"\n      ")?;
+                write!(self.out, "\n      ")?;
             }
-            self.print(b" ")?;
-            self.print_hex(u64::from(*word), 8)?;
+            write!(self.out, " {word:08x}")?;
         }
-        self.print(b"\n")
+        writeln!(self.out)
     }
 
     // For people.
     pub(crate) fn print_settled(&mut self, path: &[u8], design: &SettledDesign) -> io::Result<()> {
         self.print_bytes(path)?;
-        self.print(b"\n  ")?;
-        self.print_number_of(design.configuration.len(), b"position, ", b"positions, ")?;
-        self.print_number_of(design.strand_names.len(), b"strand, ", b"strands, ")?;
-        self.print_number_of(design.entries, b"energy\n", b"energies\n")?;
+        write!(self.out, "\n  ")?;
+        self.print_number_of(design.configuration.len(), "position, ", "positions, ")?;
+        self.print_number_of(design.strand_names.len(), "strand, ", "strands, ")?;
+        self.print_number_of(design.entries, "energy\n", "energies\n")?;
         self.print_states(design.states)?;
         self.draw(design)?;
-        self.print(b"  energy ")?;
+        write!(self.out, "  energy ")?;
         self.print_fixed(design.energy)?;
-        self.print(b" kcal/mol, bits ")?;
-        self.print_hex(bits(design.energy), 16)?;
-        self.print(b"\n")?;
+        let bits = bits(design.energy);
+        writeln!(self.out, " kcal/mol, bits {bits:016x}")?;
         self.print_deck(design.deck)
     }
 
     // A number, or null where there is none.
     pub(crate) fn print_count_or_null(&mut self, n: Option<usize>) -> io::Result<()> {
         match n {
-            Some(n) => self.print_count(n),
-            None => self.print(b"null"),
+            Some(n) => write!(self.out, "{n}"),
+            None => write!(self.out, "null"),
         }
     }
 
-    // The words of a deck, as the items of a list.
-    fn print_json_deck(&mut self, deck: &[u32]) -> io::Result<()> {
-        for (i, word) in deck.iter().enumerate() {
-            self.print_comma(i)?;
-            self.print(b"\"")?;
-            self.print_hex(u64::from(*word), 8)?;
-            self.print(b"\"")?;
-        }
-        Ok(())
-    }
-
-    // Numbers, one for each position, as the items of a list.
-    fn print_json_numbers(&mut self, numbers: &[u8]) -> io::Result<()> {
-        for (i, number) in numbers.iter().enumerate() {
-            self.print_comma(i)?;
-            self.print_count(usize::from(*number))?;
-        }
-        Ok(())
-    }
-
-    // The names of the strands in the configuration, as the items of a list.
-    fn print_json_names(&mut self, design: &SettledDesign) -> io::Result<()> {
-        for (i, number) in design.configuration.iter().enumerate() {
-            self.print_comma(i)?;
-            match design.occupant_of(*number) {
-                Occupant::Nobody => self.print(b"null")?,
-                occupant => {
-                    self.print(b"\"")?;
-                    self.print_bytes(design.name_of(occupant))?;
-                    self.print(b"\"")?;
-                }
+    // A field that holds a list.
+    fn print_list<T, F: Fn(&mut Self, &T) -> io::Result<()>>(
+        &mut self,
+        name: &str,
+        items: &[T],
+        print_item: F,
+    ) -> io::Result<()>
+        requires { F.IsAlwaysCallable print_item }
+    {
+        write!(self.out, ",\"{name}\":[")?;
+        for (i, item) in items.iter().enumerate() {
+            if 0 < i {
+                write!(self.out, ",")?;
             }
+            print_item(self, item)?;
         }
-        Ok(())
+        write!(self.out, "]")
+    }
+
+    // The name of who has this number in a configuration.
+    fn print_json_name(&mut self, design: &SettledDesign, number: u8) -> io::Result<()> {
+        match design.occupant_of(number) {
+            Occupant::Nobody => write!(self.out, "null"),
+            occupant => self.print_json_text(design.name_of(occupant)),
+        }
     }
 
     // As one object, on a line of its own.
@@ -109,26 +92,38 @@ impl<W: Write> Printer<'_, W> {
         design: &SettledDesign,
     ) -> io::Result<()> {
         self.print_json_head(path)?;
-        self.print(b"0,\"positions\":")?;
-        self.print_count(design.configuration.len())?;
-        self.print(b",\"strands\":")?;
-        self.print_count(design.strand_names.len())?;
-        self.print(b",\"energies\":")?;
-        self.print_count(design.entries)?;
-        self.print(b",\"states\":")?;
+        let positions = design.configuration.len();
+        let strands = design.strand_names.len();
+        let energies = design.entries;
+        write!(
+            self.out,
+            "0,\"positions\":{positions},\"strands\":{strands},\"energies\":{energies},\"states\":"
+        )?;
         self.print_count_or_null(design.states.map(|n| n as usize))?;
-        self.print(b",\"configuration\":[")?;
-        self.print_json_numbers(design.configuration)?;
-        self.print(b"],\"blocked\":[")?;
-        self.print_json_numbers(design.marks)?;
-        self.print(b"],\"names\":[")?;
-        self.print_json_names(design)?;
-        self.print(b"],\"energy\":")?;
+        self.print_list(
+            "configuration",
+            design.configuration,
+            |printer: &mut Self, number: &u8| write!(printer.out, "{number}"),
+        )?;
+        self.print_list(
+            "blocked",
+            design.marks,
+            |printer: &mut Self, mark: &u8| write!(printer.out, "{mark}"),
+        )?;
+        self.print_list(
+            "names",
+            design.configuration,
+            |printer: &mut Self, number: &u8| printer.print_json_name(design, *number),
+        )?;
+        write!(self.out, ",\"energy\":")?;
         self.print_fixed(design.energy)?;
-        self.print(b",\"bits\":\"")?;
-        self.print_hex(bits(design.energy), 16)?;
-        self.print(b"\",\"deck\":[")?;
-        self.print_json_deck(design.deck)?;
-        self.print(b"]}\n")
+        let bits = bits(design.energy);
+        write!(self.out, ",\"bits\":\"{bits:016x}\"")?;
+        self.print_list(
+            "deck",
+            design.deck,
+            |printer: &mut Self, word: &u32| write!(printer.out, "\"{word:08x}\""),
+        )?;
+        writeln!(self.out, "}}")
     }
 }

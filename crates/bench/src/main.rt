@@ -4,7 +4,7 @@
 
 use design::Design;
 use reply::{Refusal, Refused};
-use sdc1d_params::{Build, Copied, Copies, Penalty};
+use sdc1d_params::{Build, Copies, LentParameters, Penalty};
 use std::io;
 use std::io::Write;
 use units::{Ambient, KcalPerMol, KcalPerMolKelvin, Kelvin};
@@ -27,29 +27,19 @@ fn same(x: f64, y: f64) -> bool {
 
 // Whether dG and dS were given, with these bits.
 fn is_dg_ds(answer: Result<DgDs, Refusal>, dg: f64, ds: f64) -> bool {
-    match answer {
-        Ok(given) => same(given.dg.0, dg) && same(given.ds.0, ds),
-        Err(_) => false,
-    }
+    answer.is_ok_and(|given| same(given.dg.0, dg) && same(given.ds.0, ds))
 }
 
 // Whether an energy was given, with these bits.
 fn is_dg(answer: Result<KcalPerMol, Refusal>, dg: f64) -> bool {
-    match answer {
-        Ok(given) => same(given.0, dg),
-        Err(_) => false,
-    }
+    answer.is_ok_and(|given| same(given.0, dg))
 }
 
 // Whether an energy lies within 2^-30 of this.
 fn is_near(answer: Result<KcalPerMol, Refusal>, dg: f64) -> bool {
-    match answer {
-        Ok(given) => {
-            given.0 - dg <= 0.0000000009313225746154785
-                && dg - given.0 <= 0.0000000009313225746154785
-        }
-        Err(_) => false,
-    }
+    answer.is_ok_and(|given| {
+        given.0 - dg <= 0.0000000009313225746154785 && dg - given.0 <= 0.0000000009313225746154785
+    })
 }
 
 // The reply to a build of eleven strands, with 33 glues: 31 of as many names, the letter a once, twice and so on; then that letter 32 times
@@ -61,56 +51,36 @@ fn named(mark: usize) -> Result<(), Refusal> {
         19, 1, 0, 20, 1, 0, 21, 1, 0, 22, 1, 0, 23, 1, 0, 24, 1, 0, 25, 1, 0, 26, 1, 0, 27, 1, 0,
         28, 1, 0, 29, 1, 0, 30, 1, 0, 31, mark, 0, 32, 0, 0, 0,
     ];
-    let place = [0usize; 1];
-    let places = &place[0..0];
-    let double = [0.0; 1];
+    let penalty = Penalty {
+        dg: KcalPerMol(0.0),
+        ds: KcalPerMolKelvin(0.0),
+    };
+    let copies = Copies {
+        quencher: None,
+        reporter: None,
+    };
+    let parameters = LentParameters {
+        text: b"aaaaaaaaaaaaaaaaaaaaaaaaaaaaaaaa",
+        users: 11,
+        strands: &strands,
+        scaffold: &[],
+        entries: &[],
+        energies: &[],
+        penalty,
+        copies,
+    };
     let mut strand_glues = [0u8; 42];
     let mut scaffold = [0u8; 1];
     let mut dg = [0.0; 4096];
     let mut ds = [0.0; 4096];
     sdc1d_params::from_params(
         Build::Ordinary,
-        b"aaaaaaaaaaaaaaaaaaaaaaaaaaaaaaaa",
-        11,
-        &strands,
-        places,
-        places,
-        &double[0..0],
-        Penalty {
-            dg: KcalPerMol(0.0),
-            ds: KcalPerMolKelvin(0.0),
-        },
-        Copies {
-            quencher: Copied::Nothing,
-            reporter: Copied::Nothing,
-        },
+        &parameters,
         &mut strand_glues,
         &mut scaffold[0..0],
         &mut dg,
         &mut ds,
     )
-}
-
-// The states of a design.
-fn count_states<'a>(
-    scaffold: &'a [u8],
-    marks: &'a [u8],
-    glues: &'a [u8],
-    dg: &'a [f64],
-    ds: &'a [f64],
-    potentials: &'a [f64],
-    ambient: Ambient,
-) -> Result<u64, Refused> {
-    let design = Design {
-        scaffold,
-        marks,
-        glues,
-        dg,
-        ds,
-        potentials,
-        ambient,
-    };
-    sdc1d::number_of_states(&design)
 }
 
 // The states of a scaffold whose every open position has strand 1 as its one friend.
@@ -125,7 +95,8 @@ fn states_of(scaffold: &[u8], marks: &[u8]) -> Result<u64, Refused> {
         strand_excess: Kelvin(0.0),
         scaffold_excess: Kelvin(0.0),
     };
-    count_states(scaffold, marks, &glues, &dg, &ds, &potentials, ambient)
+    let design = Design::new(scaffold, marks, &glues, &dg, &ds, &potentials, ambient);
+    sdc1d::number_of_states(&design)
 }
 
 // The lines on base names and on counts.

@@ -29,7 +29,8 @@ pub(crate) fn wrong_tables(design: &Design, strand_cells: usize, scaffold_cells:
         || scaffold_cells != positions * strands
 }
 
-// Whether a cell is beyond the most that a bond may be. All are counted: a loop with one way out is one that the compiler takes several at a time.
+// Whether a cell is beyond the most that a bond may be. All are counted, since a turn then has no way out to look at: by `any` the cells of both tables
+// of a largest design take 10.0 µs and not 7.5.
 fn cells_beyond(cells: &[f64]) -> bool
     ensures { result ≡ any (beyond 80000) cells.now }
 {

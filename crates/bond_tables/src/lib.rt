@@ -7,11 +7,10 @@
 mod checks;
 mod terms;
 
-ghost use Rattle.std.specs.Prelude.{◌≡◌, ◌*◌, ◌<◌, ◌≤◌, length};
+ghost use Rattle.std.specs.Prelude.{◌≡◌, ◌*◌, length};
 ghost use Rattle.reply.specs.Figures.{reply_figures};
 ghost use Rattle.ensemble.specs.Layout.{Found};
 ghost use Rattle.design.specs.Design.{positions, strands};
-ghost use Rattle.design.specs.Checks.{Admitted};
 ghost use Rattle.design.specs.Answers.{count_figures, energy_figures};
 ghost use Rattle.bond_tables.specs.Tables.{CellDoubles, model_over};
 ghost use Rattle.bond_tables.specs.Answers.{fill_answer, filled_strands, filled_scaffold, energy_over_answer, count_over_answer, rank_over_answer, rank_over_entries, search_over_answer, search_over_entries, LowestOver};
@@ -19,21 +18,19 @@ ghost use Rattle.bond_tables.specs.Answers.{fill_answer, filled_strands, filled_
 use checks::{bonds_reply, wrong_tables};
 use design::Design;
 use design::checks::design_reply;
-use design::options::fill_options;
+use design::options::options_of;
+use design::passed::AdmittedDesign;
 use design::tables::{fill_scaffold_bonds, fill_strand_bonds};
 use ensemble::bonds::Bonds;
-use ensemble::energies::Places;
+use ensemble::energies::{Places, Terms};
 use ensemble::lent::LentModel;
 use ensemble::lowest::lowest;
-use ensemble::options::Options;
+use ensemble::options::OPTIONS;
 use reply::Refused;
 use reply::limits::POSITIONS;
 use sdc1d::{energy_reply, number_of_states, state_at_rank};
 use terms::fill_terms_over;
 use units::KcalPerMol;
-
-// The options of all positions, a row of 64 for each.
-const OPTIONS: usize = 8192;
 
 // Tables of bonds that are lent beside a design.
 #[derive(Clone, Copy)]
@@ -69,25 +66,14 @@ pub fn state_energy_over(
 {
     bonds_reply(configuration.len() != design.positions(), design, tables)?;
     energy_reply(design, configuration)?;
-    let mut sites = [0.0; POSITIONS];
-    let mut pairs = [0.0; POSITIONS];
-    let mut logs = [0.0; POSITIONS];
-    fill_terms_over(
-        design,
-        tables,
-        configuration,
-        &mut sites,
-        &mut pairs,
-        &mut logs,
-    );
+    let mut terms = [Terms::default(); POSITIONS];
+    fill_terms_over(design, tables, configuration, &mut terms);
     let places = Places {
         configuration,
-        sites: &sites,
-        pairs: &pairs,
-        logs: &logs,
+        terms: &terms,
     };
     let sumg = places.state_sum();
-    Ok(design.rt().scale(sumg))
+    Ok(sumg * design.rt())
 }
 
 // How many states there are. They do not hang on bonds: where the tables pass, it is the count over the design.
@@ -114,28 +100,23 @@ pub fn state_over(
 
 // The options of an admitted design, and the search over them and lent bonds.
 fn lowest_over<'a>(
-    design: &Design<'a>,
+    admitted: &AdmittedDesign<'a>,
     tables: &BondTables<'a>,
     configuration: &mut [u8],
 ) -> KcalPerMol
-    requires admitted { Admitted design.now }
-    requires short { positions design.now ≤ 128 }
-    requires some { 0 < strands design.now }
-    requires few { strands design.now ≤ 64 }
-    requires strand_bonds_len { length tables.now.strand_bonds.now ≡ strands design.now * strands design.now }
-    requires scaffold_bonds_len { length tables.now.scaffold_bonds.now ≡ positions design.now * strands design.now }
-    requires configuration_len { length configuration.old ≡ positions design.now }
-    ensures { Found (model_over design.now tables.now.strand_bonds.now tables.now.scaffold_bonds.now) configuration.new result.0 }
+    requires strand_bonds_len { length tables.now.strand_bonds.now ≡ strands admitted.now * strands admitted.now }
+    requires scaffold_bonds_len { length tables.now.scaffold_bonds.now ≡ positions admitted.now * strands admitted.now }
+    requires configuration_len { length configuration.old ≡ positions admitted.now }
+    ensures { Found (model_over admitted.now tables.now.strand_bonds.now tables.now.scaffold_bonds.now) configuration.new result.0 }
 {
+    let design = admitted.design;
     let mut rows = [0u8; OPTIONS];
     let mut counts = [0u8; POSITIONS];
-    let counts = &mut counts[..design.positions()];
-    fill_options(design, &mut rows, counts);
-    let options = Options {
-        rows: &rows,
-        counts,
-        strands: design.strands(),
-    };
+    let options = options_of(
+        &admitted.tabled(),
+        &mut rows,
+        &mut counts[..design.positions()],
+    );
     let bonds = Bonds::new(
         tables.strand_bonds,
         tables.scaffold_bonds,
@@ -167,5 +148,5 @@ pub fn search_over(
     design.hold_doubles();
     hold_doubles(tables.strand_bonds);
     hold_doubles(tables.scaffold_bonds);
-    Ok(lowest_over(design, tables, configuration))
+    Ok(lowest_over(&AdmittedDesign { design }, tables, configuration))
 }

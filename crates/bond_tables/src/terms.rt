@@ -1,4 +1,5 @@
-// The terms that the places of a configuration add to its energies, out of lent tables.
+// The terms that the places of a configuration add to its energies, out of lent tables. `design::terms` works the bonds out where these are read: one
+// function of two closures would be longer than both.
 ghost use Rattle.std.specs.Prelude.{◌≡◌, ◌≤◌, length};
 ghost use Rattle.ensemble.specs.Layout.{PlaceTerms};
 ghost use Rattle.design.specs.Design.{strands};
@@ -7,6 +8,7 @@ ghost use Rattle.bond_tables.specs.Tables.{bond_cell, model_over};
 use super::BondTables;
 use design::Design;
 use design::reads::{byte_at, number_at};
+use ensemble::energies::Terms;
 
 // The cell [row][column] of a table as wide as there are strands.
 fn bond_cell(strands: usize, cells: &[f64], row: usize, column: u8) -> f64
@@ -17,27 +19,25 @@ fn bond_cell(strands: usize, cells: &[f64], row: usize, column: u8) -> f64
     number_at(cells, row * strands + column as usize)
 }
 
-// For each place its scaffold bond, its strand bond with the place to the right, and its potential.
+// The terms of each place of a configuration.
 pub(crate) fn fill_terms_over(
     design: &Design,
     tables: &BondTables,
     configuration: &[u8],
-    sites: &mut [f64],
-    pairs: &mut [f64],
-    logs: &mut [f64],
+    terms: &mut [Terms],
 )
     requires strands_bound { strands design.now ≤ 64 }
     requires configuration_len_bound { length configuration.now ≤ 128 }
-    requires configuration_in_bounds { length configuration.now ≤ length sites.old }
-    requires configuration_in_bounds_2 { length configuration.now ≤ length pairs.old }
-    requires configuration_in_bounds_3 { length configuration.now ≤ length logs.old }
-    ensures { PlaceTerms (model_over design.now tables.now.strand_bonds.now tables.now.scaffold_bonds.now) configuration.now sites.new pairs.new logs.new }
+    requires configuration_in_bounds { length configuration.now ≤ length terms.old }
+    ensures { PlaceTerms (model_over design.now tables.now.strand_bonds.now tables.now.scaffold_bonds.now) configuration.now terms.new }
 {
     let strands = design.strands();
     for (position, &strand) in configuration.iter().enumerate() {
         let right = byte_at(configuration, position + 1);
-        sites[position] = bond_cell(strands, tables.scaffold_bonds, position, strand);
-        pairs[position] = bond_cell(strands, tables.strand_bonds, strand as usize, right);
-        logs[position] = design.potential_of(strand);
+        terms[position] = Terms {
+            site: bond_cell(strands, tables.scaffold_bonds, position, strand),
+            pair: bond_cell(strands, tables.strand_bonds, strand as usize, right),
+            potential: design.potential_of(strand),
+        };
     }
 }

@@ -20,8 +20,7 @@ use Rattle.sdc_common.specs.Spelled.{is_unknown, spelled_number}
 use Rattle.sdc1d_params.specs.Entries.{is_written}
 use Rattle.sdc1d_params.specs.Tables.{Write, dg_in_range, ds_in_range, out_of_range, write_dg, write_ds, empty_table, dg_table, ds_table}
 use Rattle.sdc1d_params.specs.Params.{Params, strand_names, bases, glue_of_strand, quencher_glues, reporter_glues, strand_glues_of}
-use Rattle.sdc1d_params.specs.declared.Copied.{Copied}
-use Rattle.sdc1d_params.specs.declared.Copied.TheVariants.{Nothing, Strand}
+use Rattle.std.specs.Prelude.{Option, Some, None}
 use Rattle.design.specs.Design as Design
 use Rattle.design.specs.Checks.{high_glue, beyond}
 use Rattle.built.proofs.Numbers.{Small, glue-small, spelled-small}
@@ -43,21 +42,21 @@ module _ (numbers : List ℕ) (each : Each Low numbers) where
   of-strand : (k side : ℕ) → Low (glue_of_strand numbers k side)
   of-strand k side = each-get_or Low numbers 0 each (low 0 (omega arith)) _
 
-  pub quencher-low : (c : Copied) → Each Low (quencher_glues numbers c)
-  quencher-low Nothing = (low 0 (omega arith), (low 0 (omega arith), (low 0 (omega arith), tt)))
-  quencher-low (Strand k) = (of-strand k 0, (of-strand k 1, (low 0 (omega arith), tt)))
+  pub quencher-low : (c : Option ℕ) → Each Low (quencher_glues numbers c)
+  quencher-low None = (low 0 (omega arith), (low 0 (omega arith), (low 0 (omega arith), tt)))
+  quencher-low (Some k) = (of-strand k 0, (of-strand k 1, (low 0 (omega arith), tt)))
 
-  pub reporter-low : (c : Copied) → Each Low (reporter_glues numbers c)
-  reporter-low Nothing = (low 0 (omega arith), (low 0 (omega arith), (low 0 (omega arith), tt)))
-  reporter-low (Strand k) = (low 0 (omega arith), (of-strand k 1, (of-strand k 2, tt)))
+  pub reporter-low : (c : Option ℕ) → Each Low (reporter_glues numbers c)
+  reporter-low None = (low 0 (omega arith), (low 0 (omega arith), (low 0 (omega arith), tt)))
+  reporter-low (Some k) = (low 0 (omega arith), (of-strand k 1, (of-strand k 2, tt)))
 
-quencher-three : (numbers : List ℕ) (c : Copied) → length (quencher_glues numbers c) ≡ 3
-quencher-three numbers Nothing = refl
-quencher-three numbers (Strand k) = refl
+quencher-three : (numbers : List ℕ) (c : Option ℕ) → length (quencher_glues numbers c) ≡ 3
+quencher-three numbers None = refl
+quencher-three numbers (Some k) = refl
 
-reporter-three : (numbers : List ℕ) (c : Copied) → length (reporter_glues numbers c) ≡ 3
-reporter-three numbers Nothing = refl
-reporter-three numbers (Strand k) = refl
+reporter-three : (numbers : List ℕ) (c : Option ℕ) → length (reporter_glues numbers c) ≡ 3
+reporter-three numbers None = refl
+reporter-three numbers (Some k) = refl
 
 module _ (p : Params) where
   abbrev numbers : List ℕ

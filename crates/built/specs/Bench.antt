@@ -1,6 +1,6 @@
 -- Document 01's bench table: the line on names that is marked as proved, through the whole of `from_params`. Letters are their bytes: a is 97,
 -- the star 42.
-use Rattle.std.specs.Prelude.{◌≡◌, refl, List, [], ◌∷◌, ℕ, replicate, set, Float}
+use Rattle.std.specs.Prelude.{◌≡◌, refl, List, [], ◌∷◌, ℕ, replicate, set, Float, None}
 use Rattle.doubles.specs.Decimal.{plus, minus, nearest, zero}
 use Rattle.lists.specs.Build.{tabulate}
 use Rattle.lists.specs.Find.{any, first_index}
@@ -14,7 +14,6 @@ use Rattle.sdc1d_params.specs.Tables.{duplicated, empty_table, dg_table, ds_tabl
 use Rattle.sdc1d_params.specs.Params.{Params, Outcome, writes_of, wrong_size, any_retired, strand_glues_of, from_params}
 use Rattle.sdc1d_params.specs.declared.Build.{Build}
 use Rattle.sdc1d_params.specs.declared.Build.TheVariants.{Ordinary, Archive}
-use Rattle.sdc1d_params.specs.declared.Copied.TheVariants.{Nothing}
 use Rattle.units.specs.declared.Ambient.{Ambient}
 use Rattle.design.specs.Design.{design}
 use Rattle.built.specs.Fits.{design_of, WrittenSymmetric}
@@ -31,8 +30,8 @@ one_strand bytes =
       entries = entries_of [] [];
       penalty_dg = zero;
       penalty_ds = zero;
-      quencher = Nothing;
-      reporter = Nothing;
+      quencher = None;
+      reporter = None;
     }
 
 -- what is lent, with something in each place: glues for strand 0, the strand, quencher and reporter, one scaffold glue, and two tables
@@ -65,8 +64,8 @@ starred_strand =
       entries = entries_of [] [];
       penalty_dg = zero;
       penalty_ds = zero;
-      quencher = Nothing;
-      reporter = Nothing;
+      quencher = None;
+      reporter = None;
     }
 
 -- the ordinary build: 21

@@ -3,6 +3,7 @@ use mathlib.Core.Path.{◌≡◌, refl, sym, ap, ◌∙◌}
 use mathlib.Core.Bool.{Bool, true, false, cond}
 use mathlib.Core.List.{List, [], ◌∷◌, ◌++◌, map, append-nil, append_assoc}
 use Rattle.std.specs.Prelude.{Option, None, Some}
+use Rattle.std.specs.Bool.{then_some}
 use Prim.Native.Nat.{ℕ, suc, ◌+◌, ◌<◌, ◌≤◌}
 use native.Mathlib.Nat.{not-suc-le-zero, le_of_suc-le-suc}
 use native.Mathlib.Omega.{arith}
@@ -64,13 +65,14 @@ module _ (p : List ℕ → Bool) where
 -- ---- with all places taken
 
 module _ (m : Model) (ceiling : Float) (i left : ℕ) (sum : Float) (before : List ℕ) (all : length (options m) ≤ i) (whole : length before ≤ i) (energy : Float) (e : energy ≡ energy_on m i left sum []) where
-  pub end-under : le energy ceiling ≡ true → UnderFrom m ceiling i left sum before before (Some energy)
+  -- a state alone passes where its energy is under the ceiling
+  pub end-told : UnderFrom m ceiling i left sum before before (then_some (le energy ceiling) energy)
   unfolding listing first_passing under_on
-  end-under h = rw (drop_of_length-le (options m) all, ← e, h) (ap Some e, rw (take_all i before whole) (sym (append-nil before)))
-
-  pub end-over : le energy ceiling ≡ false → UnderFrom m ceiling i left sum before before None
-  unfolding listing first_passing under_on
-  end-over h = rw (drop_of_length-le (options m) all, ← e, h) (refl, refl)
+  end-told = go (le energy ceiling) refl
+    where
+      go : (under : Bool) → le energy ceiling ≡ under → UnderFrom m ceiling i left sum before before (then_some under energy)
+      go true h = rw (drop_of_length-le (options m) all, ← e, h) (ap Some e, rw (take_all i before whole) (sym (append-nil before)))
+      go false h = rw (drop_of_length-le (options m) all, ← e, h) (refl, refl)
 
 -- ---- the options of a position in turn
 

@@ -3,57 +3,40 @@
 
 mod under;
 
-ghost use Rattle.std.specs.Prelude.{◌≡◌, ◌*◌, ◌<◌, ◌≤◌, length};
+ghost use Rattle.std.specs.Prelude.{◌≡◌, length};
 ghost use Rattle.ensemble.specs.Layout.{OptionRows};
 ghost use Rattle.design.specs.Design.{positions, strands, model_of};
-ghost use Rattle.design.specs.Checks.{Admitted, TablesPass};
 ghost use Rattle.design.specs.Answers.{energy_figures};
-ghost use Rattle.ceiling.specs.Ceiling.{finite};
 ghost use Rattle.ceiling.specs.Answers.{counted_answer, counted_entries, ceiling_answer, ceiling_entries};
 ghost use Rattle.ceiling.specs.inner.Found.{FoundUnder};
 
 use design::Design;
 use design::checks::{numbers_reply, ranged_reply};
-use ensemble::bonds::Bonds;
+use design::passed::{AdmittedDesign, TabledDesign};
+use ensemble::bonds::{Bonds, SCAFFOLD_BONDS, STRAND_BONDS};
 use ensemble::lent::LentModel;
-use ensemble::options::Options;
+use ensemble::options::{OPTIONS, Options};
 use ensemble::states::MOST_STATES;
 use prepared::bonds::fill_bonds;
-use prepared::options::count_options;
+use prepared::options::{Counted, count_options};
 use prepared::sums::Begun;
 use reply::limits::POSITIONS;
 use reply::{Refusal, Refused, refused_if};
 use under::{Limit, under_from};
 use units::KcalPerMol;
 
-// The options of all positions, a row of 64 for each.
-const OPTIONS: usize = 8192;
-
-// The strand bonds of all strands.
-const STRAND_BONDS: usize = 4096;
-
-// The scaffold bonds of all positions.
-const SCAFFOLD_BONDS: usize = 8192;
-
-// Whether a number is finite.
-fn is_finite(x: f64) -> bool
-    ensures { result ≡ finite x }
-{
-    x.is_finite()
-}
-
 // The bonds of an admitted design, and the first state under the ceiling over these: its energy, where there is one.
 fn search_states(
-    design: &Design,
+    admitted: &AdmittedDesign,
     options: &Options,
     ceiling: KcalPerMol,
     entries: &mut [u8],
 ) -> Option<f64>
-    requires same_strands { options.now.strands ≡ strands design.now }
-    requires strands_nonzero { 0 < strands design.now }
+    requires same_strands { options.now.strands ≡ strands admitted.now }
     requires entries_len { length entries.old ≡ length options.now.counts.now }
-    ensures { Admitted design.now → OptionRows (model_of design.now) options.now.rows.now options.now.counts.now → FoundUnder (model_of design.now) ceiling.0 entries.old entries.new result }
+    ensures { OptionRows (model_of admitted.now) options.now.rows.now options.now.counts.now → FoundUnder (model_of admitted.now) ceiling.0 entries.old entries.new result }
 {
+    let design = admitted.design;
     let mut strand_bonds = [0.0; STRAND_BONDS];
     let mut scaffold_bonds = [0.0; SCAFFOLD_BONDS];
     fill_bonds(design, options, &mut strand_bonds, &mut scaffold_bonds);
@@ -70,31 +53,23 @@ fn search_states(
 // What is answered where the design's tables pass and the ceiling is finite: the number of states is judged, then the design's numbers, then whether
 // a state is under the ceiling.
 fn counted(
-    design: &Design,
+    tabled: &TabledDesign,
     ceiling: KcalPerMol,
-    rows: &mut [u8],
-    counts: &mut [u8],
     entries: &mut [u8],
 ) -> Result<KcalPerMol, Refused>
-    requires tables_pass { TablesPass design.now }
-    requires rows_in_bounds { 64 * positions design.now ≤ length rows.old }
-    requires counts_len { length counts.old ≡ positions design.now }
-    requires entries_len { length entries.old ≡ positions design.now }
-    ensures result_value { energy_figures result ≡ counted_answer design.now ceiling.0 }
-    ensures entries_after { entries.new ≡ counted_entries design.now ceiling.0 entries.old }
+    requires entries_len { length entries.old ≡ positions tabled.now }
+    ensures result_value { energy_figures result ≡ counted_answer tabled.now ceiling.0 }
+    ensures entries_after { entries.new ≡ counted_entries tabled.now ceiling.0 entries.old }
 {
-    let states = count_options(design, rows, counts);
+    let design = tabled.design;
+    let mut rows = [0; OPTIONS];
+    let mut counts = [0; POSITIONS];
+    let counts = &mut counts[..design.positions()];
+    let Counted { options, states } = count_options(tabled, &mut rows, counts);
     refused_if(Refusal::TooManyStates, MOST_STATES < states)?;
     numbers_reply(design)?;
-    let options = Options {
-        rows,
-        counts,
-        strands: design.strands(),
-    };
-    match search_states(design, &options, ceiling, entries) {
-        Some(energy) => Ok(KcalPerMol(energy)),
-        None => Err(Refusal::NoneUnder.into()),
-    }
+    let found = search_states(&AdmittedDesign { design }, &options, ceiling, entries);
+    Ok(KcalPerMol(found.ok_or(Refusal::NoneUnder)?))
 }
 
 // The first state in the order of `system_states` whose state energy is at most the ceiling, into one lent entry for each position; and its energy.
@@ -106,15 +81,7 @@ pub fn first_state_under(
     ensures result_value { energy_figures result ≡ ceiling_answer design.now ceiling.0 entries.old }
     ensures entries_after { entries.new ≡ ceiling_entries design.now ceiling.0 entries.old }
 {
-    let positions = design.positions();
-    ranged_reply(entries.len() != positions, !is_finite(ceiling.0), design)?;
-    let mut rows = [0; OPTIONS];
-    let mut counts = [0; POSITIONS];
-    counted(
-        design,
-        ceiling,
-        &mut rows,
-        &mut counts[..positions],
-        entries,
-    )
+    let own_size = entries.len() != design.positions();
+    ranged_reply(own_size, !ceiling.0.is_finite(), design)?;
+    counted(&TabledDesign { design }, ceiling, entries)
 }

@@ -33,11 +33,7 @@ pub(crate) fn under_from(
 {
     if position == lent.options.counts.len() {
         let energy = ended(begun, lent.bonds.potentials) * limit.rt;
-        return if energy <= limit.ceiling {
-            Some(energy)
-        } else {
-            None
-        };
+        return (energy <= limit.ceiling).then_some(energy);
     }
     for strand in lent.options.of(position) {
         let next = begin(begun, *strand, position, &lent.bonds);

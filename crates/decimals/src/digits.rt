@@ -64,6 +64,7 @@ pub(crate) fn put_digits(n: u64, base: u64, out: &mut [u8])
     ensures { out.new ≡ digits_in base (length out.old) n }
 {
     let mut left = n;
+    // By number: of what is written through a `rev` of an `iter_mut` nothing is known.
     for i in (0..out.len()).rev() {
         out[i] = digit(left % base);
         left /= base;

@@ -13,12 +13,9 @@ ghost use Rattle.decimals.specs.Number.{number_of};
 ghost use Rattle.decimals.specs.Print.{printed, laid, fixed_printed, fixed_out};
 
 use digits::{count_places, put_digits, read_digits};
-use doubles::double;
+use doubles::{SIGN, double};
 use printing::{in_millionths, write_millionths};
 use reading::{decimal, is_pattern};
-
-// The bit of the sign.
-const SIGN: u64 = 1 << 63;
 
 // The bits of 2 ^ 43.
 const UNPRINTABLE: u64 = 0x42a0_0000_0000_0000;

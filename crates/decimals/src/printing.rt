@@ -9,7 +9,8 @@ ghost use Rattle.decimals.specs.Print.{minus_signs, fixed, millionths, printed, 
 use super::PrintFault;
 use super::digits::{count_places, put_digits};
 use super::limbs::{limbs_of, times, times_power};
-use super::rounding::{HIDDEN, nearest_quotient};
+use super::rounding::nearest_quotient;
+use doubles::HIDDEN;
 
 // How many millionths are 1.
 const MILLION: u64 = 1_000_000;
@@ -42,7 +43,7 @@ pub(crate) fn in_millionths(bits: u64) -> u64
 fn minus_signs(negative: bool, n: u64) -> usize
     ensures { (result ≡ minus_signs negative n) × (result ≤ 1) }
 {
-    if negative && n != 0 { 1 } else { 0 }
+    usize::from(negative && n != 0)
 }
 
 // n millionths with six places.

@@ -5,7 +5,7 @@ ghost use Rattle.decimals.specs.Number.{begins_with, sign_length, point_length, 
 
 use super::NumberFault;
 use super::digits::{digit_run, read_digits};
-use super::rounding::decimal_double;
+use super::rounding::Decimal;
 
 // One more than the digits of a decimal may stand for.
 const TOO_MANY: u64 = 100_000_000_000_000_000;
@@ -16,7 +16,7 @@ const TOO_HIGH: u64 = 1000;
 // The largest power of ten, of either sign, that the last digit may stand for.
 const FARTHEST: usize = 400;
 
-// The power of ten behind a decimal's digits: 10 ^ up / 10 ^ down, of which one is 0.
+// The power of ten behind a decimal's digits: 10 ^ up / 10 ^ down, of which one is 0. Two naturals and no sign, since what is proved is of naturals.
 #[derive(Clone, Copy)]
 struct Exponent {
     up: u64,
@@ -34,18 +34,14 @@ fn begins_with(text: &[u8], b: u8) -> bool
 fn sign_length(text: &[u8]) -> usize
     ensures { (result ≡ sign_length text.now) × (result ≤ length text.now) }
 {
-    if begins_with(text, b'+') || begins_with(text, b'-') {
-        1
-    } else {
-        0
-    }
+    usize::from(begins_with(text, b'+') || begins_with(text, b'-'))
 }
 
 // How long the point in front of a text is.
 fn point_length(text: &[u8]) -> usize
     ensures { (result ≡ point_length text.now) × (result ≤ length text.now) }
 {
-    if begins_with(text, b'.') { 1 } else { 0 }
+    usize::from(begins_with(text, b'.'))
 }
 
 // Whether a text is nothing but digits, and has one.
@@ -95,7 +91,13 @@ fn place(negative: bool, digits: u64, up: usize, down: usize) -> Result<f64, Num
     if FARTHEST < above || FARTHEST < below {
         return Err(NumberFault::OutOfReach);
     }
-    Ok(decimal_double(negative, digits, above, below))
+    let decimal = Decimal {
+        negative,
+        digits,
+        up: above,
+        down: below,
+    };
+    Ok(decimal.nearest())
 }
 
 // The number that the digits before the point and those after it stand for together; the limit where it is above that.

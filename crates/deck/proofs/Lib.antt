@@ -4,10 +4,12 @@ pub mod Singles
 pub mod Runs
 pub mod Decks
 pub mod Beginning
+pub mod Found
 pub mod Walk
 pub mod Faults
 pub mod Laying
 pub mod FirstRun
+pub mod Chunks
 pub mod Neighbours
 pub mod Valid
 pub mod ValidRuns

@@ -141,11 +141,7 @@ module _ (form : Form) where
 
   -- ---- a run in front
 
-  pub in-front-single : (o : ℕ) (ss : List Stretch) → form.in_runs o ≡ false → in_front form o ss ≡ stretch o 1 ∷ ss
-  in-front-single o [] n = refl
-  in-front-single o (s ∷ ss) n = in-front-cases (λ ts. ts ≡ stretch o 1 ∷ s ∷ ss) o s ss (λ e j. absurd (true≢false (sym j ∙ n))) (λ e. refl)
-
-  in-front-apart : (o : ℕ) (ss : List Stretch) → follow form (stretch o 1) ss ≡ true → in_front form o ss ≡ stretch o 1 ∷ ss
+  pub in-front-apart : (o : ℕ) (ss : List Stretch) → follow form (stretch o 1) ss ≡ true → in_front form o ss ≡ stretch o 1 ∷ ss
   unfolding follow
   in-front-apart o [] f = refl
   in-front-apart o (s ∷ ss) f = rw (may-apart (stretch o 1) s (both (may_follow form (stretch o 1) s) (follow form s ss) f).0).1

@@ -15,9 +15,11 @@ use Rattle.lists.specs.Front.{beginnings}
 use Rattle.lists.proofs.Find.{first-map, first-same}
 use Rattle.lists.proofs.Front.{beginnings-map}
 use Rattle.deck.specs.Word.{payload_of}
-use Rattle.deck.specs.Form.{Form, nothing, may_follow}
+use Rattle.deck.specs.Form.{Form, nothing, something, same_run, may_follow}
 use Rattle.deck.specs.Deck.{is_first, follow, positions, is_deck, begins, does_not_begin, misfit_of}
 use Rattle.deck.specs.inner.Fault.{fault_of}
+use Rattle.deck.specs.inner.Found.{found, joins}
+use Rattle.deck.proofs.Found.{none-found, some-found}
 use Rattle.std.specs.Prelude.{Option, None, Some}
 use Rattle.deck.specs.declared.form.Stretch.{Stretch}
 
@@ -173,3 +175,33 @@ module _ (form : Form) where
     pub walk_ends : length rest ≤ i → walk (i + 1) before left (map form.stretch_of (drop i rest)) ≡ cond (eqb 0 left) None (Some (i + 1))
     unfolding walk
     walk_ends h = rw (drop_of_length-le rest h)
+
+-- ---- what the code says of a word: it stands for none, or its stretch joins the one before, or has more positions than are left
+
+-- nothing is joined
+joins-found : (form : Form) (before s : Stretch) → joins form (found before) s ≡ (something before && same_run form before.occupant s.occupant)
+joins-found form before s = go (something before)
+  where
+    go : (t : Bool) → joins form (cond t (Some before) None) s ≡ (t && same_run form before.occupant s.occupant)
+    go true = refl
+    go false = refl
+
+module _ (form : Form) (before s : Stretch) (left : ℕ) where
+  pub none-fits : found s ≡ None → fits form before left s ≡ false
+  none-fits e = rw (none-found s e) refl
+
+  module _ {here : Stretch} (e : found s ≡ Some here) where
+    pub here-run : here.run ≡ s.run
+    here-run = ap (λ (x : Stretch). x.run) (sym (some-found s e).1)
+
+    said : {b : Bool} → joins form (found before) here ≡ b → may_follow form before s ≡ not b
+    said j = rw ((some-found s e).0, sym (joins-found form before s)) (ap not (ap (joins form (found before)) (some-found s e).1 ∙ j))
+
+    pub joined-out : joins form (found before) here ≡ true → fits form before left s ≡ false
+    joined-out j = rw (said j) refl
+
+    pub long-out : left < here.run → fits form before left s ≡ false
+    long-out h = rw (lt-leb s.run left (rw here-run at h)) (and-false (may_follow form before s))
+
+    pub fits-here : joins form (found before) here ≡ false → here.run ≤ left → fits form before left s ≡ true
+    fits-here j h = rw (said j, le-leb s.run left (rw here-run at h)) refl

@@ -1,2 +1,3 @@
 -- Words of private contracts alone: no public contract and no theorem stands on them.
 pub mod Fault
+pub mod Found

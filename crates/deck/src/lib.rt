@@ -14,7 +14,7 @@ ghost use Rattle.deck.specs.Reading.{read_figures_of, read_figures, read_entries
 ghost use Rattle.deck.specs.Writing.{wrong_lengths, write_figures_of, write_figures, write_words};
 ghost use Rattle.deck.specs.Moving.{move_figures_of, move_figures, move_words, MovesTo};
 
-use form::POSITIONS;
+use reply::limits::POSITIONS;
 use reply::{Refusal, Refused, refused_if};
 
 // A first word, and a word for each position at most.

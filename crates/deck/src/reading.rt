@@ -6,8 +6,9 @@ ghost use Rattle.deck.specs.Deck.{is_deck, configuration_of};
 ghost use Rattle.deck.specs.inner.Fault.{fault_of};
 
 use super::DeckForm;
-use super::form::{FIRST, POSITIONS, Stretch};
+use super::form::{FIRST, Stretch};
 use super::word::Word;
+use reply::limits::POSITIONS;
 
 // The place of the fault, and none in a valid deck.
 pub(crate) fn fault(form: DeckForm, words: &[u32]) -> Option<usize>
@@ -21,14 +22,16 @@ pub(crate) fn fault(form: DeckForm, words: &[u32]) -> Option<usize>
     if first.kind != FIRST || POSITIONS < left {
         return Some(0);
     }
-    let mut before = Stretch::nothing();
+    let mut before = None;
     for (i, word) in rest.iter().enumerate() {
-        let here = Stretch::of(form, *word);
-        if !here.may_follow(form, before) || left < here.run {
+        let Some(here) = Stretch::of(form, *word) else {
+            return Some(i + 1);
+        };
+        if here.joins(form, before) || left < here.run {
             return Some(i + 1);
         }
         left -= here.run;
-        before = here;
+        before = Some(here);
     }
     if left == 0 { None } else { Some(words.len()) }
 }
@@ -41,10 +44,12 @@ pub(crate) fn unpack(form: DeckForm, words: &[u32], entries: &mut [u8]) -> usize
     let (_, rest) = words.split_at(1);
     let mut at = 0;
     for word in rest {
-        let stretch = Stretch::of(form, *word);
-        let end = at + stretch.run;
-        entries[at..end].fill(stretch.occupant);
-        at = end;
+        // Each word of a valid deck stands for one.
+        if let Some(stretch) = Stretch::of(form, *word) {
+            let end = at + stretch.run;
+            entries[at..end].fill(stretch.occupant);
+            at = end;
+        }
     }
     at
 }

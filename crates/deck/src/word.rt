@@ -5,7 +5,7 @@ ghost use Rattle.deck.specs.Word.{kind_of, payload_of, word_of};
 // How many payloads there are: the low 28 bits.
 const PAYLOADS: u32 = 0x1000_0000;
 
-// A kind, the top 4 bits, and a payload, the low 28.
+// A kind, the top 4 bits, and a payload, the low 28. The kind is a number: a stored word may have any of 16, and forms know four of them.
 #[derive(Clone, Copy)]
 pub struct Word {
     pub kind: u32,

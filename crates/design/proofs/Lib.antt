@@ -1,4 +1,5 @@
 pub mod Sizes
+pub mod PassedLaws
 pub mod Parts
 pub mod Optioned
 pub mod Held

@@ -1,5 +1,6 @@
 pub mod Design
 pub mod Checks
+pub mod Passed
 pub mod Places
 pub mod Answers
 pub mod Laws

@@ -10,7 +10,7 @@ use units::{KcalPerMol, KcalPerMolKelvin, Kelvin};
 pub fn bond(dg: KcalPerMol, ds: KcalPerMolKelvin, excess: Kelvin, rt: KcalPerMol) -> f64
     ensures { result ≡ bond_of dg.0 ds.0 excess.0 rt.0 }
 {
-    dg.sub(excess.times(ds)).over(rt)
+    (dg - excess * ds) / rt
 }
 
 impl<'a> Design<'a> {

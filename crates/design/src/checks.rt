@@ -48,17 +48,17 @@ fn wrong_sizes(design: &Design) -> bool
 }
 
 // Whether a cell of either table is out of its range. All are counted, a cell of each table in a turn: so the compiler tests the two at once.
-fn cells_out(dg: &[f64], ds: &[f64]) -> bool
-    requires { length dg.now ≡ length ds.now }
-    ensures { result ≡ cells_out dg.now ds.now }
+fn cells_out(design: &Design) -> bool
+    requires { length design.now.dg ≡ length design.now.ds }
+    ensures { result ≡ cells_out design.now.dg design.now.ds }
 {
     let mut dg_out: usize = 0;
     let mut ds_out: usize = 0;
-    for (i, &dg_cell) in dg.iter().enumerate() {
+    for (i, &dg_cell) in design.dg.iter().enumerate() {
         if !doubles::in_range(-DG, DG, dg_cell) {
             dg_out += 1;
         }
-        if !doubles::in_range(-DS, DS, ds[i]) {
+        if !doubles::in_range(-DS, DS, design.ds[i]) {
             ds_out += 1;
         }
     }
@@ -75,27 +75,27 @@ fn first_beyond(most: f64, numbers: &[f64]) -> Option<usize>
 }
 
 // The lowest cell that is out of its range, dS's counted on from dG's.
-fn bad_cell(dg: &[f64], ds: &[f64]) -> Option<usize>
-    requires dg_len { length dg.now ≡ 4096 }
-    requires ds_len { length ds.now ≡ 4096 }
-    ensures { result ≡ cond (cells_out dg.now ds.now) (Some (bad_cell dg.now ds.now)) None }
+fn bad_cell(design: &Design) -> Option<usize>
+    requires dg_len { length design.now.dg ≡ 4096 }
+    requires ds_len { length design.now.ds ≡ 4096 }
+    ensures { result ≡ cond (cells_out design.now.dg design.now.ds) (Some (bad_cell design.now.dg design.now.ds)) None }
 {
-    match first_beyond(DG, dg) {
+    match first_beyond(DG, design.dg) {
         Some(place) => Some(place),
-        None => Some(CELLS + first_beyond(DS, ds)?),
+        None => Some(CELLS + first_beyond(DS, design.ds)?),
     }
 }
 
 // Whether a cell is out of its range, and which: it is looked for only where one is.
-fn cells_reply(dg: &[f64], ds: &[f64]) -> Result<(), Refused>
-    requires dg_len { length dg.now ≡ 4096 }
-    requires ds_len { length ds.now ≡ 4096 }
-    ensures { result ≡ first_of (OutOfRange if cells_out dg.now ds.now at bad_cell dg.now ds.now ∷ []) }
+fn cells_reply(design: &Design) -> Result<(), Refused>
+    requires dg_len { length design.now.dg ≡ 4096 }
+    requires ds_len { length design.now.ds ≡ 4096 }
+    ensures { result ≡ first_of (OutOfRange if cells_out design.now.dg design.now.ds at bad_cell design.now.dg design.now.ds ∷ []) }
 {
-    if cells_out(dg, ds) {
+    if cells_out(design) {
         return Err(Refused {
             refusal: Refusal::OutOfRange,
-            place: bad_cell(dg, ds),
+            place: bad_cell(design),
         });
     }
     Ok(())
@@ -150,10 +150,15 @@ fn null_binds(design: &Design) -> bool
 // The first of the checks of a design's tables that holds: their sizes, with what the call itself finds wrong with one, their cells, what else the
 // call finds out of range, and null.
 pub fn ranged_reply(own_size: bool, own_range: bool, design: &Design) -> Result<(), Refused>
-    ensures { result ≡ first_of (ranged_checks own_size own_range design.now.scaffold design.now.marks design.now.glues design.now.dg design.now.ds design.now.potentials) }
+    ensures value { result ≡ first_of (ranged_checks own_size own_range design.now.scaffold design.now.marks design.now.glues design.now.dg design.now.ds design.now.potentials) }
+    ensures own { OnOk result (own_size ≡ false) }
+    ensures tables { OnOk result (TablesPass design.now) }
+    ensures short { OnOk result (positions design.now ≤ 128) }
+    ensures some { OnOk result (0 < strands design.now) }
+    ensures few { OnOk result (strands design.now ≤ 64) }
 {
     refused_if(Refusal::WrongSize, own_size || wrong_sizes(design))?;
-    cells_reply(design.dg, design.ds)?;
+    cells_reply(design)?;
     refused_if(Refusal::OutOfRange, own_range)?;
     refused_if(Refusal::NullBinds, null_binds(design))?;
     Ok(())
@@ -174,7 +179,8 @@ pub fn tables_reply(own_size: bool, design: &Design) -> Result<(), Refused>
 // The first of the checks of a design's numbers that holds: its ambient, and the potentials that are read.
 pub fn numbers_reply(design: &Design) -> Result<(), Refused>
     requires { strands design.now ≤ 64 }
-    ensures { result ≡ first_of (number_checks design.now) }
+    ensures value { result ≡ first_of (number_checks design.now) }
+    ensures admitted { TablesPass design.now → OnOk result (Admitted design.now) }
 {
     ambient_reply(design.ambient)?;
     match first_unfit(design) {

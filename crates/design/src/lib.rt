@@ -7,10 +7,12 @@ pub mod checks;
 pub mod friends;
 pub mod needed;
 pub mod options;
+pub mod passed;
 pub mod reads;
 pub mod tables;
 pub mod terms;
 
+ghost use Rattle.std.specs.Prelude.{◌≡◌};
 ghost use Rattle.design.specs.Design.{Design, design};
 ghost use Rattle.design.specs.Laws.{Doubles};
 
@@ -33,6 +35,31 @@ pub struct Design<'a> {
     // The logarithm of each strand's concentration.
     pub potentials: &'a [f64],
     pub ambient: Ambient,
+}
+
+impl<'a> Design<'a> {
+    // Out of its parts. As a function of its own it knows that they are doubles, which of a caller's arrays is not known.
+    pub fn new(
+        scaffold: &'a [u8],
+        marks: &'a [u8],
+        glues: &'a [u8],
+        dg: &'a [f64],
+        ds: &'a [f64],
+        potentials: &'a [f64],
+        ambient: Ambient,
+    ) -> Self
+        ensures { result ≡ design scaffold.now marks.now glues.now dg.now ds.now potentials.now ambient }
+    {
+        Design {
+            scaffold,
+            marks,
+            glues,
+            dg,
+            ds,
+            potentials,
+            ambient,
+        }
+    }
 }
 
 impl<'a> Model for Design<'a> {

@@ -55,7 +55,7 @@ pub fn fill_needed_strand_bonds(design: &Design, options: &Options, cells: &mut 
     requires strands_in_bounds { strands design.now * strands design.now ≤ length cells.old }
     ensures { PairsHeld (strand_bond_in design.now) (strands design.now) cells.new options.now.rows.now options.now.counts.now (length options.now.counts.now - 1) }
 {
-    // By number, as in the next two loops: what is asked of two neighbours, or of a position, is asked by it.
+    // By number, as of the scaffold bonds below: options are asked of a position.
     for right in 1..options.counts.len() {
         fill_neighbours(design, options.of(right - 1), options.friends(right), cells);
     }
@@ -68,8 +68,8 @@ fn pairs_read(counts: &[u8]) -> usize
     ensures { result ≤ 65025 * 128 }
 {
     let mut read = 0;
-    for position in 1..counts.len() {
-        read += usize::from(counts[position - 1]) * usize::from(counts[position]);
+    for pair in counts.windows(2) {
+        read += usize::from(pair[0]) * usize::from(pair[1]);
     }
     read
 }

@@ -6,6 +6,8 @@ ghost use Rattle.design.specs.Design.{positions, strands, befriends, friends_to,
 ghost use Rattle.design.specs.Filling.{NullNowhere, Optioned};
 
 use super::Design;
+use super::passed::TabledDesign;
+use ensemble::options::Options;
 
 // Writes the friends into the first entries, and says how many there are.
 pub fn write_friends(design: &Design, scaffold_glue: u8, entries: &mut [u8]) -> usize
@@ -59,5 +61,26 @@ pub fn fill_options(design: &Design, rows: &mut [u8], counts: &mut [u8])
     for position in 0..design.positions() {
         let row = 64 * position;
         counts[position] = fill_row(design, position, &mut rows[row..row + 64]);
+    }
+}
+
+// The same of a design whose tables pass, handed back as they are lent to a search.
+pub fn options_of<'a>(
+    tabled: &TabledDesign,
+    rows: &'a mut [u8],
+    counts: &'a mut [u8],
+) -> Options<'a>
+    requires rows_in_bounds { 64 * positions tabled.now ≤ length rows.old }
+    requires counts_len { length counts.old ≡ positions tabled.now }
+    ensures same_strands { result.strands ≡ strands tabled.now }
+    ensures option_rows { (m : Model) → m.friends ≡ (model_of tabled.now).friends → OptionRows m result.rows.now result.counts.now }
+    ensures rows_len { length result.rows.now ≡ length rows.old }
+    ensures counts_len { length result.counts.now ≡ positions tabled.now }
+{
+    fill_options(tabled.design, rows, counts);
+    Options {
+        rows,
+        counts,
+        strands: tabled.design.strands(),
     }
 }

@@ -8,6 +8,12 @@ ghost use Rattle.doubles.specs.Range.{within};
 
 use std::num;
 
+// The bit of a double's sign.
+pub const SIGN: u64 = 1 << 63;
+
+// The digit that the bits of a normal double leave out.
+pub const HIDDEN: u64 = 1 << 52;
+
 // Whether x is from low to high, both included. A NaN is in no range, and between finite ends no infinity is.
 pub fn in_range(low: f64, high: f64, x: f64) -> bool
     ensures { result ≡ within low high x }

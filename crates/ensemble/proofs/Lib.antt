@@ -4,6 +4,7 @@ pub mod Choosing
 pub mod Attachments
 pub mod Rest
 pub mod Vector
+pub mod Walked
 pub mod Passing
 pub mod LentParts
 pub mod LastLeast

@@ -6,6 +6,7 @@ use Rattle.std.specs.Float.{nan}
 use Rattle.model.specs.Model as Model
 use Rattle.model.specs.Model.{Model, Friend, occupant}
 use Rattle.model.specs.Search.{options_at, search}
+use Rattle.ensemble.specs.declared.energies.Terms.{Terms}
 
 -- ---- options: rows of 64, a row for each position, and how many options each position has
 
@@ -45,12 +46,16 @@ pub record BondCells (m : Model) (strands : ℕ) (strand_bonds scaffold_bonds po
 
 -- ---- the places of one configuration
 
+-- the terms of a place
+abbrev pub terms_at : List Terms → ℕ → Terms
+terms_at terms i = get_or terms i (record { site = nan; pair = nan; potential = nan })
+
 -- The terms of a configuration's places are the model's: the scaffold bond and the potential of each strand at its place, and the strand bond of
 -- each place with its right neighbour, 0 included.
-pub record PlaceTerms (m : Model) (s : List ℕ) (sites pairs logs : List Float) : Type 0 where
-  pub site : (i : ℕ) → i < length s → (occupant s i ≡ 0 → ⊥) → get_or sites i nan ≡ m.site i (occupant s i)
-  pub pair : (i : ℕ) → i + 1 < length s → get_or pairs i nan ≡ m.pair (occupant s i) (occupant s (i + 1))
-  pub log : (i : ℕ) → i < length s → (occupant s i ≡ 0 → ⊥) → get_or logs i nan ≡ m.potential (occupant s i)
+pub record PlaceTerms (m : Model) (s : List ℕ) (terms : List Terms) : Type 0 where
+  pub site : (i : ℕ) → i < length s → (occupant s i ≡ 0 → ⊥) → (terms_at terms i).site ≡ m.site i (occupant s i)
+  pub pair : (i : ℕ) → i + 1 < length s → (terms_at terms i).pair ≡ m.pair (occupant s i) (occupant s (i + 1))
+  pub potential : (i : ℕ) → i < length s → (occupant s i ≡ 0 → ⊥) → (terms_at terms i).potential ≡ m.potential (occupant s i)
 
 -- ---- what is found
 

@@ -44,11 +44,10 @@ impl Entries<'_> {
         }
         let mut strand = self.options[0];
         let mut energy = key(strand, self.energies[0]);
-        for k in 1..self.options.len() {
-            let next = self.options[k];
-            let next_energy = key(next, self.energies[k]);
+        for (next, given) in self.options[1..].iter().zip(&self.energies[1..]) {
+            let next_energy = key(*next, *given);
             if !stays(energy, next_energy) {
-                strand = next;
+                strand = *next;
                 energy = next_energy;
             }
         }
@@ -88,9 +87,9 @@ pub(crate) fn attach_each(
     ensures { Attachments (table_bond left.now.bonds.strands left.now.bonds.cells.now) left.now.options.now left.now.energies.now friends.now (length friends.now) best.new choice.new }
 {
     for friend in friends {
-        let tile = usize::from(*friend);
-        let attached = left.least_for_friend(tile);
-        best[tile] = attached.energy;
-        choice[tile] = attached.strand;
+        let right = usize::from(*friend);
+        let attached = left.least_for_friend(right);
+        best[right] = attached.energy;
+        choice[right] = attached.strand;
     }
 }

@@ -3,6 +3,12 @@ ghost use Rattle.std.specs.Prelude.{◌≡◌, ℕ, ◌+◌, ◌*◌, ◌<◌, �
 ghost use Rattle.std.specs.Float.{nan};
 ghost use Rattle.ensemble.specs.inner.Entries.{table_bond};
 
+// The strand bonds of as many strands as there may be: 64 rows of 64.
+pub const STRAND_BONDS: usize = 4096;
+
+// The scaffold bonds of as many positions and strands as there may be: 128 rows of 64.
+pub const SCAFFOLD_BONDS: usize = 8192;
+
 // A table of strand bonds.
 #[derive(Clone, Copy)]
 pub struct StrandBonds<'a> {

@@ -41,6 +41,7 @@ impl Choices {
         ensures { configuration.new ≡ traced_back (choice_in self.now.friends self.now.empty) (length configuration.old) last }
     {
         let mut strand = last;
+        // By number: after `iter_mut().enumerate().rev()` nothing is known of what was written.
         for position in (0..configuration.len()).rev() {
             configuration[position] = strand;
             strand = self.of(strand, position);

@@ -3,6 +3,9 @@ ghost use Rattle.std.specs.Prelude.{◌≡◌, ℕ, ◌*◌, ◌-◌, ◌<◌, �
 ghost use Rattle.ensemble.specs.Layout.{Searchable};
 ghost use Rattle.ensemble.specs.inner.Entries.{Known};
 
+// The rows of as many positions as there may be: 128 of 64.
+pub const OPTIONS: usize = 8192;
+
 // A position's options are its friends in order, then 0 for empty; each is one of so many strands.
 #[derive(Clone, Copy)]
 pub struct Options<'a> {

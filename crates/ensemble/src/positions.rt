@@ -30,6 +30,7 @@ impl<'a> LentModel<'a, '_> {
         ensures passed { (m : Model) (options : ℕ → List ℕ) → OptionRows m self.now.options.rows.now self.now.options.counts.now → BondCells m self.now.options.strands self.now.bonds.strand_bonds.cells.now self.now.bonds.scaffold_bonds.now self.now.bonds.potentials.now → OptionsOf m options → ((i : ℕ) → first ≤ i → options i ≡ options_at m i) → Passed m options first left.now energies.old choices.old.friends choices.old.empty → Passed m options (length self.now.options.counts.now) result.now energies.new choices.new.friends choices.new.empty }
     {
         let mut best = [0.0; 64];
+        // By number: options and scaffold bonds are asked of a position.
         for position in first..self.options.counts.len() {
             let options = self.options.of(position);
             let friends = &options[..options.len() - 1];
@@ -83,8 +84,9 @@ fn mfe_next_vector(
     requires room { length friends.now ≤ 64 }
     ensures { Energies (settled_of sites.now potentials.now best.now) friends.now (length friends.now) energies.new }
 {
+    // By number: after `energies.iter_mut().zip(friends)` nothing is known of what was written.
     for (k, friend) in friends.iter().enumerate() {
-        let tile = usize::from(*friend);
-        energies[k] = best[tile] + sites[tile] - potentials[tile];
+        let strand = usize::from(*friend);
+        energies[k] = best[strand] + sites[strand] - potentials[strand];
     }
 }

@@ -50,8 +50,8 @@ impl LentModel<'_, '_> {
         if strand == 0 {
             return 0.0;
         }
-        let tile = usize::from(strand);
-        0.0 + self.bonds.scaffold_bonds[tile] - self.bonds.potentials[tile]
+        let place = usize::from(strand);
+        0.0 + self.bonds.scaffold_bonds[place] - self.bonds.potentials[place]
     }
 
     // Writes the lowest configuration with one of the options of position 0, and gives its ring energy.
@@ -91,6 +91,7 @@ pub fn lowest_ring(lent: &LentModel, rt: KcalPerMol, configuration: &mut [u8]) -
 {
     let mut least = lent.ring_from(0, rt, configuration);
     let mut kept = 0;
+    // By number: the search from an option lends its place in the row, a slice of one, and the one kept is searched again.
     for option in 1..lent.options.of(0).len() {
         let energy = lent.ring_from(option, rt, configuration);
         if energy < least {

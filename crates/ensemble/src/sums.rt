@@ -13,6 +13,7 @@ fn first_sums(energy: f64, bonds: &[f64], best: &mut [f64; 64])
     requires { length bonds.now ≤ 64 }
     ensures { (r : ℕ) → r < length bonds.now → get_or best.new r nan ≡ Ieee.add binary64 energy (get_or bonds.now r nan) }
 {
+    // By number: after `best.iter_mut().zip(bonds)` nothing is known of what was written.
     for (r, bond) in bonds.iter().enumerate() {
         best[r] = energy + *bond;
     }
@@ -23,6 +24,7 @@ fn lesser_sums(energy: f64, bonds: &[f64], best: &mut [f64; 64])
     requires { length bonds.now ≤ 64 }
     ensures { (r : ℕ) → r < length bonds.now → get_or best.new r nan ≡ lesser (get_or best.old r nan) (Ieee.add binary64 energy (get_or bonds.now r nan)) }
 {
+    // By number, as the first sums.
     for (r, bond) in bonds.iter().enumerate() {
         let least = best[r];
         let sum = energy + *bond;
@@ -36,8 +38,8 @@ fn least_sums(left: &Entries, best: &mut [f64; 64])
     ensures { LeastSums (table_bond left.now.bonds.strands left.now.bonds.cells.now) left.now.options.now left.now.energies.now left.now.bonds.strands (length left.now.options.now) best.new }
 {
     first_sums(left.energies[0], left.bonds.row(left.options[0]), best);
-    for k in 1..left.options.len() {
-        lesser_sums(left.energies[k], left.bonds.row(left.options[k]), best);
+    for (strand, energy) in left.options[1..].iter().zip(&left.energies[1..]) {
+        lesser_sums(*energy, left.bonds.row(*strand), best);
     }
 }
 
@@ -47,10 +49,10 @@ fn last_least(left: &Entries, right: usize, least: f64) -> u8
     ensures choice { (key : ℕ → Float) → Keys (table_bond left.now.bonds.strands left.now.bonds.cells.now) left.now.options.now left.now.energies.now right key → least ≡ key (last_least key left.now.options.now) → result ≡ last_least key left.now.options.now }
     ensures known { result < left.now.bonds.strands }
 {
-    for k in (0..left.options.len()).rev() {
-        let strand = left.options[k];
-        if !(least < left.energies[k] + left.bonds.between(strand, right)) {
-            return strand;
+    // No `find`: its closure would need a clause on the bonds that it reads.
+    for (k, strand) in left.options.iter().enumerate().rev() {
+        if !(least < left.energies[k] + left.bonds.between(*strand, right)) {
+            return *strand;
         }
     }
     0
@@ -70,7 +72,7 @@ pub(crate) fn attach_all(
 {
     least_sums(left, best);
     for friend in friends {
-        let tile = usize::from(*friend);
-        choice[tile] = last_least(left, tile, best[tile]);
+        let right = usize::from(*friend);
+        choice[right] = last_least(left, right, best[right]);
     }
 }

@@ -8,8 +8,9 @@ ghost use Rattle.exponential.specs.Near.{ExpOf, has_exponential};
 ghost use Rattle.exponential.specs.Answer.{ExpAnswered};
 ghost use Rattle.exponential.specs.Parts.{Weighed, Cut};
 
+use doubles::{HIDDEN, SIGN};
 use fractions::Weight;
-use logarithm::mul_units;
+use logarithm::{ONE, mul_units};
 use reply::Refusal;
 
 // The largest argument, of either sign.
@@ -17,15 +18,6 @@ const MOST: f64 = 80000.0;
 
 // ln 2, in units of 2^-46.
 const LN2: u64 = 48775896626291;
-
-// 1, in units of 2^-54.
-const ONE: u64 = 1 << 54;
-
-// The bit of a double's sign.
-const SIGN: u64 = 1 << 63;
-
-// The digit that a double's bits leave out.
-const HIDDEN: u64 = 1 << 52;
 
 // digits × 2^power / 2^30. No Weight, whose power is signed: the inverse is taken of whole numbers first, and proved over them.
 #[derive(Clone, Copy)]

@@ -1,13 +1,11 @@
 -- Strands whose glues are copied, and the penalty, as callers outside give them.
-use Rattle.std.specs.Prelude.{cond, ℕ, eqb, Float}
-use Rattle.sdc1d_params.specs.declared.Copied.{Copied}
-use Rattle.sdc1d_params.specs.declared.Copied.TheVariants.{Nothing, Strand}
+use Rattle.std.specs.Prelude.{cond, ℕ, eqb, Float, Option, Some, None}
 use Rattle.sdc1d_params.specs.declared.Copies.{Copies}
 use Rattle.sdc1d_params.specs.declared.Penalty.{Penalty}
 
 -- 0 for none; user strands are numbered from 1
-abbrev pub copied_of : ℕ → Copied
-copied_of strand = cond (eqb strand 0) Nothing (Strand strand)
+abbrev pub copied_of : ℕ → Option ℕ
+copied_of strand = cond (eqb strand 0) None (Some strand)
 
 -- the strands of the quencher and of the reporter
 abbrev pub copies_of : ℕ → ℕ → Copies

@@ -10,7 +10,8 @@ use design::answers::ChainEnergy;
 use reply::{ANSWERED, Refused};
 use units::KcalPerMol;
 
-// The reply number, the place, and the figure, a blank one where the call refuses.
+// The reply number, the place, and the figure, a blank one where the call refuses. The blank is given, and is not `T::default()`: the kit says of that
+// only a property, and each call would have to show that one value alone has it.
 pub(crate) fn tell<T: Copy>(
     answer: Result<T, Refused>,
     blank: T,

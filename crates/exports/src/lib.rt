@@ -1,5 +1,5 @@
-// The calls that include/mujplesten.h declares as C callers have them, but that a design, tables of bonds, weights and lists are each
-// lent as one, which exports_c puts together out of the parts that C lends; in this file those on sequences and temperatures.
+// The calls that include/mujplesten.h declares as C callers have them, but that a design, tables of bonds, weights, lists and parameters are
+// each lent as one, which exports_c puts together out of the parts that C lends; in this file those on sequences and temperatures.
 // One function is one call: it answers the reply number and writes places and figures through pointers. Of one and of two sequences there is
 // also a function for the reply number and one for each double, as its 64 bits.
 #![tactic(auto)]
@@ -111,7 +111,7 @@ pub fn mj_pair(a: &[u8], b: &[u8], dg: &mut f64, ds: &mut f64) -> u32
     figures::dg_ds_tell(utils::sequence_pair_dg_ds(a, b), dg, ds)
 }
 
-// A loop.
+// A loop. Its kind is a number, as C lends it.
 pub fn mj_loop_penalty(length: usize, kind: u32, dg: &mut f64) -> u32
     ensures value { result ≡ (loop_penalty length kind).number }
     ensures dg_after { dg.new ≡ (loop_penalty length kind).dg }

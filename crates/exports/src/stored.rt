@@ -12,7 +12,9 @@ use super::figures::figure_tell;
 use deck::DeckForm;
 use reply::{Refusal, Refused};
 
-// The form that a number names: 0 and 1 name one each. Only C names one by a number, so that `DeckForm` has no `TryFrom`.
+// The form that a number names: 0 and 1 name one each. By its number a form is named only here, so that `DeckForm` has no `TryFrom`; a loop's kind has
+// one, since `utils` takes its number. Each call matches what this gives: of lent words that a closure under `and_then` writes, what they hold
+// afterwards was not proved.
 fn form_of(number: u32) -> Option<DeckForm>
     ensures { result ≡ form_numbered number }
 {

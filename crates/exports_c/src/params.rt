@@ -5,6 +5,10 @@ ghost use Rattle.sdc1d_params.specs.Params.{outcome_of, params_of, lent_of};
 ghost use Rattle.exports.specs.Builds.{build_numbered, built_in};
 ghost use Rattle.exports.specs.Copied.{copies_of, penalty_of};
 
+use exports::params::copies;
+use sdc1d_params::{LentParameters, Penalty};
+use units::{KcalPerMol, KcalPerMolKelvin};
+
 // Strand glues, scaffold glues and both tables from names and energies.
 #[unsafe(no_mangle)]
 pub extern "C" fn mj_params(
@@ -26,21 +30,20 @@ pub extern "C" fn mj_params(
 ) -> u32
     ensures { outcome_of result strand_glues.new scaffold_glues.new dg.new ds.new ≡ built_in (build_numbered build) (params_of text.now users strands.now scaffold.now entries.now energies.now (penalty_of penalty_dg penalty_ds) (copies_of quencher reporter)) (lent_of strand_glues.old scaffold_glues.old dg.old ds.old) }
 {
-    exports::params::mj_params(
-        build,
+    let penalty = Penalty {
+        dg: KcalPerMol(penalty_dg),
+        ds: KcalPerMolKelvin(penalty_ds),
+    };
+    let copies = copies(quencher, reporter);
+    let parameters = LentParameters {
         text,
         users,
         strands,
         scaffold,
         entries,
         energies,
-        penalty_dg,
-        penalty_ds,
-        quencher,
-        reporter,
-        strand_glues,
-        scaffold_glues,
-        dg,
-        ds,
-    )
+        penalty,
+        copies,
+    };
+    exports::params::mj_params(build, &parameters, strand_glues, scaffold_glues, dg, ds)
 }

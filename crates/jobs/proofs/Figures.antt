@@ -25,8 +25,8 @@ use Rattle.jobs.specs.Word.{job_of}
 use Rattle.jobs.specs.Job.{places, energy_for, count_for, stretch_for, job_energy, job_count}
 use Rattle.jobs.specs.inner.Settled.{energy_in, energy_of_word, count_held, count_of_word, stretch_in}
 use Rattle.jobs.specs.declared.job.Job.{Job}
-use Rattle.jobs.specs.declared.job.Job.TheVariants.{EnergyAt, Search, Count, Malformed}
-use Rattle.std.specs.Prelude.{Option, None, Ok, Err}
+use Rattle.jobs.specs.declared.job.Job.TheVariants.{EnergyAt, Search, Count}
+use Rattle.std.specs.Prelude.{Option, None, Some, Ok, Err}
 use Rattle.jobs.proofs.Numbers.{own-size}
 
 -- ---- an admitted design
@@ -39,8 +39,8 @@ module _ (d : Design) (a : Admitted d) where
       let numbers : first_of (number_checks d) ≡ Ok tt = simp (a.ambient, a.potentials) in
       after-tables own d between tables ∙ ap (λ (r : Reply). first_of between or_else r) numbers
 
-  pub energy-admitted : (job : Job) → energy_in (model_of d) (Search.search (model_of d)).energy job ≡ energy_for d job
-  energy-admitted (EnergyAt rank) =
+  pub energy-admitted : (job : Option Job) → energy_in (model_of d) (Search.search (model_of d)).energy job ≡ energy_for d job
+  energy-admitted (Some (EnergyAt rank)) =
       let energy = state_energy (model_of d) (state_at (model_of d) rank) in
       go (ltb 1048576 (count (model_of d))) (leb (count (model_of d)) rank) energy
       ∙ sym (ap (λ (r : Reply). (figures_of r zero energy).figure) (own_alone (not (eqb (length (places d)) (positions d))) (own_rank_checks d rank) (own-size d)))
@@ -49,15 +49,15 @@ module _ (d : Design) (a : Admitted d) where
       go true high energy = refl
       go false true energy = refl
       go false false energy = refl
-  energy-admitted Search =
+  energy-admitted (Some Search) =
       sym (ap (λ (r : Reply). (figures_of r zero (Search.search (model_of d)).energy).figure) (own_alone (not (eqb (length (places d)) (positions d))) [] (own-size d)))
-  energy-admitted Count = refl
-  energy-admitted Malformed = refl
+  energy-admitted (Some Count) = refl
+  energy-admitted None = refl
 
-  pub count-admitted : {states : ℕ} → states ≡ min (count (model_of d)) 1048577 → (job : Job) → count_held states job ≡ count_for d job
-  count-admitted held (EnergyAt rank) = refl
-  count-admitted held Search = refl
-  count-admitted {states} held Count =
+  pub count-admitted : {states : ℕ} → states ≡ min (count (model_of d)) 1048577 → (job : Option Job) → count_held states job ≡ count_for d job
+  count-admitted held (Some (EnergyAt rank)) = refl
+  count-admitted held (Some Search) = refl
+  count-admitted {states} held (Some Count) =
       ap (λ (many : Bool). cond many 0 states) (many-told (count (model_of d)) held)
       ∙ go (ltb 1048576 (count (model_of d))) refl
       ∙ sym (ap (λ (r : Reply). (figures_of r 0 (count (model_of d))).figure) (own_alone false (own_count_checks d) refl))
@@ -65,14 +65,14 @@ module _ (d : Design) (a : Admitted d) where
       go : (many : Bool) → ltb 1048576 (count (model_of d)) ≡ many → cond many 0 states ≡ (figures_of (refused_if many TooManyStates None (Ok tt) or_else (Ok tt)) 0 (count (model_of d))).figure
       go true e = refl
       go false e = counted (count (model_of d)) held (ltb-false _ _ e)
-  count-admitted held Malformed = refl
+  count-admitted held None = refl
 
-  pub stretch-admitted : (job : Job) (stretch : List ℕ) → length stretch ≡ positions d → stretch_in (Search.search (model_of d)).configuration job stretch ≡ stretch_for d job stretch
-  stretch-admitted (EnergyAt rank) stretch e = refl
-  stretch-admitted Search stretch e =
+  pub stretch-admitted : (job : Option Job) (stretch : List ℕ) → length stretch ≡ positions d → stretch_in (Search.search (model_of d)).configuration job stretch ≡ stretch_for d job stretch
+  stretch-admitted (Some (EnergyAt rank)) stretch e = refl
+  stretch-admitted (Some Search) stretch e =
       sym (ap (λ (r : Reply). entries_of r stretch (Search.search (model_of d)).configuration) (own_alone (not (eqb (length stretch) (positions d))) [] (ap not (eq-eqb _ _ e))))
-  stretch-admitted Count stretch e = refl
-  stretch-admitted Malformed stretch e = refl
+  stretch-admitted (Some Count) stretch e = refl
+  stretch-admitted None stretch e = refl
 
 -- ---- a design that is not
 
@@ -110,23 +110,23 @@ module _ (d : Design) (u : Unfit d) (own : Bool) (e : own ≡ false) (between : 
   unfit-entries before written = rw refused-reply.1 (kept-entries refused-reply.0 u.0 u.1 before written)
 
 module _ (d : Design) (u : Unfit d) where
-  energy-unfit : (job : Job) → energy_for d job ≡ zero
-  energy-unfit (EnergyAt rank) = unfit-figure d u _ (own-size d) (own_rank_checks d rank) zero _
-  energy-unfit Search = unfit-figure d u _ (own-size d) [] zero _
-  energy-unfit Count = refl
-  energy-unfit Malformed = refl
+  energy-unfit : (job : Option Job) → energy_for d job ≡ zero
+  energy-unfit (Some (EnergyAt rank)) = unfit-figure d u _ (own-size d) (own_rank_checks d rank) zero _
+  energy-unfit (Some Search) = unfit-figure d u _ (own-size d) [] zero _
+  energy-unfit (Some Count) = refl
+  energy-unfit None = refl
 
-  count-unfit : (job : Job) → count_for d job ≡ 0
-  count-unfit (EnergyAt rank) = refl
-  count-unfit Search = refl
-  count-unfit Count = unfit-figure d u false refl (own_count_checks d) 0 _
-  count-unfit Malformed = refl
+  count-unfit : (job : Option Job) → count_for d job ≡ 0
+  count-unfit (Some (EnergyAt rank)) = refl
+  count-unfit (Some Search) = refl
+  count-unfit (Some Count) = unfit-figure d u false refl (own_count_checks d) 0 _
+  count-unfit None = refl
 
-  pub stretch-unfit : (job : Job) (stretch : List ℕ) → length stretch ≡ positions d → stretch_for d job stretch ≡ stretch
-  stretch-unfit (EnergyAt rank) stretch e = refl
-  stretch-unfit Search stretch e = unfit-entries d u _ (ap not (eq-eqb _ _ e)) [] stretch _
-  stretch-unfit Count stretch e = refl
-  stretch-unfit Malformed stretch e = refl
+  pub stretch-unfit : (job : Option Job) (stretch : List ℕ) → length stretch ≡ positions d → stretch_for d job stretch ≡ stretch
+  stretch-unfit (Some (EnergyAt rank)) stretch e = refl
+  stretch-unfit (Some Search) stretch e = unfit-entries d u _ (ap not (eq-eqb _ _ e)) [] stretch _
+  stretch-unfit (Some Count) stretch e = refl
+  stretch-unfit None stretch e = refl
 
 -- ---- of all words
 

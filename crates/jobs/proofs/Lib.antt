@@ -1,6 +1,5 @@
 pub mod Numbers
 pub mod Figures
 pub mod Stretches
-pub mod Lengths
 pub mod States
 pub mod Sheets

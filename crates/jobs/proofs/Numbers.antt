@@ -19,10 +19,10 @@ use Rattle.model.specs.States.{count}
 use Rattle.design.specs.Design.{Design, positions, model_of}
 use Rattle.design.specs.Checks.{table_checks, number_checks, design_checks, own_rank_checks, own_count_checks}
 use Rattle.jobs.specs.Job.{places, number_for}
-use Rattle.jobs.specs.inner.Judged.{first_number, ◌or_next◌, judged_reply, JudgedRight}
-use Rattle.jobs.specs.declared.job.Job.TheVariants.{EnergyAt, Search, Count, Malformed}
+use Rattle.jobs.specs.inner.Judged.{first_number, ◌or_next◌, tables_of, states_of, numbers_of, judged_reply, JudgedRight}
+use Rattle.jobs.specs.declared.job.Job.TheVariants.{EnergyAt, Search, Count}
 use Rattle.jobs.specs.declared.job.Job.{Job}
-use Rattle.std.specs.Prelude.{Result, Ok, Err}
+use Rattle.std.specs.Prelude.{Option, None, Some, Result, Ok, Err}
 use Rattle.jobs.specs.declared.judge.Judged.{Judged}
 
 -- ---- numbers of replies
@@ -90,7 +90,7 @@ module _ (n : ℕ) {states : ℕ} (held : states ≡ min n 1048577) where
 
 -- ---- of a design
 
-module _ (d : Design) {j : Judged} (w : JudgedRight d j) where
+module _ (d : Design) {j : Result Judged Refusal} (w : JudgedRight d j) where
   abbrev tables : List Check
   tables = table_checks false d.scaffold d.marks d.glues d.dg d.ds d.potentials
 
@@ -99,13 +99,13 @@ module _ (d : Design) {j : Judged} (w : JudgedRight d j) where
 
   -- the judged replies as numbers
   abbrev told : ℕ
-  told = bare_number j.tables
+  told = bare_number (tables_of j)
 
   told-is : told ≡ reply_number (first_of tables)
   told-is = ap bare_number w.tables ∙ bare-number (first_of tables)
 
-  numbers-are : told ≡ 0 → bare_number j.numbers ≡ numbers
-  numbers-are z = ap bare_number (w.numbers (passed j.tables z)) ∙ bare-number (first_of (number_checks d))
+  numbers-are : told ≡ 0 → bare_number (numbers_of j) ≡ numbers
+  numbers-are z = ap bare_number (w.numbers (passed (tables_of j) z)) ∙ bare-number (first_of (number_checks d))
 
   -- where the tables refuse, what comes after is not looked at
   after : (x y : ℕ) → (told ≡ 0 → x ≡ y) → first_number told x ≡ first_number (reply_number (first_of tables)) y
@@ -124,14 +124,14 @@ module _ (d : Design) {j : Judged} (w : JudgedRight d j) where
       ∙ sym (ap (λ (b : Bool). reply_number (first_of (design_checks b d between []))) e)
       ∙ sym (figures-number (first_of (design_checks own d between [])) blank figure)
 
-  search-told : first_number told (bare_number j.numbers) ≡ number_for d Search
-  search-told = whole _ [] _ _ (own-size d) (bare_number j.numbers) numbers-are
+  search-told : first_number told (bare_number (numbers_of j)) ≡ number_for d (Some Search)
+  search-told = whole _ [] _ _ (own-size d) (bare_number (numbers_of j)) numbers-are
 
-  count-told : first_number told (first_number (many_of j.states) (bare_number j.numbers)) ≡ number_for d Count
-  count-told = whole false (own_count_checks d) _ _ refl _ (λ z. rw (numbers-are z) (many-number (count (model_of d)) (w.states (passed j.tables z)) numbers ∙ sym (number-joined (own_count_checks d) (number_checks d))))
+  count-told : first_number told (first_number (many_of (states_of j)) (bare_number (numbers_of j))) ≡ number_for d (Some Count)
+  count-told = whole false (own_count_checks d) _ _ refl _ (λ z. rw (numbers-are z) (many-number (count (model_of d)) (w.states (passed (tables_of j) z)) numbers ∙ sym (number-joined (own_count_checks d) (number_checks d))))
 
-  rank-told : (rank : ℕ) → first_number told (first_number (many_of j.states) (first_number (high_of j.states rank) (bare_number j.numbers))) ≡ number_for d (EnergyAt rank)
-  rank-told rank = whole _ (own_rank_checks d rank) _ _ (own-size d) _ (λ z. rw (numbers-are z) (rank-number (count (model_of d)) (w.states (passed j.tables z)) rank numbers ∙ sym listed))
+  rank-told : (rank : ℕ) → first_number told (first_number (many_of (states_of j)) (first_number (high_of (states_of j) rank) (bare_number (numbers_of j)))) ≡ number_for d (Some (EnergyAt rank))
+  rank-told rank = whole _ (own_rank_checks d rank) _ _ (own-size d) _ (λ z. rw (numbers-are z) (rank-number (count (model_of d)) (w.states (passed (tables_of j) z)) rank numbers ∙ sym listed))
     where
       listed : reply_number (first_of (own_rank_checks d rank ++ number_checks d)) ≡ first_number (many_of (count (model_of d))) (first_number (high_of (count (model_of d)) rank) numbers)
       listed =
@@ -139,17 +139,17 @@ module _ (d : Design) {j : Judged} (w : JudgedRight d j) where
           ∙ ap (first_number (many_of (count (model_of d)))) (number-joined (RankTooHigh if leb (count (model_of d)) rank ∷ []) (number_checks d))
 
   -- the number of what a job replies
-  pub job-told : (job : Job) → bare_number (judged_reply j job) ≡ number_for d job
-  job-told (EnergyAt rank) =
-      let many = first_of (TooManyStates if ltb 1048576 j.states ∷ []) in
-      let high = first_of (RankTooHigh if leb j.states rank ∷ []) in
-      bare-or j.tables (bare many or_next (bare high or_next j.numbers))
-      ∙ ap (first_number told) (bare-or (bare many) (bare high or_next j.numbers) ∙ ap₂ first_number (bare-number many) (bare-or (bare high) j.numbers ∙ ap (λ (n : ℕ). first_number n (bare_number j.numbers)) (bare-number high)))
+  pub job-told : (job : Option Job) → bare_number (judged_reply j job) ≡ number_for d job
+  job-told (Some (EnergyAt rank)) =
+      let many = first_of (TooManyStates if ltb 1048576 (states_of j) ∷ []) in
+      let high = first_of (RankTooHigh if leb (states_of j) rank ∷ []) in
+      bare-or (tables_of j) (bare many or_next (bare high or_next (numbers_of j)))
+      ∙ ap (first_number told) (bare-or (bare many) (bare high or_next (numbers_of j)) ∙ ap₂ first_number (bare-number many) (bare-or (bare high) (numbers_of j) ∙ ap (λ (n : ℕ). first_number n (bare_number (numbers_of j))) (bare-number high)))
       ∙ rank-told rank
-  job-told Search = bare-or j.tables j.numbers ∙ search-told
-  job-told Count =
-      let many = first_of (TooManyStates if ltb 1048576 j.states ∷ []) in
-      bare-or j.tables (bare many or_next j.numbers)
-      ∙ ap (first_number told) (bare-or (bare many) j.numbers ∙ ap (λ (n : ℕ). first_number n (bare_number j.numbers)) (bare-number many))
+  job-told (Some Search) = bare-or (tables_of j) (numbers_of j) ∙ search-told
+  job-told (Some Count) =
+      let many = first_of (TooManyStates if ltb 1048576 (states_of j) ∷ []) in
+      bare-or (tables_of j) (bare many or_next (numbers_of j))
+      ∙ ap (first_number told) (bare-or (bare many) (numbers_of j) ∙ ap (λ (n : ℕ). first_number n (bare_number (numbers_of j))) (bare-number many))
       ∙ count-told
-  job-told Malformed = refl
+  job-told None = refl

@@ -21,10 +21,11 @@ use Rattle.design.specs.Checks.{table_checks, number_checks}
 use Rattle.design.proofs.Replies.{tabled}
 use Rattle.jobs.specs.Job.{job_number, job_energy, job_count}
 use Rattle.jobs.specs.Sheet.{Sheet, wrong_sheet, stretches_of, sheet_reply, sheet_numbers, sheet_energies, sheet_counts, sheet_stretches}
-use Rattle.jobs.specs.inner.Judged.{JudgedRight}
+use Rattle.jobs.specs.inner.Judged.{tables_of, numbers_of, JudgedRight}
 use Rattle.jobs.specs.declared.judge.Judged.{Judged}
 use Rattle.std.specs.Prelude.{Option, Result, Ok, Err}
 use Rattle.std.specs.Result.{is_err}
+use Rattle.prepared.specs.declared.options.Counted.{Counted}
 use Rattle.jobs.proofs.Figures.{Unfit}
 
 -- a sheet that is not refused
@@ -75,19 +76,22 @@ pub passed : (t : Result Unit Refusal) → is_err t ≡ false → t ≡ Ok tt
 passed (Ok u) f = refl
 passed (Err refusal) f = absurd (true≢false f)
 
-module _ (d : Design) {j : Judged} (w : JudgedRight d j) where
-  pub unfit-tables : is_err j.tables ≡ true → Unfit d
+module _ (d : Design) {j : Result Judged Refusal} (w : JudgedRight d j) where
+  pub unfit-tables : is_err (tables_of j) ≡ true → Unfit d
   unfit-tables n = let r = refusal-of (first_of (table_checks false d.scaffold d.marks d.glues d.dg d.ds d.potentials)) w.tables n in (r.0, r.1, inl r.2)
 
-  pub unfit-numbers : is_err j.tables ≡ false → is_err j.numbers ≡ true → Unfit d
+  pub unfit-numbers : is_err (tables_of j) ≡ false → is_err (numbers_of j) ≡ true → Unfit d
   unfit-numbers z n =
-      let pass = passed j.tables z in
+      let pass = passed (tables_of j) z in
       let r = refusal-of (first_of (number_checks d)) (w.numbers pass) n in
       (r.0, r.1, inr (admitted_of (first_of (table_checks false d.scaffold d.marks d.glues d.dg d.ds d.potentials)) (sym w.tables ∙ pass), r.2))
 
-  pub judged-fit : is_err j.tables ≡ false → is_err j.numbers ≡ false → Checks.Admitted d
+  pub judged-fit : is_err (tables_of j) ≡ false → is_err (numbers_of j) ≡ false → Checks.Admitted d
   judged-fit z y =
-      let pass = passed j.tables z in
+      let pass = passed (tables_of j) z in
       let t = (tabled false d (admitted_of (first_of (table_checks false d.scaffold d.marks d.glues d.dg d.ds d.potentials)) (sym w.tables ∙ pass))).tables in
-      let numbers = none-holds (number_checks d) (admitted_of (first_of (number_checks d)) (sym (w.numbers pass) ∙ passed j.numbers y)) in
+      let numbers = none-holds (number_checks d) (admitted_of (first_of (number_checks d)) (sym (w.numbers pass) ∙ passed (numbers_of j) y)) in
       record { sizes = t.sizes; cells = t.cells; ambient = numbers.0; potentials = numbers.1.0; null = t.null }
+
+  pub fit : {counted : Counted} → j ≡ Ok (record { counted = counted; numbers = Ok tt }) → Checks.Admitted d
+  fit e = judged-fit (ap (λ (r : Result Judged Refusal). is_err (tables_of r)) e) (ap (λ (r : Result Judged Refusal). is_err (numbers_of r)) e)

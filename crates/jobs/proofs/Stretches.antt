@@ -8,6 +8,7 @@ use native.Mathlib.Nat.{suc-mul, zero-mul}
 use lib.ListN.{length, get_or, take, drop, length-append, length-drop, drop_of_length-le, take-append-drop}
 use lib.Seq.{drop-cons, take_all, take_at, drop_at, drop-drop, length-take-le}
 use Rattle.lists.proofs.Grid.{row-end}
+use Rattle.std.specs.Prelude.{Option}
 use Rattle.design.specs.Design.{Design, positions}
 use Rattle.jobs.specs.Word.{job_of}
 use Rattle.jobs.specs.Job.{stretch_for}
@@ -85,14 +86,14 @@ module _ (d : Design) where
   rest-length : (k : ℕ) (s : List ℕ) → length s ≡ suc k * positions d → length (drop (positions d) s) ≡ k * positions d
   rest-length k s e = length-drop (positions d) s ∙ (omega (arith, e, suc-mul k (positions d)))
 
-  pub stretches-same : (configuration : List ℕ) → length configuration ≡ positions d → ((job : Job) (s : List ℕ) → length s ≡ positions d → stretch_in configuration job s ≡ stretch_for d job s)
+  pub stretches-same : (configuration : List ℕ) → length configuration ≡ positions d → ((job : Option Job) (s : List ℕ) → length s ≡ positions d → stretch_in configuration job s ≡ stretch_for d job s)
       → (jobs s : List ℕ) → length s ≡ length jobs * positions d → stretches_in configuration jobs s ≡ stretches_of d jobs s
   unfolding stretches_in stretches_of
   stretches-same configuration size same [] s e = refl
   stretches-same configuration size same (word ∷ jobs) s e =
       rw (size, same (job_of word) (take (positions d) s) (front_length (length jobs) s e), stretches-same configuration size same jobs (drop (positions d) s) (rest-length (length jobs) s e)) refl
 
-  pub stretches-kept : ((job : Job) (s : List ℕ) → length s ≡ positions d → stretch_for d job s ≡ s) → (jobs s : List ℕ) → length s ≡ length jobs * positions d → s ≡ stretches_of d jobs s
+  pub stretches-kept : ((job : Option Job) (s : List ℕ) → length s ≡ positions d → stretch_for d job s ≡ s) → (jobs s : List ℕ) → length s ≡ length jobs * positions d → s ≡ stretches_of d jobs s
   unfolding stretches_of
   stretches-kept kept [] s e = empty s (e ∙ zero-mul (positions d))
     where

@@ -1,19 +1,15 @@
 // The replies of all jobs, into lent slices, one for each job, and the stretches.
-ghost use Rattle.std.specs.Prelude.{◌≡◌, map, ℕ, ◌*◌, ◌<◌, ◌≤◌, min, length};
-ghost use Rattle.lists.specs.Build.{product};
-ghost use Rattle.model.specs.Model.{Model};
-ghost use Rattle.ensemble.specs.Layout.{OptionRows};
-ghost use Rattle.design.specs.Design.{Design};
-ghost use Rattle.prepared.specs.Layout.{StateCells};
+ghost use Rattle.std.specs.Prelude.{◌≡◌, map, ℕ, ◌*◌, ◌≤◌, length};
+ghost use Rattle.design.specs.Design.{Design, model_of};
 ghost use Rattle.jobs.specs.Job.{job_number};
 ghost use Rattle.jobs.specs.inner.Judged.{JudgedRight};
 ghost use Rattle.jobs.specs.inner.Settled.{energy_of_word, count_held, count_of_word, stretch_in, stretches_in};
 
 use super::job::{Job, read};
 use super::judge::{Judged, job_number};
-use super::settle::{Settled, job_energy};
-use ensemble::lent::LentModel;
+use super::settle::Settled;
 use ensemble::states::MOST_STATES;
+use reply::Refusal;
 
 // The cell of each job by a rule.
 fn fill<T: Copy, F: Fn(u32) -> T>(jobs: &[u32], rule: F, cells: &mut [T])
@@ -21,36 +17,34 @@ fn fill<T: Copy, F: Fn(u32) -> T>(jobs: &[u32], rule: F, cells: &mut [T])
     requires cells_len { length cells.old ≡ length jobs.now }
     ensures { (f : ℕ → T) → ((word : ℕ) (x : T) → F.post rule word x → x ≡ f word) → cells.new ≡ map f jobs.now }
 {
+    // Written by number: of cells that a zip lends to be written nothing is known afterwards.
     for (k, &word) in jobs.iter().enumerate() {
         cells[k] = rule(word);
     }
 }
 
 // The number of each job.
-pub(crate) fn fill_numbers(jobs: &[u32], judged: Judged, numbers: &mut [u32])
+pub(crate) fn fill_numbers(jobs: &[u32], judged: &Result<Judged, Refusal>, numbers: &mut [u32])
     requires { length numbers.old ≡ length jobs.now }
-    ensures { (d : Design) → JudgedRight d judged → numbers.new ≡ map (job_number d) jobs.now }
+    ensures { (d : Design) → JudgedRight d judged.now → numbers.new ≡ map (job_number d) jobs.now }
 {
     fill(jobs, |word| job_number(read(word), judged), numbers);
 }
 
 // The energy of each job on an admitted design.
-pub(crate) fn fill_energies(jobs: &[u32], lent: &LentModel, settled: Settled, energies: &mut [f64])
-    requires strands_nonzero { 0 < lent.now.options.strands }
-    requires option_rows { (m : Model) × OptionRows m lent.now.options.rows.now lent.now.options.counts.now }
-    requires states_value { settled.states ≡ min (product lent.now.options.counts.now) 1048577 }
-    requires energies_len { length energies.old ≡ length jobs.now }
-    ensures { (m : Model) → OptionRows m lent.now.options.rows.now lent.now.options.counts.now → StateCells m lent.now.options.strands lent.now.bonds.strand_bonds.cells.now lent.now.bonds.scaffold_bonds.now lent.now.bonds.potentials.now → settled.rt.0 ≡ m.rt → energies.new ≡ map (energy_of_word m settled.least.0) jobs.now }
+pub(crate) fn fill_energies(jobs: &[u32], settled: &Settled, energies: &mut [f64])
+    requires { length energies.old ≡ length jobs.now }
+    ensures { energies.new ≡ map (energy_of_word (model_of settled.now.admitted.now) settled.now.least.0) jobs.now }
 {
-    fill(jobs, |word| job_energy(read(word), lent, settled), energies);
+    fill(jobs, |word| settled.energy(read(word)), energies);
 }
 
 // The count of a job on an admitted design: 0 where there are too many states.
-fn job_count(job: Job, states: u64) -> u64
-    ensures { result ≡ count_held states job }
+fn job_count(asked: Option<Job>, states: u64) -> u64
+    ensures { result ≡ count_held states asked }
 {
-    match job {
-        Job::Count if states <= MOST_STATES => states,
+    match asked {
+        Some(Job::Count) if states <= MOST_STATES => states,
         _ => 0,
     }
 }
@@ -64,11 +58,11 @@ pub(crate) fn fill_counts(jobs: &[u32], states: u64, counts: &mut [u64])
 }
 
 // What a job leaves in its stretch: only a search fills it.
-fn fill_stretch(asked: Job, configuration: &[u8], stretch: &mut [u8])
+fn fill_stretch(asked: Option<Job>, configuration: &[u8], stretch: &mut [u8])
     requires { length stretch.old ≡ length configuration.now }
     ensures { stretch.new ≡ stretch_in configuration.now asked stretch.old }
 {
-    if asked == Job::Search {
+    if asked == Some(Job::Search) {
         stretch.copy_from_slice(configuration);
     }
 }

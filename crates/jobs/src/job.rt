@@ -22,20 +22,18 @@ pub enum Job {
     Search,
     // how many states there are
     Count,
-    // a word of another kind or payload
-    Malformed,
 }
 
-// The job of a word. A rank may be any payload; the other kinds have payload 0.
+// The job of a word, none of a word of another kind or payload. A rank may be any payload; the other kinds have payload 0.
 #[tactic(auto, unfolding(crate::specs::Word::job_of))]
-pub(crate) fn read(word: u32) -> Job
+pub(crate) fn read(word: u32) -> Option<Job>
     ensures { result ≡ job_of word }
 {
     let Word { kind, payload } = Word::of(word);
     match (kind, payload) {
-        (ENERGY_AT, rank) => Job::EnergyAt(u64::from(rank)),
-        (SEARCH, 0) => Job::Search,
-        (COUNT, 0) => Job::Count,
-        _ => Job::Malformed,
+        (ENERGY_AT, rank) => Some(Job::EnergyAt(u64::from(rank))),
+        (SEARCH, 0) => Some(Job::Search),
+        (COUNT, 0) => Some(Job::Count),
+        _ => None,
     }
 }

@@ -1,92 +1,67 @@
 // What a design is judged for, once for all jobs of a sheet, and the number of each job by it.
-ghost use Rattle.std.specs.Prelude.{◌≡◌, ℕ, ◌*◌, ◌≤◌, length, take, Ok};
-ghost use Rattle.reply.specs.First.{bare};
-ghost use Rattle.ensemble.specs.Layout.{Searchable, OptionRows};
-ghost use Rattle.design.specs.Design.{Design, positions, strands, model_of};
+ghost use Rattle.std.specs.Prelude.{◌≡◌, length, IfOk};
+ghost use Rattle.ensemble.specs.Layout.{OptionRows};
+ghost use Rattle.design.specs.Design.{Design, strands, model_of};
 ghost use Rattle.jobs.specs.Job.{number_for};
 ghost use Rattle.jobs.specs.inner.Judged.{JudgedRight, judged_reply};
 
 use super::job::Job;
 use design::Design;
 use design::checks::{numbers_reply, tables_reply};
+use design::passed::TabledDesign;
 use ensemble::states::MOST_STATES;
-use prepared::options::count_options;
-use reply::{Refusal, Refused, refused_if};
+use prepared::options::{Counted, count_options};
+use reply::{ANSWERED, Refusal, refused_if};
 
-// The reply of the checks of a design's tables; and where they pass, how many states it has, one past the limit where these are more, and the reply of
-// the checks of its ambient and potentials.
+// What a design whose tables pass is judged for: its options and how many states these give, and the reply of the checks of its ambient and potentials.
 #[derive(Clone, Copy)]
-pub(crate) struct Judged {
-    pub tables: Result<(), Refusal>,
-    pub states: u64,
+pub(crate) struct Judged<'a> {
+    pub counted: Counted<'a>,
     pub numbers: Result<(), Refusal>,
 }
 
-// A reply without its place: a job's reply is a number alone.
-fn without_place(reply: Result<(), Refused>) -> Result<(), Refusal>
-    ensures { result ≡ bare reply }
-{
-    match reply {
-        Ok(()) => Ok(()),
-        Err(refused) => Err(refused.refusal),
-    }
-}
-
 // What a job replies.
-fn job_reply(job: Job, judged: Judged) -> Result<(), Refusal>
-    ensures { result ≡ judged_reply judged job }
+fn job_reply(asked: Option<Job>, judged: &Result<Judged, Refusal>) -> Result<(), Refusal>
+    ensures { result ≡ judged_reply judged.now asked }
 {
-    let many = refused_if(Refusal::TooManyStates, MOST_STATES < judged.states);
+    let job = asked.ok_or(Refusal::NotAJob)?;
+    let Judged { counted, numbers } = (*judged)?;
+    let states = counted.states;
     match job {
         Job::EnergyAt(rank) => {
-            judged.tables?;
-            many?;
-            refused_if(Refusal::RankTooHigh, judged.states <= rank)?;
-            judged.numbers
+            refused_if(Refusal::TooManyStates, MOST_STATES < states)?;
+            refused_if(Refusal::RankTooHigh, states <= rank)?;
         }
-        Job::Search => {
-            judged.tables?;
-            judged.numbers
-        }
-        Job::Count => {
-            judged.tables?;
-            many?;
-            judged.numbers
-        }
-        Job::Malformed => Err(Refusal::NotAJob),
+        Job::Search => {}
+        Job::Count => refused_if(Refusal::TooManyStates, MOST_STATES < states)?,
     }
+    numbers
 }
 
 // The number of a job.
-pub(crate) fn job_number(job: Job, judged: Judged) -> u32
-    ensures { (d : Design) → JudgedRight d judged → result ≡ number_for d job }
+pub(crate) fn job_number(asked: Option<Job>, judged: &Result<Judged, Refusal>) -> u32
+    ensures { (d : Design) → JudgedRight d judged.now → result ≡ number_for d asked }
 {
-    match job_reply(job, judged) {
-        Ok(()) => 0,
+    match job_reply(asked, judged) {
+        Ok(()) => ANSWERED,
         Err(refusal) => refusal.number(),
     }
 }
 
-// Judges a design; where its tables pass, its options are filled.
-pub(crate) fn judge(design: &Design, rows: &mut [u8], options: &mut [u8]) -> Judged
+// Judges a design: a job's reply has no place.
+pub(crate) fn judge<'a>(
+    design: &Design,
+    rows: &'a mut [u8],
+    counts: &'a mut [u8],
+) -> Result<Judged<'a>, Refusal>
     requires rows_len { length rows.old ≡ 8192 }
-    requires options_len { length options.old ≡ 128 }
+    requires counts_len { length counts.old ≡ 128 }
     ensures judged_right { JudgedRight design.now result }
-    ensures option_rows { result.tables ≡ Ok tt → OptionRows (model_of design.now) rows.new (take (positions design.now) options.new) × Searchable (strands design.now) rows.new (take (positions design.now) options.new) }
+    ensures options { IfOk result (λ judged. OptionRows (model_of design.now) judged.counted.options.rows.now judged.counted.options.counts.now × (judged.counted.options.strands ≡ strands design.now)) }
 {
-    let tables = without_place(tables_reply(false, design));
-    if tables.is_err() {
-        return Judged {
-            tables,
-            states: 0,
-            numbers: Ok(()),
-        };
-    }
-    let positions = design.positions();
-    let states = count_options(design, rows, &mut options[..positions]);
-    Judged {
-        tables,
-        states,
-        numbers: without_place(numbers_reply(design)),
-    }
+    tables_reply(false, design).map_err(|refused| refused.refusal)?;
+    let counts = &mut counts[..design.positions()];
+    let counted = count_options(&TabledDesign { design }, rows, counts);
+    let numbers = numbers_reply(design).map_err(|refused| refused.refusal);
+    Ok(Judged { counted, numbers })
 }

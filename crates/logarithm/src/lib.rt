@@ -45,7 +45,7 @@ const STEPS: [u64; 33] = [
 const LN2: u64 = 12486629536330718;
 
 // 1, in units of 2^-54.
-const ONE: u64 = 1 << 54;
+pub const ONE: u64 = 1 << 54;
 
 // A half of the 54 digits.
 const HALF: u64 = 1 << 27;

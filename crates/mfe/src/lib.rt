@@ -6,56 +6,47 @@ ghost use Rattle.std.specs.Prelude.{◌≡◌, true, false, ◌*◌, ◌<◌, �
 ghost use Rattle.ensemble.specs.Layout.{Found};
 ghost use Rattle.ensemble.specs.Ring.{FoundRing};
 ghost use Rattle.design.specs.Design.{positions, strands, model_of};
-ghost use Rattle.design.specs.Checks.{Admitted};
 ghost use Rattle.design.specs.Answers.{energy_figures};
 ghost use Rattle.mfe.specs.Answers.{search_answer, search_entries, LowestShown};
 
 use design::Design;
 use design::checks::design_reply;
 use design::needed::{fill_closing_bonds, fill_needed_scaffold_bonds, fill_read_strand_bonds};
-use design::options::fill_options;
-use ensemble::bonds::Bonds;
+use design::options::options_of;
+use design::passed::AdmittedDesign;
+use ensemble::bonds::{Bonds, SCAFFOLD_BONDS, STRAND_BONDS};
 use ensemble::lent::LentModel;
 use ensemble::lowest::lowest;
-use ensemble::options::Options;
+use ensemble::options::OPTIONS;
 use ensemble::rings::lowest_ring;
 use reply::Refused;
 use reply::limits::POSITIONS;
 use units::KcalPerMol;
 
-// The options of all positions, a row of 64 for each.
-const OPTIONS: usize = 8192;
-
 // Options and bonds of an admitted design, the bonds in tables with room for so many, and the search over them: of its lowest configuration, or of its
 // lowest ring.
+// A const says which, at both places: as two closures, one that fills the closing bonds and one that searches, the second would have to ask in a clause
+// for what the first has written.
 fn settled<const RING: bool, const PAIRS: usize, const SITES: usize>(
-    design: &Design,
+    admitted: &AdmittedDesign,
     configuration: &mut [u8],
 ) -> KcalPerMol
-    requires admitted { Admitted design.now }
-    requires short { positions design.now ≤ 128 }
-    requires some { 0 < strands design.now }
-    requires few { strands design.now ≤ 64 }
     requires pairs_bound { PAIRS ≤ 4096 }
     requires sites_bound { SITES ≤ 8192 }
-    requires pairs_in_bounds { strands design.now * strands design.now ≤ PAIRS }
-    requires sites_in_bounds { positions design.now * strands design.now ≤ SITES }
-    requires configuration_len { length configuration.old ≡ positions design.now }
-    requires closed { RING ≡ true → 0 < positions design.now }
-    ensures chain { RING ≡ false → Found (model_of design.now) configuration.new result.0 }
-    ensures ring { RING ≡ true → FoundRing (model_of design.now) configuration.new result.0 }
+    requires pairs_in_bounds { strands admitted.now * strands admitted.now ≤ PAIRS }
+    requires sites_in_bounds { positions admitted.now * strands admitted.now ≤ SITES }
+    requires configuration_len { length configuration.old ≡ positions admitted.now }
+    requires closed { RING ≡ true → 0 < positions admitted.now }
+    ensures chain { RING ≡ false → Found (model_of admitted.now) configuration.new result.0 }
+    ensures ring { RING ≡ true → FoundRing (model_of admitted.now) configuration.new result.0 }
 {
+    let design = admitted.design;
     let mut rows = [0u8; OPTIONS];
     let mut counts = [0u8; POSITIONS];
     let counts = &mut counts[..design.positions()];
     let mut strand_bonds = [0.0; PAIRS];
     let mut scaffold_bonds = [0.0; SITES];
-    fill_options(design, &mut rows, counts);
-    let options = Options {
-        rows: &rows,
-        counts,
-        strands: design.strands(),
-    };
+    let options = options_of(&admitted.tabled(), &mut rows, counts);
     fill_read_strand_bonds(design, &options, &mut strand_bonds);
     fill_needed_scaffold_bonds(design, &options, &mut scaffold_bonds);
     if RING {
@@ -71,27 +62,24 @@ fn settled<const RING: bool, const PAIRS: usize, const SITES: usize>(
 }
 
 // The same with tables that are large enough.
-pub fn searched<const RING: bool>(design: &Design, configuration: &mut [u8]) -> KcalPerMol
-    requires admitted { Admitted design.now }
-    requires short { positions design.now ≤ 128 }
-    requires some { 0 < strands design.now }
-    requires few { strands design.now ≤ 64 }
-    requires configuration_len { length configuration.old ≡ positions design.now }
-    requires closed { RING ≡ true → 0 < positions design.now }
-    ensures chain { RING ≡ false → Found (model_of design.now) configuration.new result.0 }
-    ensures ring { RING ≡ true → FoundRing (model_of design.now) configuration.new result.0 }
+pub fn searched<const RING: bool>(admitted: &AdmittedDesign, configuration: &mut [u8]) -> KcalPerMol
+    requires configuration_len { length configuration.old ≡ positions admitted.now }
+    requires closed { RING ≡ true → 0 < positions admitted.now }
+    ensures chain { RING ≡ false → Found (model_of admitted.now) configuration.new result.0 }
+    ensures ring { RING ≡ true → FoundRing (model_of admitted.now) configuration.new result.0 }
 {
+    let design = admitted.design;
     let sites = design.positions() * design.strands();
     if design.strands() <= 16 {
         if sites <= 256 {
-            settled::<RING, 256, 256>(design, configuration)
+            settled::<RING, 256, 256>(admitted, configuration)
         } else {
-            settled::<RING, 256, 2048>(design, configuration)
+            settled::<RING, 256, 2048>(admitted, configuration)
         }
     } else if sites <= 2048 {
-        settled::<RING, 4096, 2048>(design, configuration)
+        settled::<RING, STRAND_BONDS, 2048>(admitted, configuration)
     } else {
-        settled::<RING, 4096, 8192>(design, configuration)
+        settled::<RING, STRAND_BONDS, SCAFFOLD_BONDS>(admitted, configuration)
     }
 }
 
@@ -103,5 +91,5 @@ pub fn mfe_configuration(design: &Design, configuration: &mut [u8]) -> Result<Kc
 {
     design_reply(configuration.len() != design.positions(), design)?;
     design.hold_doubles();
-    Ok(searched::<false>(design, configuration))
+    Ok(searched::<false>(&AdmittedDesign { design }, configuration))
 }

@@ -5,15 +5,15 @@ ghost use Rattle.partition.specs.Weights.{weight_at, place_weight, pair_weight};
 ghost use Rattle.partition_sums.specs.Layout.{options_of, weights_of, Celled};
 ghost use Rattle.partition_sums.specs.inner.Props.{in_use_prop};
 
-use super::terms::lifted;
+use super::terms::{HIGHEST, lifted};
 use super::weights::{WeightRow, Weights};
 use ensemble::options::Options;
 use partition::Term;
 
-// The factor of an empty place, and of a pair with one: 2^30 2^-30, the exponent 400,000 higher.
+// The factor of an empty place, and of a pair with one: 2^30 2^-30, as a term.
 const ONE: Term = Term {
     digits: 0x4000_0000,
-    power: 399970,
+    power: HIGHEST as u64 - 30,
 };
 
 // Options and weights of as many strands, with all cells; each lent for its own time, so that weights serve for other options too.

@@ -25,6 +25,7 @@ pub(crate) fn sum_terms<F: Fn(u8) -> Term>(options: &[u8], term: F) -> Term
     // where `term` computes f, the definition's sum of f
     ensures { (f : ℕ → Declared.Term) → ((k : ℕ) (t : Declared.Term) → k < length options.now → F.post term (slice_index options.now k) t → t ≡ f (slice_index options.now k)) → result ≡ Pass.sum_terms f options.now }
 {
+    // In a loop from the first on: `reduce` gives an Option, and there is no sum of no option to put for its `None`.
     let mut sum = term(options[0]);
     for x in &options[1..] {
         sum = term_plus(sum, term(*x));

@@ -9,7 +9,7 @@ use super::constraint::Constraint;
 use super::lent::{Formed, Lent};
 use super::rows::{last_row, row_before, sum_terms};
 use super::terms::lowered;
-use ensemble::options::Options;
+use ensemble::options::{OPTIONS, Options};
 use fractions::Weight;
 
 // The sum over all states of options of which each position has one.
@@ -19,6 +19,7 @@ pub fn free_sum(formed: &Formed<'_, '_>) -> Weight
     let options = &formed.lent.options;
     let positions = options.counts.len();
     let mut row = last_row(formed);
+    // By number: a row is asked for by its position.
     for position in (0..positions - 1).rev() {
         row = row_before(formed, position, &row);
     }
@@ -32,8 +33,8 @@ pub fn constrained_sum(formed: &Formed<'_, '_>, constraint: &Constraint<'_>) -> 
 {
     let options = &formed.lent.options;
     let positions = options.counts.len();
-    let mut kept_rows = [0u8; 8192];
-    let mut kept_counts = [0u8; 128];
+    let mut kept_rows = [0; OPTIONS];
+    let mut kept_counts = [0; 128];
     let counts = &mut kept_counts[..positions];
     keep_allowed(options, constraint, &mut kept_rows, counts);
     if counts.contains(&0) {

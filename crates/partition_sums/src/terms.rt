@@ -9,6 +9,9 @@ ghost use Rattle.partition.specs.inner.Used.{Weighs};
 use fractions::Weight;
 use partition::Term;
 
+// The highest exponent of a weight in form; the lowest is as far below 0. By so much a term's is higher than its weight's.
+pub(crate) const HIGHEST: i32 = 400_000;
+
 // The product, cut to 31 digits. That a term is normal each call asks for, and no type says: a row holds 0 where no option stands, which is not.
 #[tactic(auto, unfolding(partition::specs::Terms::times))]
 pub(crate) fn term_times(a: Term, b: Term) -> Term
@@ -73,14 +76,14 @@ pub(crate) fn term_plus(a: Term, b: Term) -> Term
     }
 }
 
-// A weight in form as a term: its exponent is 400,000 higher.
+// A weight in form as a term.
 pub(crate) fn lifted(weight: Weight) -> Term
     requires { Weighs 400000 weight }
     ensures { result ≡ lifted_term 400000 weight }
 {
     Term {
         digits: u64::from(weight.digits),
-        power: (i64::from(weight.power) + 400000) as u64,
+        power: (weight.power + HIGHEST) as u64,
     }
 }
 
@@ -91,7 +94,7 @@ pub(crate) fn lowered(t: Term, positions: usize) -> Weight
     requires positions_nonzero { (0 < positions) × (positions ≤ 128) }
     ensures { result ≡ Summed.lowered 400000 (factors positions) t }
 {
-    let moved = 400000 * (2 * positions as u64 - 1);
+    let moved = HIGHEST as u64 * (2 * positions as u64 - 1);
     Weight {
         digits: t.digits as u32,
         power: (t.power as i64 - moved as i64) as i32,
@@ -104,6 +107,6 @@ pub(crate) fn unformed(weight: Weight) -> bool
     ensures { result ≡ Weights.unformed weight }
 {
     let digits_fit = (0x4000_0000..0x8000_0000).contains(&weight.digits);
-    let power_fits = (-400000..=400000).contains(&weight.power);
+    let power_fits = (-HIGHEST..=HIGHEST).contains(&weight.power);
     !(digits_fit && power_fits)
 }

@@ -86,5 +86,5 @@ pub fn state_energy(state: &[u8], bonds: &Bonds, rt: KcalPerMol) -> KcalPerMol
     for (position, strand) in state.iter().enumerate() {
         begun = begin(begun, *strand, position, bonds);
     }
-    rt.scale(ended(begun, bonds.potentials))
+    ended(begun, bonds.potentials) * rt
 }

@@ -1,26 +1,21 @@
 -- Figures in the words of a line, one after the other. Assumes nothing.
-use Rattle.std.proofs.Common.{◌≡◌, ℕ, suc, ◌+◌, ◌<◌, ◌≤◌, List, ◌∷◌, length, get_or, take, drop, sym, ◌∙◌, subst, add-one, take-append-drop, drop_of_length-le, drop-cons, drop-drop}
+use Rattle.std.proofs.Common.{◌≡◌, ℕ, zero, suc, ◌*◌, ◌<◌, List, [], ◌∷◌, length, get_or, take, drop, sym, ◌∙◌, subst, refl, arith, take-append-drop, length-drop}
+use Rattle.std.specs.Simd.{first_chunks}
 use Rattle.replay.specs.Text.{hex_text}
-use Rattle.replay.specs.Says.{blank, figures_text, FigureAt, Says}
+use Rattle.replay.specs.Says.{blank, figures_text, Says}
 
--- a blank with the digits after it
-pub figure-text : (words : List ℕ) (place bits : ℕ) → place < length words → get_or words place 0 ≡ blank → take 16 (drop (place + 1) words) ≡ hex_text bits
-    → take 17 (drop place words) ≡ blank ∷ hex_text bits
-figure-text words place bits h b e =
-    let digits : take 16 (drop (suc place) words) ≡ hex_text bits = rw (add-one place) at e in
-    rw (drop-cons words place 0) (rw (b, digits))
-
--- a figure, and after it the later ones
-pub figures-more : (words figures : List ℕ) (place i : ℕ) → i < length figures → FigureAt words place (get_or figures i 0)
-    → drop (place + 17) words ≡ figures_text (drop (i + 1) figures) → drop place words ≡ figures_text (drop i figures)
+-- a text is its figures where each of its parts of 17 bytes is one
+pub chunks-text : (n : ℕ) (text figures : List ℕ) → length figures ≡ n → length text ≡ n * 17
+    → ((k : ℕ) → k < n → get_or (first_chunks 17 n text) k [] ≡ blank ∷ hex_text (get_or figures k 0)) → text ≡ figures_text figures
 unfolding figures_text
-figures-more words figures place i h f e =
-    sym (take-append-drop 17 (drop place words))
-    ∙ rw (f.text, drop-drop 17 place words, e, add-one i, drop-cons figures i 0)
-
-pub figures-done : (words figures : List ℕ) (place i : ℕ) → length figures ≤ i → length words ≤ place → drop place words ≡ figures_text (drop i figures)
-unfolding figures_text
-figures-done words figures place i h l = rw (drop_of_length-le words l, drop_of_length-le figures h)
+chunks-text zero [] [] m l h = refl
+chunks-text zero (x ∷ text) figures m l h = absurd (omega arith)
+chunks-text zero [] (f ∷ figures) m l h = absurd (omega arith)
+chunks-text (suc n) text [] m l h = absurd (omega arith)
+chunks-text (suc n) text (f ∷ figures) m l h =
+    let first : take 17 text ≡ blank ∷ hex_text f = h 0 (omega arith) in
+    let later = chunks-text n (drop 17 text) figures (omega arith) (omega (arith, length-drop 17 text)) (λ k b. h (suc k) (omega arith)) in
+    sym (take-append-drop 17 text) ∙ rw (first, later)
 
 -- the same said of equal words, numbers and figures
 pub says-as : {v w : List ℕ} {m n : ℕ} {fs gs : List ℕ} → v ≡ w → m ≡ n → fs ≡ gs → Says v m fs → Says w n gs

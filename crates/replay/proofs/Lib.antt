@@ -1,4 +1,4 @@
-pub mod Tests
+pub mod Values
 pub mod Words
 pub mod Figures
 pub mod Letters

@@ -1,28 +1,30 @@
 // The design that lines have set.
-ghost use Rattle.std.specs.Prelude.{◌≤◌};
+ghost use Rattle.std.specs.Prelude.{◌≤◌, length};
 
 use crate::numbers::{decimal, hex};
-use crate::parts::{past, up_to};
+use crate::parts::split_at_first;
 use crate::setting::{set_byte, set_double};
 use doubles::double;
-use units::Ambient;
+use reply::limits::{CELLS, POSITIONS, SIDES, STRANDS};
 
 // The Rust knows no blocked positions: all are open.
-const OPEN: [u8; 128] = [0; 128];
+const OPEN: [u8; POSITIONS] = [0; POSITIONS];
 
 // Its numbers from the start of each array, and how many positions and strands of them are its own.
 #[derive(Drop)]
 pub(crate) struct Design {
-    scaffold: [u8; 128],
-    glues: [u8; 192],
-    dg: [f64; 4096],
-    ds: [f64; 4096],
-    potentials: [f64; 64],
+    scaffold: [u8; POSITIONS],
+    glues: [u8; SIDES * STRANDS],
+    dg: [f64; CELLS],
+    ds: [f64; CELLS],
+    potentials: [f64; STRANDS],
     positions: usize,
     strands: usize,
     rt: f64,
     strand_excess: f64,
     scaffold_excess: f64,
+    ghost few_positions: { positions ≤ 128 },
+    ghost few_strands: { strands ≤ 64 },
 }
 
 // A count up to a limit; 0 for a word that is none, and every call refuses a design without strands.
@@ -40,73 +42,53 @@ fn double_of(word: &[u8]) -> f64 {
     hex(word).map_or(0.0 / 0.0, double)
 }
 
-// A design out of its parts: that they are doubles is known of parameters.
-fn lent_of<'a>(
-    scaffold: &'a [u8],
-    marks: &'a [u8],
-    glues: &'a [u8],
-    dg: &'a [f64],
-    ds: &'a [f64],
-    potentials: &'a [f64],
-    ambient: Ambient,
-) -> design::Design<'a> {
-    design::Design {
-        scaffold,
-        marks,
-        glues,
-        dg,
-        ds,
-        potentials,
-        ambient,
-    }
-}
-
 impl Design {
     // `POSITIONS STRANDS RT STRAND_EXCESS SCAFFOLD_EXCESS`: all else is 0 until it is set.
     pub(crate) fn begun(words: &[u8]) -> Design {
-        let second = past(words, b' ');
-        let third = past(second, b' ');
-        let fourth = past(third, b' ');
+        let (positions, rest) = split_at_first(words, b' ');
+        let (strands, rest) = split_at_first(rest, b' ');
+        let (rt, rest) = split_at_first(rest, b' ');
+        let (strand_excess, scaffold_excess) = split_at_first(rest, b' ');
         Design {
-            scaffold: [0; 128],
-            glues: [0; 192],
-            dg: [0.0; 4096],
-            ds: [0.0; 4096],
-            potentials: [0.0; 64],
-            positions: size(up_to(words, b' '), 128),
-            strands: size(up_to(second, b' '), 64),
-            rt: double_of(up_to(third, b' ')),
-            strand_excess: double_of(up_to(fourth, b' ')),
-            scaffold_excess: double_of(past(fourth, b' ')),
+            scaffold: [0; POSITIONS],
+            glues: [0; SIDES * STRANDS],
+            dg: [0.0; CELLS],
+            ds: [0.0; CELLS],
+            potentials: [0.0; STRANDS],
+            positions: size(positions, POSITIONS),
+            strands: size(strands, STRANDS),
+            rt: double_of(rt),
+            strand_excess: double_of(strand_excess),
+            scaffold_excess: double_of(scaffold_excess),
         }
     }
 
-    // A line that sets a number of the design, or begins a new one: whether it does.
-    pub(crate) fn set(&mut self, word: &[u8], words: &[u8]) -> bool {
+    // A line that sets a number of the design, or begins a new one: `Some` where it does.
+    pub(crate) fn set(&mut self, word: &[u8], words: &[u8]) -> Option<()> {
         match word {
             b"design" => {
                 *self = Design::begun(words);
-                true
+                Some(())
             }
             b"scaffold" => set_byte(words, &mut self.scaffold),
             b"glue" => set_byte(words, &mut self.glues),
             b"potential" => set_double(words, &mut self.potentials),
             b"dg" => set_double(words, &mut self.dg),
             b"ds" => set_double(words, &mut self.ds),
-            _ => false,
+            _ => None,
         }
     }
 
-    // The design as calls are lent it. `begun` sets no more positions and strands than these, which a field does not tell.
-    pub(crate) fn lent(&self) -> design::Design<'_> {
-        let positions = self.positions.min(128);
-        let strands = self.strands.min(64);
-        let scaffold = &self.scaffold[..positions];
-        let marks = &OPEN[..positions];
-        let glues = &self.glues[..3 * strands];
-        let potentials = &self.potentials[..strands];
+    // The design as calls are lent it.
+    pub(crate) fn lent(&self) -> design::Design<'_>
+        ensures { length result.scaffold ≤ 128 }
+    {
+        let scaffold = &self.scaffold[..self.positions];
+        let marks = &OPEN[..self.positions];
+        let glues = &self.glues[..SIDES * self.strands];
+        let potentials = &self.potentials[..self.strands];
         let ambient = exports::designs::ambient(self.rt, self.strand_excess, self.scaffold_excess);
-        lent_of(
+        design::Design::new(
             scaffold, marks, glues, &self.dg, &self.ds, potentials, ambient,
         )
     }

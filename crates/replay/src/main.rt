@@ -15,7 +15,9 @@ mod setting;
 
 use about::Design;
 use kind::{KINDS, Kind};
+use parts::split_at_first;
 use places::read_places;
+use reply::limits::{POSITIONS, STRANDS};
 use std::fs::File;
 use std::io;
 use std::io::Write;
@@ -23,19 +25,13 @@ use std::os::unix::fs::FileExt;
 use std::rt::Files;
 
 // How many lines were compared, and how many of them differ.
-#[derive(Clone, Copy)]
+#[derive(Clone, Copy, Default)]
 struct Count {
     compared: u64,
     differ: u64,
 }
 
 impl Count {
-    // Nothing is counted yet.
-    const NONE: Count = Count {
-        compared: 0,
-        differ: 0,
-    };
-
     // One line more.
     fn add(&mut self, agreed: bool) {
         self.compared = self.compared.wrapping_add(1);
@@ -56,17 +52,17 @@ struct Tally {
 const LONGEST_LINE: usize = 4095;
 
 // The configuration of a line, read into the lent places.
-fn configuration_of<'a>(words: &[u8], room: &'a mut [u8; 128]) -> &'a [u8] {
-    let n = read_places(parts::up_to(words, b' '), room);
+fn configuration_of<'a>(words: &[u8], room: &'a mut [u8; POSITIONS]) -> &'a [u8] {
+    let n = read_places(split_at_first(words, b' ').0, room);
     &room[..n]
 }
 
-// Whether a line says what the port answers. Calls are lent as many places as there are positions, which a field does not say are 128 at most.
-fn agrees(kind: Kind, words: &[u8], design: &Design) -> bool {
+// `Some` where a line says what the port answers. Calls are lent as many places as there are positions.
+fn agrees(kind: Kind, words: &[u8], design: &Design) -> Option<()> {
     let design = design.lent();
-    let mut entries = [0u8; 64];
-    let mut room = [0u8; 128];
-    let n = design.scaffold.len().min(128);
+    let mut entries = [0u8; STRANDS];
+    let mut room = [0u8; POSITIONS];
+    let n = design.scaffold.len();
     match kind {
         Kind::Sequence => kinds::sequence(words),
         Kind::Pair => kinds::pair(words),
@@ -111,8 +107,9 @@ fn replay_setting<W: Write>(
     number: u64,
     line: &[u8],
 ) -> io::Result<()> {
-    let sets = design.set(parts::up_to(line, b' '), parts::past(line, b' '));
-    if is_well_formed(line) && sets {
+    let (word, words) = split_at_first(line, b' ');
+    let sets = design.set(word, words);
+    if is_well_formed(line) && sets.is_some() {
         return Ok(());
     }
     tally.no_kind.add(false);
@@ -130,10 +127,11 @@ fn replay_line<W: Write>(
     if line.starts_with(b"#") {
         return Ok(());
     }
-    let Some(kind) = Kind::of(parts::up_to(line, b' ')) else {
+    let (word, words) = split_at_first(line, b' ');
+    let Some(kind) = Kind::of(word) else {
         return replay_setting(out, tally, design, number, line);
     };
-    let agreed = is_well_formed(line) && agrees(kind, parts::past(line, b' '), design);
+    let agreed = is_well_formed(line) && agrees(kind, words, design).is_some();
     tally.kinds[kind as usize].add(agreed);
     if agreed {
         return Ok(());
@@ -156,7 +154,7 @@ fn next_line<'a, W: Write, F: FileExt>(
     if n == 0 {
         return Ok(None);
     }
-    let line = parts::up_to(&block[..n], b'\n');
+    let (line, _) = split_at_first(&block[..n], b'\n');
     if LONGEST_LINE < line.len() {
         out.write_all(b"a line of the list is too long\n")?;
         return Ok(None);
@@ -167,8 +165,8 @@ fn next_line<'a, W: Write, F: FileExt>(
 // Every line of the list. A proved loop has to end, and nothing says that a file does: it is given more turns than any list has lines.
 fn replay<W: Write, F: FileExt>(out: &mut W, file: &F) -> io::Result<Tally> {
     let mut tally = Tally {
-        kinds: [Count::NONE; 16],
-        no_kind: Count::NONE,
+        kinds: [Count::default(); 16],
+        no_kind: Count::default(),
     };
     let mut design = Design::begun(b"");
     let mut at: usize = 0;

@@ -5,7 +5,8 @@ ghost use Rattle.replay.specs.Text.{hex_text, Decimal};
 
 use decimals::{write_count, write_hex};
 
-// Whether a word is 16 hex digits, and those of x.
+// Whether a word is 16 hex digits, and those of x. It is a `match`, here and below, since a proof does not learn what the closure of
+// `is_ok_and` answered.
 pub(crate) fn is_hex(word: &[u8], x: u64) -> bool
     ensures { result ≡ true → word.now ≡ hex_text x }
 {
@@ -46,7 +47,7 @@ pub(crate) fn hex(word: &[u8]) -> Option<u64>
     ensures { IfSome result (λ bits. word.now ≡ hex_text bits) }
 {
     let x = value(word, 16)?;
-    if is_hex(word, x) { Some(x) } else { None }
+    is_hex(word, x).then_some(x)
 }
 
 // A number in decimal.
@@ -54,7 +55,7 @@ pub(crate) fn decimal(word: &[u8]) -> Option<u64>
     ensures { IfSome result (Decimal word.now) }
 {
     let x = value(word, 10)?;
-    if is_decimal(word, x) { Some(x) } else { None }
+    is_decimal(word, x).then_some(x)
 }
 
 // A number up to 255 in decimal.

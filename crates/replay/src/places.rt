@@ -1,10 +1,10 @@
 // Configurations as the list writes them: a byte for each place, 48 and the number of its strand, so that an empty place is 0 and
 // strand 1 is 1. One with no places is written as `-`.
-ghost use Rattle.std.specs.Prelude.{◌≡◌, ◌≤◌, true, map, length};
+ghost use Rattle.std.specs.Prelude.{◌≡◌, ◌≤◌, true, map, length, OnSome};
 ghost use Rattle.replay.specs.Places.{letter, SaysPlaces, Places};
 
 use crate::kinds::letters;
-use crate::parts::{past, up_to};
+use crate::parts::split_at_first;
 use crate::says::refused;
 
 // Whether the letters are those of the places.
@@ -37,15 +37,16 @@ pub(crate) fn read_places(word: &[u8], places: &mut [u8]) -> usize
     n
 }
 
-// `ok PLACES` of a call that is answered, and its number where it is refused.
-pub(crate) fn says_places(words: &[u8], number: u32, places: &[u8]) -> bool
-    ensures { result ≡ true → SaysPlaces words.now number places.now }
+// `ok PLACES` of a call that is answered, and its number where it is refused: `Some` where the words say so.
+pub(crate) fn says_places(words: &[u8], number: u32, places: &[u8]) -> Option<()>
+    ensures { OnSome result (SaysPlaces words.now number places.now) }
 {
     if number != 0 {
         return refused(words, number);
     }
-    if up_to(words, b' ') != b"ok".as_slice() {
-        return false;
+    let (first, second) = split_at_first(words, b' ');
+    if first != b"ok".as_slice() {
+        return None;
     }
-    is_places(past(words, b' '), places)
+    is_places(second, places).then_some(())
 }

@@ -1,43 +1,38 @@
-// The lines that set a design, one number at a time.
-ghost use Rattle.std.specs.Prelude.{◌≡◌, true};
+// The lines that set a design, one number at a time. A length is compared, since a proof does not learn what is written through
+// `get_mut(..)?`.
+ghost use Rattle.std.specs.Prelude.{OnSome};
 ghost use Rattle.replay.specs.Setting.{ByteSet, DoubleSet};
 
-use crate::numbers::{decimal, hex};
-use crate::parts::{past, up_to};
+use crate::numbers::{decimal, hex, small};
+use crate::parts::split_at_first;
 use doubles::double;
 
-// `INDEX BYTE`: whether the line sets an entry.
-pub(crate) fn set_byte(words: &[u8], slice: &mut [u8]) -> bool
-    ensures { result ≡ true → ByteSet words.now slice.old slice.new }
+// `INDEX BYTE`: `Some` where the line sets an entry.
+pub(crate) fn set_byte(words: &[u8], slice: &mut [u8]) -> Option<()>
+    ensures { OnSome result (ByteSet words.now slice.old slice.new) }
 {
-    let Some(index) = decimal(up_to(words, b' ')) else {
-        return false;
-    };
-    let Some(value) = decimal(past(words, b' ')) else {
-        return false;
-    };
+    let (first, second) = split_at_first(words, b' ');
+    let index = decimal(first)?;
+    let value = small(second)?;
     let at = index as usize;
-    if 255 < value || slice.len() <= at {
-        return false;
+    if slice.len() <= at {
+        return None;
     }
-    slice[at] = value as u8;
-    true
+    slice[at] = value;
+    Some(())
 }
 
 // `INDEX DOUBLE`.
-pub(crate) fn set_double(words: &[u8], slice: &mut [f64]) -> bool
-    ensures { result ≡ true → DoubleSet words.now slice.old slice.new }
+pub(crate) fn set_double(words: &[u8], slice: &mut [f64]) -> Option<()>
+    ensures { OnSome result (DoubleSet words.now slice.old slice.new) }
 {
-    let Some(index) = decimal(up_to(words, b' ')) else {
-        return false;
-    };
-    let Some(bits) = hex(past(words, b' ')) else {
-        return false;
-    };
+    let (first, second) = split_at_first(words, b' ');
+    let index = decimal(first)?;
+    let bits = hex(second)?;
     let at = index as usize;
     if slice.len() <= at {
-        return false;
+        return None;
     }
     slice[at] = double(bits);
-    true
+    Some(())
 }

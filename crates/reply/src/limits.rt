@@ -18,9 +18,6 @@ pub const LAST_GLUE: u8 = 63;
 // The cells of a glue table.
 pub const CELLS: usize = 4096;
 
-// The most states that are counted.
-pub const STATES: u64 = 1048576;
-
 // The largest dG of a cell in size, in kcal/mol.
 pub const DG: f64 = 1024.0;
 

@@ -8,8 +8,9 @@ ghost use Rattle.ring.specs.Answers.{ring_energy_answer, ring_search_answer, rin
 
 use design::Design;
 use design::checks::design_reply;
+use design::passed::AdmittedDesign;
 use design::terms::fill_terms;
-use ensemble::energies::Places;
+use ensemble::energies::{Places, Terms};
 use mfe::searched;
 use reply::limits::POSITIONS;
 use reply::{Refusal, Refused, refused_if};
@@ -25,21 +26,17 @@ pub fn ring_energy(design: &Design, configuration: &[u8]) -> Result<KcalPerMol, 
 {
     energy_reply(design, configuration)?;
     refused_if(Refusal::NotARing, design.positions() < LEAST_RING)?;
-    let mut sites = [0.0; POSITIONS];
-    let mut pairs = [0.0; POSITIONS];
-    let mut logs = [0.0; POSITIONS];
-    fill_terms(design, configuration, &mut sites, &mut pairs, &mut logs);
+    let mut terms = [Terms::default(); POSITIONS];
+    fill_terms(design, configuration, &mut terms);
+    let places = Places {
+        configuration,
+        terms: &terms,
+    };
     let first = configuration[0];
     let last = configuration[configuration.len() - 1];
     let closing = design.strand_bond(last, first);
-    let places = Places {
-        configuration,
-        sites: &sites,
-        pairs: &pairs,
-        logs: &logs,
-    };
     let sum = places.ring_sum(closing);
-    Ok(design.rt().scale(sum))
+    Ok(sum * design.rt())
 }
 
 // The lowest ring, into one lent entry for each position, 0 for an empty place; and its energy.
@@ -51,5 +48,5 @@ pub fn ring_configuration(design: &Design, configuration: &mut [u8]) -> Result<K
     design_reply(configuration.len() != design.positions(), design)?;
     refused_if(Refusal::NotARing, design.positions() < LEAST_RING)?;
     design.hold_doubles();
-    Ok(searched::<true>(design, configuration))
+    Ok(searched::<true>(&AdmittedDesign { design }, configuration))
 }

@@ -15,17 +15,16 @@ use design::Design;
 use design::answers::ChainEnergy;
 use design::checks::{design_reply, numbers_reply, tables_reply};
 use design::options::write_friends;
+use design::passed::TabledDesign;
 use design::terms::fill_terms;
-use ensemble::energies::Places;
+use ensemble::energies::{Places, Terms};
+use ensemble::options::OPTIONS;
 use ensemble::states::{MOST_STATES, write_state};
-use prepared::options::count_options;
+use prepared::options::{Counted, count_options};
 use reply::limits::{POSITIONS, STRANDS};
 use reply::{Refusal, Refused, refused_if};
 use strangers::has_stranger;
 use units::KcalPerMol;
-
-// The options of all positions, a row of 64 for each.
-const OPTIONS: usize = 8192;
 
 // The bond between strand x and strand y to the east of it.
 pub fn bond_between_strands(design: &Design, x: u8, y: u8) -> Result<f64, Refused>
@@ -67,7 +66,7 @@ pub fn number_of_states(design: &Design) -> Result<u64, Refused>
     let mut rows = [0u8; OPTIONS];
     let mut counts = [0u8; POSITIONS];
     let counts = &mut counts[..design.positions()];
-    let states = count_options(design, &mut rows, counts);
+    let Counted { states, .. } = count_options(&TabledDesign { design }, &mut rows, counts);
     refused_if(Refusal::TooManyStates, MOST_STATES < states)?;
     numbers_reply(design)?;
     Ok(states)
@@ -82,11 +81,11 @@ pub fn state_at_rank(design: &Design, rank: u64, entries: &mut [u8]) -> Result<(
     let mut rows = [0u8; OPTIONS];
     let mut counts = [0u8; POSITIONS];
     let counts = &mut counts[..design.positions()];
-    let states = count_options(design, &mut rows, counts);
+    let Counted { options, states } = count_options(&TabledDesign { design }, &mut rows, counts);
     refused_if(Refusal::TooManyStates, MOST_STATES < states)?;
     refused_if(Refusal::RankTooHigh, states <= rank)?;
     numbers_reply(design)?;
-    write_state(&rows, counts, states, rank, entries);
+    write_state(options.rows, options.counts, states, rank, entries);
     Ok(())
 }
 
@@ -105,18 +104,14 @@ pub fn g_system(design: &Design, attachments: &[u8]) -> Result<KcalPerMol, Refus
     ensures { energy_figures result ≡ state_energy_answer design.now attachments.now }
 {
     energy_reply(design, attachments)?;
-    let mut sites = [0.0; POSITIONS];
-    let mut pairs = [0.0; POSITIONS];
-    let mut logs = [0.0; POSITIONS];
-    fill_terms(design, attachments, &mut sites, &mut pairs, &mut logs);
+    let mut terms = [Terms::default(); POSITIONS];
+    fill_terms(design, attachments, &mut terms);
     let places = Places {
         configuration: attachments,
-        sites: &sites,
-        pairs: &pairs,
-        logs: &logs,
+        terms: &terms,
     };
     let sumg = places.state_sum();
-    Ok(design.rt().scale(sumg))
+    Ok(sumg * design.rt())
 }
 
 // The chain energy of a configuration, as it is and times RT.
@@ -124,19 +119,15 @@ pub fn chain_energy(design: &Design, configuration: &[u8]) -> Result<ChainEnergy
     ensures { chain_figures result ≡ chain_energy_answer design.now configuration.now }
 {
     energy_reply(design, configuration)?;
-    let mut sites = [0.0; POSITIONS];
-    let mut pairs = [0.0; POSITIONS];
-    let mut logs = [0.0; POSITIONS];
-    fill_terms(design, configuration, &mut sites, &mut pairs, &mut logs);
+    let mut terms = [Terms::default(); POSITIONS];
+    fill_terms(design, configuration, &mut terms);
     let places = Places {
         configuration,
-        sites: &sites,
-        pairs: &pairs,
-        logs: &logs,
+        terms: &terms,
     };
     let sum = places.chain_sum();
     Ok(ChainEnergy {
         bare: sum,
-        times_rt: design.rt().scale(sum),
+        times_rt: sum * design.rt(),
     })
 }

@@ -12,8 +12,7 @@ use Rattle.sdc_common.specs.Numbers.{bases_of, glue_number, numbers_among}
 use Rattle.sdc_common.specs.Calls.{unfit_strands, too_many_bases, glues_after}
 use Rattle.sdc_common.proofs.Fit.{strand-glues}
 use Rattle.sdc1d_params.specs.Params.{unfit_copied, glue_of_strand, quencher_glues, reporter_glues, with_copies}
-use Rattle.sdc1d_params.specs.declared.Copied.{Copied}
-use Rattle.sdc1d_params.specs.declared.Copied.TheVariants.{Nothing, Strand}
+use Rattle.std.specs.Prelude.{Option, Some, None}
 use Rattle.sdc1d_params.proofs.Lengths.{copied-fits}
 
 -- a part that is lent behind what stands already
@@ -31,13 +30,13 @@ module _ (users : ℕ) (numbers rest : List ℕ) (many : length numbers ≡ 3 * 
   seen : (k side : ℕ) → (1 ≤ k) × (k ≤ users) → side < 3 → glue_of_strand (numbers ++ rest) k side ≡ glue_of_strand numbers k side
   seen k side h l = get_or-append numbers rest 0 (3 * (k - 1) + side) (omega (arith, h.0, h.1))
 
-  pub quencher-seen : (copied : Copied) → unfit_copied users copied ≡ false → quencher_glues (numbers ++ rest) copied ≡ quencher_glues numbers copied
-  quencher-seen Nothing e = refl
-  quencher-seen (Strand k) e = let h = copied-fits users k e in rw (seen k 0 h (omega arith), seen k 1 h (omega arith))
+  pub quencher-seen : (copied : Option ℕ) → unfit_copied users copied ≡ false → quencher_glues (numbers ++ rest) copied ≡ quencher_glues numbers copied
+  quencher-seen None e = refl
+  quencher-seen (Some k) e = let h = copied-fits users k e in rw (seen k 0 h (omega arith), seen k 1 h (omega arith))
 
-  pub reporter-seen : (copied : Copied) → unfit_copied users copied ≡ false → reporter_glues (numbers ++ rest) copied ≡ reporter_glues numbers copied
-  reporter-seen Nothing e = refl
-  reporter-seen (Strand k) e = let h = copied-fits users k e in rw (seen k 1 h (omega arith), seen k 2 h (omega arith))
+  pub reporter-seen : (copied : Option ℕ) → unfit_copied users copied ≡ false → reporter_glues (numbers ++ rest) copied ≡ reporter_glues numbers copied
+  reporter-seen None e = refl
+  reporter-seen (Some k) e = let h = copied-fits users k e in rw (seen k 1 h (omega arith), seen k 2 h (omega arith))
 
 -- ---- the four parts one behind the other
 
@@ -83,7 +82,7 @@ module _ (n : ℕ) (t zeros numbers : List ℕ) (z : length zeros ≡ 3) (m : le
         ∙ reporter-laid
 
 -- what the stores of all strands leave
-module _ (users : ℕ) (t numbers : List ℕ) (quencher reporter : Copied) (lt : length t ≡ 3 * (users + 3)) (m : length numbers ≡ 3 * users)
+module _ (users : ℕ) (t numbers : List ℕ) (quencher reporter : Option ℕ) (lt : length t ≡ 3 * (users + 3)) (m : length numbers ≡ 3 * users)
     (fitq : unfit_copied users quencher ≡ false) (fitr : unfit_copied users reporter ≡ false) where
   pub strands-laid :
       (w0 w1 w2 w3 : List ℕ)
@@ -103,13 +102,13 @@ module _ (users : ℕ) (t numbers : List ℕ) (quencher reporter : Copied) (lt :
       all_laid (3 * users) t w0 w1 z n w2 w3 (ap length q ∙ three-quencher quencher) (ap length r ∙ three-reporter reporter) (lt ∙ omega arith)
       ∙ rw (e0, e1, q, r)
     where
-      three-quencher : (copied : Copied) → length (quencher_glues numbers copied) ≡ 3
-      three-quencher Nothing = refl
-      three-quencher (Strand k) = refl
+      three-quencher : (copied : Option ℕ) → length (quencher_glues numbers copied) ≡ 3
+      three-quencher None = refl
+      three-quencher (Some k) = refl
 
-      three-reporter : (copied : Copied) → length (reporter_glues numbers copied) ≡ 3
-      three-reporter Nothing = refl
-      three-reporter (Strand k) = refl
+      three-reporter : (copied : Option ℕ) → length (reporter_glues numbers copied) ≡ 3
+      three-reporter None = refl
+      three-reporter (Some k) = refl
 
 -- the part that is lent for the user strands
 pub part-many : (users : ℕ) (zeros t : List ℕ) → zeros ≡ 0 ∷ 0 ∷ 0 ∷ [] → length t ≡ 3 * (users + 3) → length (take (3 * users + 3 - 3) (drop 3 (zeros ++ drop 3 (drop 0 t)))) ≡ 3 * users

@@ -17,8 +17,8 @@ use Rattle.sdc_common.specs.Calls.{unfit_strands}
 use Rattle.sdc_common.specs.inner.Fit.{Fit}
 use Rattle.sdc1d_params.specs.Entries.{energy_of, bad_form, unfit_energy, unfit_entry, entry_at, entry_rows, entries_of, unfit_entries}
 use Rattle.sdc1d_params.specs.inner.Cells.{first_of}
+use Rattle.std.specs.Prelude.{Some}
 use Rattle.sdc1d_params.specs.Params.{Params, Outcome, unfit_copied, unfit_lent, wrong_size}
-use Rattle.sdc1d_params.specs.declared.Copied.TheVariants.{Strand}
 use Rattle.sdc1d_params.specs.declared.Entry.{Entry}
 
 -- the value of a test or another: where the first holds, and where it does not
@@ -77,7 +77,7 @@ sized p lent e =
     record { strands = w1.0; scaffold = w0.1; entries = w2.1; quencher = w3.1; reporter = w4.1; lengths = w5.1 }
 
 -- a strand that is copied is one of the users'
-pub copied-fits : (users k : ℕ) → unfit_copied users (Strand k) ≡ false → (1 ≤ k) × (k ≤ users)
+pub copied-fits : (users k : ℕ) → unfit_copied users (Some k) ≡ false → (1 ≤ k) × (k ≤ users)
 copied-fits users k e =
     let two = neither (eqb k 0) (ltb users k) e in
     let some : k ≡ 0 → ⊥ = eqb-false k 0 two.0 in

@@ -107,22 +107,22 @@ module _ (p : Params) (held : List Name) (count : ℕ) (many : length held ≡ c
 -- what is lent, and the entries' cells
 module _ (s : ParameterSet) (held : List Name) (cells : List Cell)
     (b : held ≡ bases (set_of s))
-    (c : cells ≡ tabulate (entry_rows s.entries.now) (cell_among_at held s.text.now s.entries.now s.energies.now)) where
+    (c : cells ≡ tabulate (entry_rows s.lent.entries.now) (cell_among_at held s.lent.text.now s.lent.entries.now s.lent.energies.now)) where
   abbrev pub p : Params
   p = set_of s
 
   -- the rows of numbers and of doubles
   abbrev entries : List ℕ
-  entries = s.entries.now
+  entries = s.lent.entries.now
 
   abbrev energies : List Float
-  energies = s.energies.now
+  energies = s.lent.energies.now
 
   pub cells-many : length cells ≡ entry_rows entries
-  cells-many = ap length c ∙ length-tabulate (entry_rows entries) (cell_among_at held s.text.now entries energies)
+  cells-many = ap length c ∙ length-tabulate (entry_rows entries) (cell_among_at held s.lent.text.now entries energies)
 
   cells-listed : cells ≡ tabulate (entry_rows entries) (λ k. cell_of_entry p (entry_at entries energies k))
-  cells-listed = c ∙ ap (λ (bs : List Name). tabulate (entry_rows entries) (cell_among_at bs s.text.now entries energies)) b
+  cells-listed = c ∙ ap (λ (bs : List Name). tabulate (entry_rows entries) (cell_among_at bs s.lent.text.now entries energies)) b
 
   pub cells-found : (k : ℕ) → k < entry_rows entries → get_or cells k (cell 0 0) ≡ cell_of_entry p (entry_at entries energies k)
   cells-found k h =
@@ -135,7 +135,7 @@ module _ (s : ParameterSet) (held : List Name) (cells : List Cell)
       ∙ sym (ap (map (λ (w : Write). w.at)) (map-tabulate (write_of_entry p) (entry_rows entries) (entry_at entries energies))
       ∙ map-tabulate (λ (w : Write). w.at) (entry_rows entries) (λ k. write_of_entry p (entry_at entries energies k))))
 
-  pub writes_found : tabulate (entry_rows entries) (write_at s.text.now entries energies s.penalty.dg.0 s.penalty.ds.0 cells) ≡ writes_of p
+  pub writes_found : tabulate (entry_rows entries) (write_at s.lent.text.now entries energies s.lent.penalty.dg.0 s.lent.penalty.ds.0 cells) ≡ writes_of p
   writes_found = written p entries energies cells refl cells-found
 
   module _ (few : too_many_bases (strand_names p) ≡ false) where
@@ -145,16 +145,16 @@ module _ (s : ParameterSet) (held : List Name) (cells : List Cell)
     pub cells-inside : InTables cells
     cells-inside k h =
         let l : k < entry_rows entries = rw cells-many at h in
-        rw (cells-found k l) (cell-inside (bases p) (first_name p (entry_at entries energies k)) (glue_of s.text.now (entry_at entries energies k).second) most)
+        rw (cells-found k l) (cell-inside (bases p) (first_name p (entry_at entries energies k)) (glue_of s.lent.text.now (entry_at entries energies k).second) most)
 
     pub checked :
         (numbers : List ℕ)
-        → numbers ≡ numbers_among (strand_names p) (glues_of s.text.now (names_of s.scaffold.now))
-        → any (is_unknown (bases p)) (glues_of s.text.now (names_of s.scaffold.now)) ≡ false
+        → numbers ≡ numbers_among (strand_names p) (glues_of s.lent.text.now (names_of s.lent.scaffold.now))
+        → any (is_unknown (bases p)) (glues_of s.lent.text.now (names_of s.lent.scaffold.now)) ≡ false
         → Checked p entries energies numbers cells
     checked numbers n known = record {
-      spelled = numbers-spelled (strand_names p) s.text.now s.scaffold.now numbers n known;
-      small = λ k h. number_small (strand_names p) s.text.now s.scaffold.now numbers n few k (rw (numbers-length (strand_names p) s.text.now s.scaffold.now numbers n) at h);
+      spelled = numbers-spelled (strand_names p) s.lent.text.now s.lent.scaffold.now numbers n known;
+      small = λ k h. number_small (strand_names p) s.lent.text.now s.lent.scaffold.now numbers n few k (rw (numbers-length (strand_names p) s.lent.text.now s.lent.scaffold.now numbers n) at h);
       many = cells-many;
       cells-at = cells-found;
       inside = cells-inside;

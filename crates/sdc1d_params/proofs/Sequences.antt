@@ -15,14 +15,17 @@ use Rattle.reply.proofs.Answer.{is-admitted, is-refused}
 use Rattle.reply.specs.declared.Refusal.{Refusal}
 use Rattle.reply.specs.declared.Refused.{Refused}
 use Rattle.reply.specs.declared.Refusal.TheVariants.{NotABase, TooShort}
-use Rattle.utils.specs.Answers.{DgDsFigures, given_dg_ds, refused_dg_ds}
+use Rattle.utils.specs.Answers.{DgDsFigures, given_dg_ds, refused_dg_ds, dg_ds_figures}
 use Rattle.utils.specs.Bases.{not_a_base}
 use Rattle.utils.specs.Single.{too_long, too_short, sequence_checks, string_dna_dg_ds}
 use Rattle.sdc_common.specs.Lent.{part_of, leaves}
 use Rattle.sdc_common.proofs.Held.{part_length}
 use Rattle.sdc1d_params.specs.Entries.{unfit_energy}
 use Rattle.sdc1d_params.specs.declared.entries.GsOrSeq.TheVariants.{Sequence}
-use Rattle.std.specs.Prelude.{None, Ok, Err}
+use Rattle.std.specs.Prelude.{None, Some, Result, Ok, Err}
+use Rattle.std.specs.Option.{option_eq}
+use Rattle.std.specs.Result.{result_err, result_unwrap_or}
+use Rattle.utils.specs.declared.DgDs.{DgDs}
 use lib.Ieee.{Float}
 
 module _ (text : List ℕ) (start size : ℕ) (fit : unfit_energy text (Sequence start size) ≡ false) where
@@ -70,3 +73,19 @@ module _ (s : List ℕ) (fine : too_long s ≡ false) where
     refused-bad r e =
         let reply = is-refused (λ (f : DgDsFigures). f.number) refused_dg_ds figures-numbered _ (first_of (sequence_checks s)) r refl e in
         ap test (sym reply.1.1) ∙ refused-step (any not_a_base s) reply.0 (too_short s) (sym (rw fine) ∙ reply.1.0)
+
+  -- the refusal that an answer may be, told from that of a short sequence
+  pub bad-told : (E : Refusal → Refusal → Bool) (r : Result DgDs Refusal) (t : Bool) → t ≡ option_eq E (result_err r) (Some NotABase) → E NotABase NotABase ≡ true → E TooShort NotABase ≡ false → dg_ds_figures r ≡ string_dna_dg_ds s → t ≡ any not_a_base s
+  bad-told E (Ok sums) t e bad short h = e ∙ sym (given-good sums.dg.0 sums.ds.0 h)
+  bad-told E (Err why) t e bad short h = e ∙ refused-bad (λ r. E r NotABase) bad short why h
+
+-- the figures of an answer, or what stands in the place of those of a refusal
+pub taken :
+    (s : List ℕ) (r : Result DgDs Refusal) (x d : DgDs)
+    → x ≡ result_unwrap_or r d
+    → ((n : ℕ) → ((refused_dg_ds n).dg ≡ d.dg.0) × ((refused_dg_ds n).ds ≡ d.ds.0))
+    → dg_ds_figures r ≡ string_dna_dg_ds s
+    → (x.dg.0 ≡ (string_dna_dg_ds s).dg) × (x.ds.0 ≡ (string_dna_dg_ds s).ds)
+taken s (Ok sums) x d e z h = (ap (λ (y : DgDs). y.dg.0) e ∙ ap (λ (f : DgDsFigures). f.dg) h, ap (λ (y : DgDs). y.ds.0) e ∙ ap (λ (f : DgDsFigures). f.ds) h)
+taken s (Err why) x d e z h =
+    (ap (λ (y : DgDs). y.dg.0) e ∙ sym (z (number_of why)).0 ∙ ap (λ (f : DgDsFigures). f.dg) h, ap (λ (y : DgDs). y.ds.0) e ∙ sym (z (number_of why)).1 ∙ ap (λ (f : DgDsFigures). f.ds) h)

@@ -1,5 +1,5 @@
 -- `from_params`: what it refuses, and the glues and tables that it gives.
-use Rattle.std.specs.Prelude.{Bool, true, false, not, ◌&&◌, ◌||◌, List, [], ◌∷◌, ◌++◌, map, ℕ, ◌+◌, ◌-◌, ◌*◌, eqb, ltb, Float, length, get_or}
+use Rattle.std.specs.Prelude.{Bool, true, false, not, ◌&&◌, ◌||◌, List, [], ◌∷◌, ◌++◌, map, ℕ, ◌+◌, ◌-◌, ◌*◌, eqb, ltb, Float, length, get_or, Option, Some, None}
 use Rattle.lists.specs.Find.{any}
 use Rattle.reply.specs.Number.{answered}
 use Rattle.reply.specs.First.{Check, ◌if◌, first_of, answer}
@@ -13,9 +13,8 @@ use Rattle.sdc1d_params.specs.Entries.{Cell, cell_of, energy_of, Entries, entrie
 use Rattle.sdc1d_params.specs.Tables.{Write, write_of, cells_of, duplicated, out_of_range, dg_table, ds_table}
 use Rattle.sdc1d_params.specs.declared.Build.{Build}
 use Rattle.sdc1d_params.specs.declared.Build.TheVariants.{Ordinary, Archive}
-use Rattle.sdc1d_params.specs.declared.Copied.{Copied}
 use Rattle.sdc1d_params.specs.declared.Copies.{Copies}
-use Rattle.sdc1d_params.specs.declared.Copied.TheVariants.{Nothing, Strand}
+use Rattle.sdc1d_params.specs.declared.LentParameters.{LentParameters}
 use Rattle.sdc1d_params.specs.declared.Penalty.{Penalty}
 use Rattle.sdc1d_params.specs.declared.Entry.{Entry}
 use Rattle.sdc1d_params.specs.declared.entries.GsOrSeq.{GsOrSeq}
@@ -29,8 +28,8 @@ pub record Params : Type 0 where
   pub entries : Entries
   pub penalty_dg : Float
   pub penalty_ds : Float
-  pub quencher : Copied
-  pub reporter : Copied
+  pub quencher : Option ℕ
+  pub reporter : Option ℕ
 
 -- what is lent to be written, and what it holds at the end, with document 01's number
 pub record Outcome : Type 0 where
@@ -40,7 +39,7 @@ pub record Outcome : Type 0 where
   pub dg : List Float
   pub ds : List Float
 
--- a parameter set out of what is lent, in the order in which the call takes it: names and entries are read off their rows here
+-- a parameter set out of its parts, in the order in which C lends them: names and entries are read off their rows here
 abbrev pub params_of : List ℕ → ℕ → List ℕ → List ℕ → List ℕ → List Float → Penalty → Copies → Params
 params_of text users strands scaffold entries energies penalty copies =
     record {
@@ -54,6 +53,10 @@ params_of text users strands scaffold entries energies penalty copies =
       quencher = copies.quencher;
       reporter = copies.reporter;
     }
+
+-- a parameter set as it is lent as one
+abbrev pub params_lent : LentParameters → Params
+params_lent l = params_of l.text.now l.users l.strands.now l.scaffold.now l.entries.now l.energies.now l.penalty l.copies
 
 -- an outcome out of its number and the four slices
 abbrev pub outcome_of : ℕ → List ℕ → List ℕ → List Float → List Float → Outcome
@@ -96,9 +99,9 @@ energies_of p = map energy_of p.entries.each
 -- ---- sizes
 
 -- a quencher or a reporter that is no user strand; these are numbered from 1
-abbrev pub unfit_copied : ℕ → Copied → Bool
-unfit_copied users Nothing = false
-unfit_copied users (Strand k) = eqb k 0 || ltb users k
+abbrev pub unfit_copied : ℕ → Option ℕ → Bool
+unfit_copied users None = false
+unfit_copied users (Some k) = eqb k 0 || ltb users k
 
 -- a scaffold has 0 to 128 positions
 abbrev pub unfit_scaffold : Params → Outcome → Bool
@@ -163,17 +166,17 @@ abbrev pub glue_of_strand : List ℕ → ℕ → ℕ → ℕ
 glue_of_strand numbers k side = get_or numbers (3 * (k - 1) + side) 0
 
 -- "the quencher copies west and bottom of its strand with east 0"
-abbrev pub quencher_glues : List ℕ → Copied → List ℕ
-quencher_glues numbers Nothing = 0 ∷ 0 ∷ 0 ∷ []
-quencher_glues numbers (Strand k) = glue_of_strand numbers k 0 ∷ glue_of_strand numbers k 1 ∷ 0 ∷ []
+abbrev pub quencher_glues : List ℕ → Option ℕ → List ℕ
+quencher_glues numbers None = 0 ∷ 0 ∷ 0 ∷ []
+quencher_glues numbers (Some k) = glue_of_strand numbers k 0 ∷ glue_of_strand numbers k 1 ∷ 0 ∷ []
 
 -- "the reporter bottom and east with west 0"
-abbrev pub reporter_glues : List ℕ → Copied → List ℕ
-reporter_glues numbers Nothing = 0 ∷ 0 ∷ 0 ∷ []
-reporter_glues numbers (Strand k) = 0 ∷ glue_of_strand numbers k 1 ∷ glue_of_strand numbers k 2 ∷ []
+abbrev pub reporter_glues : List ℕ → Option ℕ → List ℕ
+reporter_glues numbers None = 0 ∷ 0 ∷ 0 ∷ []
+reporter_glues numbers (Some k) = 0 ∷ glue_of_strand numbers k 1 ∷ glue_of_strand numbers k 2 ∷ []
 
 -- strand 0 has no glue; then the user strands from 1, the quencher, the reporter
-abbrev pub with_copies : List ℕ → Copied → Copied → List ℕ
+abbrev pub with_copies : List ℕ → Option ℕ → Option ℕ → List ℕ
 with_copies numbers quencher reporter = (0 ∷ 0 ∷ 0 ∷ []) ++ numbers ++ quencher_glues numbers quencher ++ reporter_glues numbers reporter
 
 -- the glues of all strands, three for each

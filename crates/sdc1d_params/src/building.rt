@@ -1,22 +1,23 @@
 // The build: the checks of document 01, that of the names in an ordinary build, then the glues and the tables.
 ghost use Rattle.std.specs.Prelude.{◌≡◌, ◌≤◌, length};
 ghost use Rattle.sdc_common.specs.Calls.{result_number};
-ghost use Rattle.sdc1d_params.specs.Entries.{entry_rows};
 ghost use Rattle.sdc1d_params.specs.inner.Set.{set_of};
 ghost use Rattle.sdc1d_params.specs.Params.{lent_of, outcome_of, from_params};
 
-use crate::Build;
-use crate::cells::Cell;
+use crate::cells::NO_CELL;
 use crate::checks::check;
+use crate::entries::ROW;
 use crate::retired::refuses_names;
 use crate::scaffold::write_scaffold;
 use crate::set::ParameterSet;
 use crate::sizes::Lent;
 use crate::strands::write_strands;
 use crate::tables::fill_tables;
+use crate::{Build, MOST_ENTRIES};
+use reply::limits::POSITIONS;
 use reply::{Refusal, refused_if};
 
-// What is written where no check holds. The last two slices have room for a number of each scaffold name and a cell of each entry.
+// What is written where no check holds.
 pub(crate) fn build_all(
     build: Build,
     set: &ParameterSet,
@@ -24,13 +25,15 @@ pub(crate) fn build_all(
     scaffold_glues: &mut [u8],
     dg: &mut [f64],
     ds: &mut [f64],
-    numbers: &mut [usize],
-    cells: &mut [Cell],
 ) -> Result<(), Refusal>
-    requires scaffold_glues_len_bound { (length scaffold_glues.old ≤ 128) × (length numbers.old ≡ length scaffold_glues.old) }
-    requires cells_len { length cells.old ≡ entry_rows set.now.entries.now }
+    requires { length scaffold_glues.old ≤ 128 }
     ensures { outcome_of (result_number result) strand_glues.new scaffold_glues.new dg.new ds.new ≡ from_params build (set_of set.now) (lent_of strand_glues.old scaffold_glues.old dg.old ds.old) }
 {
+    // A number of each scaffold name and a cell of each entry.
+    let mut numbers = [0usize; POSITIONS];
+    let numbers = &mut numbers[..scaffold_glues.len()];
+    let mut cells = [NO_CELL; MOST_ENTRIES];
+    let cells = &mut cells[..set.lent.entries.len() / ROW];
     let lent = Lent {
         strand_glues,
         scaffold_glues,

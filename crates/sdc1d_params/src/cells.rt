@@ -1,9 +1,8 @@
 // Where entries are written: one name or a pair, from the numbers of the names to a cell of the tables.
 ghost use Rattle.std.specs.Prelude.{◌≡◌, ◌<◌, ◌≤◌, length};
-ghost use Rattle.lists.specs.Build.{tabulate};
 ghost use Rattle.sdc1d_params.specs.Entries.{is_written, entry_rows};
 ghost use Rattle.sdc1d_params.specs.Tables.{duplicated, place_of};
-ghost use Rattle.sdc1d_params.specs.inner.Cells.{one_cell, mirror, cell_among, cell_at, InTables, mark_both, is_marked};
+ghost use Rattle.sdc1d_params.specs.inner.Cells.{one_cell, mirror, cell_among, cells_among, InTables, mark_both, is_marked};
 
 use crate::entries::first_name;
 use crate::fit::FitEntry;
@@ -11,7 +10,8 @@ use crate::set::ParameterSet;
 use reply::limits::{CELLS, GLUES};
 use sdc_common::table::BaseTable;
 
-// A cell of the glue tables; row or column 0 where a name is not known.
+// A cell of the glue tables: the numbers of two names, 0 where a name is not known. The definitions number it so, as document 01 does, and a cell is
+// those two numbers; an `Option` would be made by a test of both and taken apart by another wherever a cell is used.
 #[derive(Clone, Copy, PartialEq, Eq, Debug)]
 pub(crate) struct Cell {
     pub(crate) row: usize,
@@ -83,8 +83,8 @@ impl FitEntry<'_> {
 // The cell of each entry, from a table of at most 31 bases.
 pub(crate) fn fill_cells(set: &ParameterSet, bases: &BaseTable, cells: &mut [Cell])
     requires few { length bases.now ≤ 31 }
-    requires cells_len { length cells.old ≡ entry_rows set.now.entries.now }
-    ensures { cells.new ≡ tabulate (entry_rows set.now.entries.now) (cell_at bases.now set.now.text.now set.now.entries.now set.now.energies.now) }
+    requires cells_len { length cells.old ≡ entry_rows set.now.lent.entries.now }
+    ensures { cells.new ≡ cells_among bases.now set.now.lent }
 {
     for (i, cell) in cells.iter_mut().enumerate() {
         *cell = set.entry(i).cell(bases);
@@ -110,7 +110,7 @@ fn mark_both(seen: &mut [bool], cell: Cell)
     }
 }
 
-// Whether two entries have the same pair.
+// Whether two entries have the same pair. A loop, since each turn marks what the later ones look at.
 pub(crate) fn any_repeated(cells: &[Cell]) -> bool
     requires { InTables cells.now }
     ensures { result ≡ duplicated cells.now }

@@ -24,16 +24,16 @@ pub(crate) fn check(
     cells: &mut [Cell],
 ) -> Result<(), Refusal>
     requires scaffold_glues_len_bound { (length lent.now.scaffold_glues.now ≤ 128) × (length numbers.old ≡ length lent.now.scaffold_glues.now) }
-    requires cells_len { length cells.old ≡ entry_rows set.now.entries.now }
+    requires cells_len { length cells.old ≡ entry_rows set.now.lent.entries.now }
     ensures value { result ≡ bare (first_of (param_checks (set_of set.now) (as_lent lent.now))) }
-    ensures checked { result ≡ Ok tt → Checked (set_of set.now) set.now.entries.now set.now.energies.now numbers.new cells.new }
+    ensures checked { result ≡ Ok tt → Checked (set_of set.now) set.now.lent.entries.now set.now.lent.energies.now numbers.new cells.new }
 {
     refused_if(Refusal::WrongSize, wrong_size(set, lent))?;
     refused_if(Refusal::NotABase, any_bad_base(set))?;
     refused_if(Refusal::TooShort, any_short(set))?;
-    let bases = BaseTable::new(set.text, set.strands);
-    bases.fill_numbers(set.text, set.scaffold, numbers);
-    let unknown = any_unknown(set.text, set.scaffold, numbers);
+    let bases = BaseTable::new(set.lent.text, set.lent.strands);
+    bases.fill_numbers(set.lent.text, set.lent.scaffold, numbers);
+    let unknown = any_unknown(set.lent.text, set.lent.scaffold, numbers);
     refused_if(Refusal::UnknownName, unknown)?;
     refused_if(Refusal::TooManyGlues, MOST_BASES < bases.len())?;
     fill_cells(set, &bases, cells);

@@ -1,27 +1,23 @@
 // Energy entries: read off their rows, as two doubles or a sequence, and taken apart.
 ghost use Rattle.std.specs.Prelude.{◌≡◌, ℕ, Bool, ◌*◌, ◌<◌, length};
 ghost use Rattle.lists.specs.Find.{any};
-ghost use Rattle.sdc1d_params.specs.Entries.{energy_of, bad_form, unfit_energy, unfit_entry, entry_at, entry_rows, entries_of, unfit_entries};
+ghost use Rattle.sdc1d_params.specs.Entries.{energy_of, bad_form, unfit_energy, unfit_entry, entry_at, entry_rows, unfit_entries};
 ghost use Rattle.sdc1d_params.specs.inner.Cells.{first_of};
+ghost use Rattle.sdc1d_params.specs.Params.{params_lent};
 ghost use Rattle.sdc1d_params.specs.declared.Entry.{Entry};
 
-use crate::Entry;
+use crate::{Entry, LentParameters, MOST_ENTRIES};
 use sdc_common::names::{LentName, PRESENT, leaves, unfit_glue};
+use utils::LONGEST;
 
 // The numbers of an entry's row.
 pub(crate) const ROW: usize = 8;
-
-// The most energy entries.
-pub(crate) const MOST_ENTRIES: usize = 1024;
 
 // An entry's energy is lent as two doubles.
 const GIVEN: usize = 0;
 
 // An entry's energy is lent as a sequence.
 const SEQUENCE: usize = 1;
-
-// The longest sequence.
-const LONGEST: usize = 256;
 
 // An entry's energy: two doubles, or a sequence by its start and length in the text.
 #[derive(Clone, Copy)]
@@ -30,7 +26,7 @@ pub(crate) enum GsOrSeq {
     Sequence(usize, usize),
 }
 
-// Entry i, out of its row of eight numbers and its two doubles. The rows are two slices here: a set has them only once each entry is fit.
+// Entry i, out of its row of eight numbers and its two doubles.
 pub(crate) fn entry_at(entries: &[usize], energies: &[f64], i: usize) -> Entry
     requires { (i < entry_rows entries.now) × (length energies.now ≡ 2 * entry_rows entries.now) }
     ensures { result ≡ entry_at entries.now energies.now i }
@@ -100,14 +96,15 @@ fn unfit_entry(text: &[u8], entry: Entry) -> bool
         || unfit_energy(text, gs_or_seq(entry))
 }
 
-// Whether some entry passes a test.
-pub(crate) fn any_entry<F: Fn(Entry) -> bool>(entries: &[usize], energies: &[f64], test: F) -> bool
-    requires two_each { length energies.now ≡ 2 * entry_rows entries.now }
-    requires callable { (i : ℕ) → i < entry_rows entries.now → F.pre test (entry_at entries.now energies.now i) }
-    ensures { (p : Entry → Bool) → ((i : ℕ) (b : Bool) → i < entry_rows entries.now → F.post test (entry_at entries.now energies.now i) b → b ≡ p (entry_at entries.now energies.now i)) → result ≡ any p (entries_of entries.now energies.now).each }
+// Whether some entry passes a test. A loop over places and no `any`, whose closure would have to be told, in clauses of its own, that there are two
+// doubles for each row.
+pub(crate) fn any_entry<F: Fn(Entry) -> bool>(lent: &LentParameters, test: F) -> bool
+    requires two_each { length lent.now.energies.now ≡ 2 * entry_rows lent.now.entries.now }
+    requires callable { (i : ℕ) → i < entry_rows lent.now.entries.now → F.pre test (entry_at lent.now.entries.now lent.now.energies.now i) }
+    ensures { (p : Entry → Bool) → ((i : ℕ) (b : Bool) → i < entry_rows lent.now.entries.now → F.post test (entry_at lent.now.entries.now lent.now.energies.now i) b → b ≡ p (entry_at lent.now.entries.now lent.now.energies.now i)) → result ≡ any p (params_lent lent.now).entries.each }
 {
-    for i in 0..entries.len() / ROW {
-        if test(entry_at(entries, energies, i)) {
+    for i in 0..lent.entries.len() / ROW {
+        if test(entry_at(lent.entries, lent.energies, i)) {
             return true;
         }
     }
@@ -115,12 +112,14 @@ pub(crate) fn any_entry<F: Fn(Entry) -> bool>(entries: &[usize], energies: &[f64
 }
 
 // Whether the rows are not whole, the doubles not two for each, the entries too many, or one unfit.
-pub(crate) fn unfit_entries(text: &[u8], entries: &[usize], energies: &[f64]) -> bool
-    ensures { result ≡ unfit_entries text.now (entries_of entries.now energies.now) }
+pub(crate) fn unfit_entries(lent: &LentParameters) -> bool
+    ensures { result ≡ unfit_entries lent.now.text.now (params_lent lent.now).entries }
 {
-    let n = entries.len() / ROW;
-    if entries.len() % ROW != 0 || energies.len() != 2 * n || MOST_ENTRIES < n {
+    let entries = lent.entries.len();
+    let energies = lent.energies.len();
+    let n = entries / ROW;
+    if entries % ROW != 0 || energies != 2 * n || MOST_ENTRIES < n {
         return true;
     }
-    any_entry(entries, energies, |entry| unfit_entry(text, entry))
+    any_entry(lent, |entry| unfit_entry(lent.text, entry))
 }

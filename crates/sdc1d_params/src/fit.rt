@@ -1,7 +1,9 @@
 // Entries that are fit: their names and sequences lie in the text, and no sequence is too long.
-ghost use Rattle.std.specs.Prelude.{◌≡◌, false, map};
+ghost use Rattle.std.specs.Prelude.{◌≡◌, false};
 ghost use Rattle.lists.specs.Find.{any};
-ghost use Rattle.sdc1d_params.specs.Entries.{energy_of, unfit_entry, has_bad_base, is_short, entry_dg, entry_ds, entries_of};
+ghost use Rattle.sdc1d_params.specs.Entries.{energy_of, unfit_entry, has_bad_base, is_short, entry_dg, entry_ds};
+ghost use Rattle.sdc1d_params.specs.inner.Set.{set_of};
+ghost use Rattle.sdc1d_params.specs.Params.{energies_of};
 
 use crate::Entry;
 use crate::entries::{GsOrSeq, any_entry, gs_or_seq};
@@ -39,10 +41,7 @@ impl FitEntry<'_> {
             },
             GsOrSeq::Sequence(start, length) => {
                 let end = start + length;
-                match utils::string_dna_dg_ds(&self.text[start..end]) {
-                    Ok(energy) => energy,
-                    Err(_) => NO_ENERGY,
-                }
+                utils::string_dna_dg_ds(&self.text[start..end]).unwrap_or(NO_ENERGY)
             }
         }
     }
@@ -55,10 +54,7 @@ impl FitEntry<'_> {
             GsOrSeq::Given(_, _) => false,
             GsOrSeq::Sequence(start, length) => {
                 let end = start + length;
-                match utils::string_dna_dg_ds(&self.text[start..end]) {
-                    Ok(_) => false,
-                    Err(refusal) => refusal == Refusal::NotABase
-                }
+                utils::string_dna_dg_ds(&self.text[start..end]).err() == Some(Refusal::NotABase)
             }
         }
     }
@@ -76,18 +72,14 @@ impl FitEntry<'_> {
 
 // Whether some entry's sequence has a byte that is no base, whether or not the entry is then passed over.
 pub(crate) fn any_bad_base(set: &ParameterSet) -> bool
-    ensures { result ≡ any (has_bad_base set.now.text.now) (map energy_of (entries_of set.now.entries.now set.now.energies.now).each) }
+    ensures { result ≡ any (has_bad_base set.now.lent.text.now) (energies_of (set_of set.now)) }
 {
-    any_entry(
-        set.entries,
-        set.energies,
-        |entry| set.fit(entry).has_bad_base(),
-    )
+    any_entry(&set.lent, |entry| set.fit(entry).has_bad_base())
 }
 
 // Whether some entry's sequence is too short, whether or not the entry is then passed over.
 pub(crate) fn any_short(set: &ParameterSet) -> bool
-    ensures { result ≡ any (is_short set.now.text.now) (map energy_of (entries_of set.now.entries.now set.now.energies.now).each) }
+    ensures { result ≡ any (is_short set.now.lent.text.now) (energies_of (set_of set.now)) }
 {
-    any_entry(set.entries, set.energies, |entry| set.fit(entry).is_short())
+    any_entry(&set.lent, |entry| set.fit(entry).is_short())
 }

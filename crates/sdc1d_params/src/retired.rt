@@ -1,10 +1,10 @@
 // Names that end in two or more stars, which an ordinary build refuses.
 ghost use Rattle.std.specs.Prelude.{◌≡◌, ◌&&◌, ◌||◌};
 ghost use Rattle.lists.specs.Find.{any};
-ghost use Rattle.sdc_common.specs.Lent.{names_of, glues_of, is_retired_glue};
+ghost use Rattle.sdc_common.specs.Lent.{is_retired_glue};
 ghost use Rattle.sdc_common.specs.inner.Fit.{FitNames};
-ghost use Rattle.sdc1d_params.specs.Entries.{entries_of};
-ghost use Rattle.sdc1d_params.specs.Params.{is_ordinary, is_retired_entry};
+ghost use Rattle.sdc1d_params.specs.inner.Set.{set_of};
+ghost use Rattle.sdc1d_params.specs.Params.{is_ordinary, is_retired_entry, strand_names};
 
 use crate::Build;
 use crate::entries::{any_entry, first_name};
@@ -23,22 +23,20 @@ impl FitEntry<'_> {
 
 // Whether a name of some entry does, whether or not the entry is passed over.
 fn any_retired_entry(set: &ParameterSet) -> bool
-    ensures { result ≡ any (is_retired_entry set.now.text.now) (entries_of set.now.entries.now set.now.energies.now).each }
+    ensures { result ≡ any (is_retired_entry set.now.lent.text.now) (set_of set.now).entries.each }
 {
-    any_entry(
-        set.entries,
-        set.energies,
-        |entry| set.fit(entry).is_retired(),
-    )
+    any_entry(&set.lent, |entry| set.fit(entry).is_retired())
 }
 
 // Whether the build is an ordinary one, and a name of a strand or an entry retires.
 pub(crate) fn refuses_names(build: Build, set: &ParameterSet) -> bool
-    requires { FitNames set.now.text.now set.now.strands.now }
-    ensures { result ≡ (is_ordinary build && (any is_retired_glue (glues_of set.now.text.now (names_of set.now.strands.now)) || any (is_retired_entry set.now.text.now) (entries_of set.now.entries.now set.now.energies.now).each)) }
+    requires { FitNames set.now.lent.text.now set.now.lent.strands.now }
+    ensures { result ≡ (is_ordinary build && (any is_retired_glue (strand_names (set_of set.now)) || any (is_retired_entry set.now.lent.text.now) (set_of set.now).entries.each)) }
 {
     match build {
         Build::Archive => false,
-        Build::Ordinary => { any_retired(set.text, set.strands) || any_retired_entry(set) }
+        Build::Ordinary => {
+            any_retired(set.lent.text, set.lent.strands) || any_retired_entry(set)
+        }
     }
 }

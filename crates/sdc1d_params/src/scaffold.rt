@@ -28,15 +28,14 @@ pub(crate) fn any_unknown(text: &[u8], scaffold: &[usize], numbers: &[usize]) ->
     requires numbers_len { length numbers.now ≡ length scaffold.now / 3 }
     ensures { result ≡ any (unknown_at text.now scaffold.now numbers.now) (up_to (length scaffold.now / 3)) }
 {
-    for (i, row) in rows(scaffold).iter().enumerate() {
-        if is_unknown(text, LentName::from(*row), numbers[i]) {
-            return true;
-        }
-    }
-    false
+    rows(scaffold).iter().zip(numbers).any(|(row, number)| is_unknown(
+        text,
+        LentName::from(*row),
+        *number,
+    ))
 }
 
-// The glues of the positions.
+// The glues of the positions. By place: after a `zip` of `iter_mut` nothing is known of what was written.
 pub(crate) fn write_scaffold(numbers: &[usize], glues: &mut [u8])
     requires glues_len { length glues.old ≡ length numbers.now }
     requires by_index { (k : ℕ) → k < length numbers.now → get_or numbers.now k 0 < 64 }

@@ -3,7 +3,6 @@ ghost use Rattle.std.specs.Prelude.{◌≡◌, ◌≤◌, length};
 ghost use Rattle.sdc1d_params.specs.Params.{unfit_copied, unfit_lengths, wrong_size};
 ghost use Rattle.sdc1d_params.specs.inner.Set.{set_of, as_lent};
 
-use crate::Copied;
 use crate::set::ParameterSet;
 use reply::limits::CELLS;
 use sdc_common::names::unfit_names;
@@ -19,13 +18,10 @@ pub(crate) struct Lent<'a> {
 }
 
 // Whether a quencher or a reporter is no user strand.
-pub(crate) fn unfit_copied(users: usize, copied: Copied) -> bool
+pub(crate) fn unfit_copied(users: usize, copied: Option<usize>) -> bool
     ensures { result ≡ unfit_copied users copied }
 {
-    match copied {
-        Copied::Nothing => false,
-        Copied::Strand(k) => k == 0 || users < k,
-    }
+    copied.is_some_and(|k| k == 0 || users < k)
 }
 
 // Whether the lent glues and tables have other lengths than what is written.
@@ -42,9 +38,9 @@ pub(crate) fn wrong_size(set: &ParameterSet, lent: &Lent) -> bool
     ensures { result ≡ wrong_size (set_of set.now) (as_lent lent.now) }
 {
     let glues = lent.strand_glues.len();
-    unfit_strands(set.text, set.users, set.strands)
-        || unfit_names(lent.scaffold_glues.len(), set.text, set.scaffold)
-        || unfit_copied(set.users, set.copies.quencher)
-        || unfit_copied(set.users, set.copies.reporter)
-        || unfit_lengths(set.users, glues, lent.dg.len(), lent.ds.len())
+    unfit_strands(set.lent.text, set.lent.users, set.lent.strands)
+        || unfit_names(lent.scaffold_glues.len(), set.lent.text, set.lent.scaffold)
+        || unfit_copied(set.lent.users, set.lent.copies.quencher)
+        || unfit_copied(set.lent.users, set.lent.copies.reporter)
+        || unfit_lengths(set.lent.users, glues, lent.dg.len(), lent.ds.len())
 }

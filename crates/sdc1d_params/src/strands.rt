@@ -1,50 +1,54 @@
 // The glues of the strands: of strand 0, the user strands, the quencher and the reporter.
 ghost use Rattle.std.specs.Prelude.{◌≡◌, false, [], ◌∷◌, ◌+◌, ◌*◌, ◌≤◌, length, drop};
-ghost use Rattle.sdc_common.specs.Lent.{names_of, glues_of};
 ghost use Rattle.sdc_common.specs.Numbers.{numbers_among};
 ghost use Rattle.sdc_common.specs.Calls.{unfit_strands, too_many_bases};
-ghost use Rattle.sdc1d_params.specs.Params.{unfit_copied, quencher_glues, reporter_glues, with_copies};
+ghost use Rattle.sdc1d_params.specs.inner.Set.{set_of};
+ghost use Rattle.sdc1d_params.specs.Params.{unfit_copied, quencher_glues, reporter_glues, with_copies, strand_names};
 
-use crate::Copied;
 use crate::set::ParameterSet;
 use reply::limits::SIDES;
 use sdc_common::strand_glues;
 
 // The quencher has west and bottom of its strand; with no strand named, no glue.
-fn quencher_sides(users: usize, glues: &[u8], quencher: Copied) -> [u8; SIDES]
+fn quencher_sides(users: usize, glues: &[u8], quencher: Option<usize>) -> [u8; SIDES]
     requires { (users ≤ 61) × (3 * users + 3 ≤ length glues.now) × (unfit_copied users quencher ≡ false) }
     ensures { result ≡ quencher_glues (drop 3 glues.now) quencher }
 {
     match quencher {
-        Copied::Nothing => [0; SIDES],
-        Copied::Strand(k) => [glues[3 * k], glues[3 * k + 1], 0],
+        None => [0; SIDES],
+        Some(k) => [glues[3 * k], glues[3 * k + 1], 0],
     }
 }
 
 // The reporter has bottom and east of its strand; with no strand named, no glue.
-fn reporter_sides(users: usize, glues: &[u8], reporter: Copied) -> [u8; SIDES]
+fn reporter_sides(users: usize, glues: &[u8], reporter: Option<usize>) -> [u8; SIDES]
     requires { (users ≤ 61) × (3 * users + 3 ≤ length glues.now) × (unfit_copied users reporter ≡ false) }
     ensures { result ≡ reporter_glues (drop 3 glues.now) reporter }
 {
     match reporter {
-        Copied::Nothing => [0; SIDES],
-        Copied::Strand(k) => [0, glues[3 * k + 1], glues[3 * k + 2]],
+        None => [0; SIDES],
+        Some(k) => [0, glues[3 * k + 1], glues[3 * k + 2]],
     }
 }
 
 // All strands' glues, three for each.
 pub(crate) fn write_strands(set: &ParameterSet, glues: &mut [u8])
-    requires strands_value { (unfit_strands set.now.users set.now.text.now (names_of set.now.strands.now) ≡ false) × (too_many_bases (glues_of set.now.text.now (names_of set.now.strands.now)) ≡ false) }
-    requires quencher_value { (unfit_copied set.now.users set.now.copies.quencher ≡ false) × (unfit_copied set.now.users set.now.copies.reporter ≡ false) }
-    requires glues_len { length glues.old ≡ 3 * (set.now.users + 3) }
-    ensures { glues.new ≡ with_copies (numbers_among (glues_of set.now.text.now (names_of set.now.strands.now)) (glues_of set.now.text.now (names_of set.now.strands.now))) set.now.copies.quencher set.now.copies.reporter }
+    requires strands_value { (unfit_strands set.now.lent.users set.now.lent.text.now (set_of set.now).strands ≡ false) × (too_many_bases (strand_names (set_of set.now)) ≡ false) }
+    requires quencher_value { (unfit_copied set.now.lent.users set.now.lent.copies.quencher ≡ false) × (unfit_copied set.now.lent.users set.now.lent.copies.reporter ≡ false) }
+    requires glues_len { length glues.old ≡ 3 * (set.now.lent.users + 3) }
+    ensures { glues.new ≡ with_copies (numbers_among (strand_names (set_of set.now)) (strand_names (set_of set.now))) set.now.lent.copies.quencher set.now.lent.copies.reporter }
 {
-    let end = 3 * set.users + 3;
+    let end = 3 * set.lent.users + 3;
     glues[0..3].copy_from_slice(&[0; SIDES]);
     // The names are checked, so nothing is refused.
-    let _ = strand_glues(set.text, set.users, set.strands, &mut glues[3..end]);
-    let quencher = quencher_sides(set.users, glues, set.copies.quencher);
-    let reporter = reporter_sides(set.users, glues, set.copies.reporter);
+    let _ = strand_glues(
+        set.lent.text,
+        set.lent.users,
+        set.lent.strands,
+        &mut glues[3..end],
+    );
+    let quencher = quencher_sides(set.lent.users, glues, set.lent.copies.quencher);
+    let reporter = reporter_sides(set.lent.users, glues, set.lent.copies.reporter);
     glues[end..end + 3].copy_from_slice(&quencher);
     glues[end + 3..end + 6].copy_from_slice(&reporter);
 }

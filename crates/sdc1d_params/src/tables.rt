@@ -4,10 +4,9 @@ ghost use Rattle.std.specs.Float.Ieee as Ieee;
 ghost use Rattle.std.specs.Float.{binary64};
 ghost use Rattle.lists.specs.Find.{any};
 ghost use Rattle.lists.specs.Fold.{foldl};
-ghost use Rattle.lists.specs.Build.{tabulate};
 ghost use Rattle.sdc1d_params.specs.Entries.{energy_of, entry_rows, entry_dg, entry_ds};
 ghost use Rattle.sdc1d_params.specs.Tables.{out_of_range, set_both, write_dg, write_ds};
-ghost use Rattle.sdc1d_params.specs.inner.Cells.{write_at, InTables};
+ghost use Rattle.sdc1d_params.specs.inner.Cells.{writes_at, InTables};
 
 use crate::Penalty;
 use crate::cells::Cell;
@@ -15,12 +14,6 @@ use crate::fit::FitEntry;
 use crate::set::ParameterSet;
 use reply::limits::{DG, DS};
 use utils::DgDs;
-
-// The lowest dG of a cell.
-const LOWEST_DG: f64 = -1024.0;
-
-// The lowest dS of a cell.
-const LOWEST_DS: f64 = -8.0;
 
 impl FitEntry<'_> {
     // What an entry writes: its numbers, the junction penalty added to both.
@@ -40,21 +33,18 @@ fn is_out(cell: Cell, sum: DgDs) -> bool
     ensures { result ≡ out_of_range (record { at = cell; dg = sum.dg.0; ds = sum.ds.0 }) }
 {
     cell.is_written()
-        && (!doubles::in_range(LOWEST_DG, DG, sum.dg.0)
-            || !doubles::in_range(LOWEST_DS, DS, sum.ds.0))
+        && (!doubles::in_range(-DG, DG, sum.dg.0) || !doubles::in_range(-DS, DS, sum.ds.0))
 }
 
 // Whether some sum that is written is out of its range.
 pub(crate) fn any_out(set: &ParameterSet, cells: &[Cell]) -> bool
-    requires { length cells.now ≡ entry_rows set.now.entries.now }
-    ensures { result ≡ any out_of_range (tabulate (entry_rows set.now.entries.now) (write_at set.now.text.now set.now.entries.now set.now.energies.now set.now.penalty.dg.0 set.now.penalty.ds.0 cells.now)) }
+    requires { length cells.now ≡ entry_rows set.now.lent.entries.now }
+    ensures { result ≡ any out_of_range (writes_at set.now.lent cells.now) }
 {
-    for (i, cell) in cells.iter().enumerate() {
-        if is_out(*cell, set.entry(i).with_penalty(set.penalty)) {
-            return true;
-        }
-    }
-    false
+    cells.iter().enumerate().any(|(i, cell)| is_out(
+        *cell,
+        set.entry(i).with_penalty(set.lent.penalty),
+    ))
 }
 
 // A cell and its mirror set, where both names are known.
@@ -70,14 +60,14 @@ fn set_both(table: &mut [f64], cell: Cell, v: f64)
 
 // What each entry writes, in order.
 pub(crate) fn fill_tables(set: &ParameterSet, cells: &[Cell], dg: &mut [f64], ds: &mut [f64])
-    requires cells_len { length cells.now ≡ entry_rows set.now.entries.now }
+    requires cells_len { length cells.now ≡ entry_rows set.now.lent.entries.now }
     requires in_tables { InTables cells.now }
     requires dg_len { (length dg.old ≡ 4096) × (length ds.old ≡ 4096) }
-    ensures dg_after { dg.new ≡ foldl write_dg dg.old (tabulate (entry_rows set.now.entries.now) (write_at set.now.text.now set.now.entries.now set.now.energies.now set.now.penalty.dg.0 set.now.penalty.ds.0 cells.now)) }
-    ensures ds_after { ds.new ≡ foldl write_ds ds.old (tabulate (entry_rows set.now.entries.now) (write_at set.now.text.now set.now.entries.now set.now.energies.now set.now.penalty.dg.0 set.now.penalty.ds.0 cells.now)) }
+    ensures dg_after { dg.new ≡ foldl write_dg dg.old (writes_at set.now.lent cells.now) }
+    ensures ds_after { ds.new ≡ foldl write_ds ds.old (writes_at set.now.lent cells.now) }
 {
     for (i, cell) in cells.iter().enumerate() {
-        let sum = set.entry(i).with_penalty(set.penalty);
+        let sum = set.entry(i).with_penalty(set.lent.penalty);
         set_both(dg, *cell, sum.dg.0);
         set_both(ds, *cell, sum.ds.0);
     }

@@ -1,10 +1,11 @@
 -- What the checks leave of lent names. Assumes nothing.
-use mathlib.Core.Path.{◌≡◌, sym, ◌∙◌}
-use mathlib.Core.Bool.{false, not, ◌||◌}
-use mathlib.Core.List.{List}
-use Prim.Native.Nat.{ℕ, ◌*◌, ◌/◌, ◌≤◌}
+use mathlib.Core.Path.{◌≡◌, refl, sym, ap, ap₂, ◌∙◌}
+use mathlib.Core.Bool.{Bool, true, false, not, ◌||◌}
+use mathlib.Core.List.{List, [], ◌∷◌}
+use Prim.Native.Nat.{ℕ, suc, ◌*◌, ◌/◌, ◌%◌, ◌<◌, ◌≤◌}
+use native.Mathlib.Omega.{arith}
 use lib.Dec.{eqb}
-use lib.ListN.{length}
+use lib.ListN.{length, get_or}
 use borrow.Author.Tests.{ltb-false, eqb-true, not-false}
 use Rattle.lists.specs.Find.{any}
 use Rattle.lists.specs.Build.{tabulate}
@@ -53,3 +54,26 @@ module _ (users : ℕ) (text : List ℕ) (strands : Names) (e : unfit_strands us
 
   pub strand-glues : length strands.each ≡ 3 * users
   strand-glues = as_many (3 * users) text strands fit-glues
+
+-- ---- tests of rows
+
+any-same : {A B : Type 0} (p : A → Bool) (q : B → Bool) (d : A) (xs : List A) (f : ℕ → B) → ((k : ℕ) → k < length xs → p (get_or xs k d) ≡ q (f k)) → any p xs ≡ any q (tabulate (length xs) f)
+unfolding any tabulate
+any-same p q d [] f h = refl
+any-same p q d (x ∷ xs) f h = ap₂ (λ a b. a || b) (h 0 (omega arith)) (any-same p q d xs (λ k. f (suc k)) (λ k l. h (suc k) (omega (arith, l))))
+
+-- a test of each row, as the code has it, is one of what the row stands for
+pub any-rows : {A B : Type 0} (p : A → Bool) (q : B → Bool) (d : A) (xs : List A) (n : ℕ) (f : ℕ → B) → length xs ≡ n → ((k : ℕ) → k < n → p (get_or xs k d) ≡ q (f k)) → any p xs ≡ any q (tabulate n f)
+any-rows p q d xs n f e h = any-same p q d xs f (λ k l. h k (omega (arith, l, e))) ∙ ap (λ (m : ℕ). any q (tabulate m f)) e
+
+-- as many names as asked for, in whole rows, or not
+module _ (n : ℕ) (text rows : List ℕ) (t : Bool) (e : t ≡ (not (eqb (length rows % 3) 0) || not (eqb (length rows / 3) n))) where
+  by-rows : (t || any (unfit_glue text) (tabulate (length rows / 3) (name_at rows))) ≡ unfit_names n text (names_of rows)
+  unfolding unfit_names
+  by-rows = rw (length-tabulate (length rows / 3) (name_at rows)) (ap (λ s. s || any (unfit_glue text) (tabulate (length rows / 3) (name_at rows))) e)
+
+  pub unfit-sizes : t ≡ true → t ≡ unfit_names n text (names_of rows)
+  unfit-sizes h = h ∙ ap (λ s. s || any (unfit_glue text) (tabulate (length rows / 3) (name_at rows))) (sym h) ∙ by-rows
+
+  pub unfit-rows : t ≡ false → any (unfit_glue text) (tabulate (length rows / 3) (name_at rows)) ≡ unfit_names n text (names_of rows)
+  unfit-rows h = ap (λ s. s || any (unfit_glue text) (tabulate (length rows / 3) (name_at rows))) (sym h) ∙ by-rows

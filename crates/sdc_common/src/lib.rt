@@ -14,7 +14,7 @@ use reply::{Refusal, refused_if};
 use table::BaseTable;
 
 // The most user strands of a build.
-const MOST_STRANDS: usize = 61;
+pub const MOST_STRANDS: usize = 61;
 
 // The most base names that the glue tables have numbers for.
 pub const MOST_BASES: usize = 31;

@@ -1,6 +1,6 @@
 // Names as parts of a text: their bases, and whether lent names are as they should be.
 ghost use Rattle.std.specs.Prelude.{◌≡◌, ℕ, [], ◌/◌, ◌<◌, ◌≤◌, length, slice_index_or};
-ghost use Rattle.sdc_common.specs.Names.{base_of, stars_of, same_name};
+ghost use Rattle.sdc_common.specs.Names.{base_of, stars_of};
 ghost use Rattle.sdc_common.specs.Lent.{leaves, unfit_name, unfit_glue, name_at, names_of, unfit_names, glue_of};
 ghost use Rattle.sdc_common.specs.inner.Fit.{Fit};
 ghost use Rattle.sdc_common.specs.inner.Table.{glue};
@@ -61,30 +61,21 @@ pub fn rows(names: &[usize]) -> &[[usize; ROW]]
     names.as_chunks::<ROW>().0
 }
 
+// How many stars a name has at its end.
+pub fn stars_of(name: &[u8]) -> usize
+    ensures { result ≡ stars_of name.now }
+{
+    name.iter()
+        .rev()
+        .position(|byte| *byte != b'*')
+        .unwrap_or(name.len())
+}
+
 // A name without its trailing stars.
 pub fn base_of(name: &[u8]) -> &[u8]
     ensures { result.now ≡ base_of name.now }
 {
-    for last in (0..name.len()).rev() {
-        if name[last] != b'*' {
-            return &name[..last + 1];
-        }
-    }
-    &name[..0]
-}
-
-// How many stars it has at its end.
-pub fn stars_of(name: &[u8]) -> usize
-    ensures { result ≡ stars_of name.now }
-{
-    name.len() - base_of(name).len()
-}
-
-// Whether two texts have the same bytes.
-pub fn same_bytes(a: &[u8], b: &[u8]) -> bool
-    ensures { result ≡ same_name a.now b.now }
-{
-    a == b
+    &name[..name.len() - stars_of(name)]
 }
 
 // Whether a part leaves the text.
@@ -112,13 +103,9 @@ pub fn unfit_glue(text: &[u8], name: LentName) -> bool
 pub fn unfit_names(n: usize, text: &[u8], names: &[usize]) -> bool
     ensures { result ≡ unfit_names n text.now (names_of names.now) }
 {
-    if names.len() % ROW != 0 || names.len() / ROW != n {
-        return true;
-    }
-    for row in rows(names) {
-        if unfit_glue(text, LentName::from(*row)) {
-            return true;
-        }
-    }
-    false
+    names.len() % ROW != 0
+        || names.len() / ROW != n
+        || rows(names)
+            .iter()
+            .any(|row| unfit_glue(text, LentName::from(*row)))
 }

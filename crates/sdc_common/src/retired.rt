@@ -25,10 +25,7 @@ pub fn any_retired(text: &[u8], names: &[usize]) -> bool
     requires { FitNames text.now names.now }
     ensures { result ≡ any is_retired_glue (glues_of text.now (names_of names.now)) }
 {
-    for row in rows(names) {
-        if is_retired(text, LentName::from(*row)) {
-            return true;
-        }
-    }
-    false
+    rows(names)
+        .iter()
+        .any(|row| is_retired(text, LentName::from(*row)))
 }

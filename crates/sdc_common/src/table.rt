@@ -8,7 +8,8 @@ ghost use Rattle.sdc_common.specs.Numbers.{learn, bases_of, glue_number};
 use crate::names::{LentName, base_of, rows, stars_of};
 use std::marker::Model;
 
-// The number of a glue that is absent, or whose base no strand has.
+// The number of a glue that is absent, or whose base no strand has: document 01's glue 0. It is written as it stands, and an `Option` would only be
+// turned back into it.
 const NO_NUMBER: usize = 0;
 
 // The most bases: three for each of 61 user strands.
@@ -95,7 +96,7 @@ impl<'a> BaseTable<'a> {
         }
     }
 
-    // The numbers of the names, one after the other.
+    // The numbers of the names, one after the other. By place, here and below: after a `zip` of `iter_mut` nothing is known of what was written.
     pub fn fill_numbers(&self, text: &[u8], names: &[usize], numbers: &mut [usize])
         requires fit_names { FitNames text.now names.now }
         requires numbers_len { length numbers.old ≡ length names.now / 3 }

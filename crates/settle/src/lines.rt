@@ -1,72 +1,38 @@
-// Words of a line by their place in it. The rows have the words that are names; a number or a keyword is found here.
+// Words of a line by their place in it. The rows have the words that are names; a number or a keyword is found here. The readers of `statements`
+// go from word to word of a line that they know, and serve their crate alone.
 use statements::words::{Word, is_blank};
 
-// Where a walk over the text is: the line, how many words have begun on it, and the start of the word that it is in.
-#[derive(Clone, Copy)]
-struct Walk {
-    line: usize,
-    begun: usize,
-    start: Option<usize>,
-}
-
-// One byte further.
-fn step(walk: Walk, byte: u8, i: usize) -> Walk {
-    if byte == b'\n' {
-        return Walk {
-            line: walk.line.wrapping_add(1),
-            begun: 0,
-            start: None,
-        };
-    }
-    if is_blank(byte) {
-        return Walk {
-            start: None,
-            ..walk
-        };
-    }
-    if walk.start.is_some() {
-        return walk;
-    }
-    Walk {
-        begun: walk.begun.wrapping_add(1),
-        start: Some(i),
-        ..walk
+// Where a line begins, counted from 1: at the text's first byte, or behind a newline.
+fn line_start(text: &[u8], line: usize) -> Option<usize> {
+    match line.checked_sub(2) {
+        None => Some(0),
+        Some(newline) => (0..text.len())
+            .filter(|i| text[*i] == b'\n')
+            .nth(newline)
+            .map(|i| i + 1),
     }
 }
 
-// The start of the n-th word of a line, where a walk is in it.
-fn start_of(walk: Walk, line: usize, n: usize) -> Option<usize> {
-    if walk.line == line && walk.begun == n {
-        walk.start
-    } else {
-        None
-    }
+// Whether a place of a line is in a word.
+fn in_word(line: &[u8], i: usize) -> bool {
+    line.get(i).is_some_and(|byte| !is_blank(*byte))
 }
 
-// The word from one place to another.
-fn word_up_to(start: usize, end: usize) -> Word {
-    Word {
-        start,
-        size: end.wrapping_sub(start),
-    }
+// Whether a word begins there.
+fn begins_word(line: &[u8], i: usize) -> bool {
+    in_word(line, i) && (i == 0 || !in_word(line, i - 1))
 }
 
 // The n-th word of a line, both counted from 1.
 pub(crate) fn word_on_line(text: &[u8], line: usize, n: usize) -> Option<Word> {
-    let mut walk = Walk {
-        line: 1,
-        begun: 0,
-        start: None,
-    };
-    // By number: a byte's place is where a word begins or ends.
-    for (i, byte) in text.iter().enumerate() {
-        let next = step(walk, *byte, i);
-        if let Some(start) = start_of(walk, line, n) {
-            if next.start.is_none() {
-                return Some(word_up_to(start, i));
-            }
-        }
-        walk = next;
-    }
-    start_of(walk, line, n).map(|start| word_up_to(start, text.len()))
+    let line_start = line_start(text, line)?;
+    let line = text.get(line_start..)?.split(|byte| *byte == b'\n').next()?;
+    let start = (0..line.len())
+        .filter(|i| begins_word(line, *i))
+        .nth(n.checked_sub(1)?)?;
+    let word = line.get(start..)?.split(|byte| is_blank(*byte)).next()?;
+    Some(Word {
+        start: line_start.wrapping_add(start),
+        size: word.len(),
+    })
 }

@@ -17,7 +17,7 @@ mod unfit;
 ghost use Rattle.std.specs.Prelude.{◌≡◌, length};
 
 use answers::print::Style;
-use answers::reasons::Why;
+use answers::reasons::{FileFault, Why};
 use answers::{DesignFile, Found, unreadable};
 use reads::first;
 use sdc1d_params::Build;
@@ -41,88 +41,67 @@ fn room() -> [u8; 1048577]
     [0; 1048577]
 }
 
-// What the first two arguments ask for.
-#[derive(Clone, Copy)]
-struct Asked {
+// A run over the files that the arguments name, with what the first two ask for. The room for a file's bytes is lent beside it: a call that fills
+// a field's slice while another field is lent is not covered.
+#[derive(Drop)]
+struct Run<'a, R: Env + Files, W: Write> {
+    rt: &'a R,
+    out: &'a mut W,
     style: Style,
     which: Build,
 }
 
-// A file that can't be had. Answers that it was not settled.
-fn failed<W: Write>(out: &mut W, asked: Asked, path: &[u8], why: Why) -> io::Result<bool> {
-    let file = DesignFile { path, text: b"" };
-    unreadable(out, asked.style, file, Found::nowhere(why))?;
-    Ok(false)
-}
+impl<R: Env + Files, W: Write> Run<'_, R, W> {
+    // A file that can't be had. Answers that it was not settled.
+    fn failed(&mut self, path: &[u8], fault: FileFault) -> io::Result<bool> {
+        let file = DesignFile { path, text: b"" };
+        unreadable(self.out, self.style, file, Found::nowhere(Why::File(fault)))?;
+        Ok(false)
+    }
 
-// A file by its name. Answers whether its configuration was settled.
-fn settle_file<R: Files, W: Write>(
-    rt: &R,
-    out: &mut W,
-    asked: Asked,
-    path: &[u8],
-    room: &mut [u8],
-) -> io::Result<bool> {
-    match file::read(rt, path, room) {
-        Err(why) => failed(out, asked, path, why),
-        Ok(size) => {
-            let text = first(room, size);
-            let outcome = settle::settle(asked.which, text);
-            report::report(out, asked.style, DesignFile { path, text }, outcome)
+    // A file by its name. Answers whether its configuration was settled.
+    fn settle_file(&mut self, path: &[u8], room: &mut [u8]) -> io::Result<bool> {
+        match file::read(self.rt, path, room) {
+            Err(fault) => self.failed(path, fault),
+            Ok(size) => {
+                let text = first(room, size);
+                let outcome = settle::settle(self.which, text);
+                report::report(self.out, self.style, DesignFile { path, text }, outcome)
+            }
         }
     }
-}
 
-// The file that an argument names.
-fn settle_argument<R: Env + Files, W: Write>(
-    rt: &R,
-    out: &mut W,
-    asked: Asked,
-    i: usize,
-    room: &mut [u8],
-) -> io::Result<bool> {
-    let mut path = [0u8; 4096];
-    match rt.arg(i, &mut path) {
-        Ok(size) => settle_file(rt, out, asked, first(&path, size), room),
-        Err(_) => failed(out, asked, b"", Why::NoSuchFile),
+    // The file that an argument names.
+    fn settle_argument(&mut self, i: usize, room: &mut [u8]) -> io::Result<bool> {
+        let mut path = [0u8; 4096];
+        match self.rt.arg(i, &mut path) {
+            Ok(size) => self.settle_file(first(&path, size), room),
+            Err(_) => self.failed(b"", FileFault::NoSuchFile),
+        }
+    }
+
+    // All files in turn. Answers whether each was settled. The arguments are asked for by number: std's iterator over them copies them all.
+    fn settle_all(&mut self, room: &mut [u8]) -> io::Result<bool> {
+        let rt = self.rt;
+        let mut all = true;
+        for i in (3..usize::MAX).take_while(|i| is_given(rt, *i)) {
+            all &= self.settle_argument(i, room)?;
+        }
+        Ok(all)
     }
 }
 
 // Whether there is such an argument.
 fn is_given<R: Env>(rt: &R, i: usize) -> bool {
     let mut first = [0u8; 1];
-    match rt.arg(i, &mut first) {
-        Err(FillError::NotPresent) => false,
-        _ => true,
-    }
-}
-
-// All files in turn. Answers whether each was settled. A `while` would have to be shown to end; so many turns are enough.
-fn settle_all<R: Env + Files, W: Write>(
-    rt: &R,
-    out: &mut W,
-    asked: Asked,
-    room: &mut [u8],
-) -> io::Result<bool> {
-    let mut all = true;
-    for i in 3..usize::MAX {
-        if !is_given(rt, i) {
-            return Ok(all);
-        }
-        if !settle_argument(rt, out, asked, i, room)? {
-            all = false;
-        }
-    }
-    Ok(all)
+    !matches!(rt.arg(i, &mut first), Err(FillError::NotPresent))
 }
 
 // Whether an argument is this word.
 fn is_word<R: Env>(rt: &R, i: usize, word: &[u8]) -> bool {
     let mut given = [0u8; 4096];
-    match rt.arg(i, &mut given) {
-        Ok(size) => first(&given, size) == word,
-        Err(_) => false,
-    }
+    rt.arg(i, &mut given)
+        .is_ok_and(|size| first(&given, size) == word)
 }
 
 // Writes to the script, where one waits.
@@ -146,7 +125,13 @@ fn main(rt: HostRuntime) -> io::Result<ExitCode> {
     };
     let mut room = room();
     let mut out = io::writer(&rt);
-    match settle_all(&rt, &mut out, Asked { style, which }, &mut room) {
+    let mut run = Run {
+        rt: &rt,
+        out: &mut out,
+        style,
+        which,
+    };
+    match run.settle_all(&mut room) {
         Ok(true) => tell(&rt, b"0"),
         Ok(false) => tell(&rt, b"1"),
         Err(error) => {

@@ -5,8 +5,8 @@ use answers::Found;
 use answers::reads::part;
 use answers::reasons::Why;
 use reply::Refusal;
+use sdc_common::names::stars_of;
 use sdc_common::self_and_inverse;
-use sdc1d_params::Copied;
 use sheet::faults::Counts;
 use sheet::once::copied;
 use sheet::rows::Group;
@@ -68,10 +68,7 @@ impl Sheet<'_> {
 
     // Whether a name ends in two or more stars.
     fn is_retired(&self, name: Word) -> bool {
-        match self_and_inverse(self.text, name.start, name.size) {
-            Ok(base) => base.size < name.size && 1 < name.size - base.size,
-            Err(_) => false,
-        }
+        1 < stars_of(part(self.text, name.start, name.size))
     }
 
     // Whether a row is the quencher's or the reporter's, and names a strand that is not there.
@@ -81,7 +78,7 @@ impl Sheet<'_> {
             Kind::Reporter => Group::Reporter,
             _ => return false,
         };
-        matches!(copied(self.text, &self.strands(), group), Copied::Strand(0))
+        copied(self.text, &self.strands, group) == Some(0)
     }
 
     // What is too large in a row, or not there.

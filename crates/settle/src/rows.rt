@@ -14,7 +14,7 @@ use statements::words::Word;
 pub(crate) struct Sheet<'a> {
     pub(crate) text: &'a [u8],
     pub(crate) rows: &'a [Row],
-    pub(crate) strand_rows: &'a [usize],
+    pub(crate) strands: Chosen<'a>,
     pub(crate) counts: Counts,
 }
 
@@ -48,20 +48,30 @@ pub(crate) fn in_row(row: &Row, word: Word, why: Why) -> Found {
     }
 }
 
-impl Sheet<'_> {
-    // The rows of the strands.
-    pub(crate) fn strands(&self) -> Chosen<'_> {
-        Chosen {
-            rows: self.rows,
-            places: self.strand_rows,
+impl<'a> Sheet<'a> {
+    // A file's rows. The places of the strands' are written into a slice as long as there are.
+    pub(crate) fn of(
+        text: &'a [u8],
+        rows: &'a [Row],
+        counts: Counts,
+        places: &'a mut [usize],
+    ) -> Self {
+        let strands = Chosen::of(rows, Group::Strand, places);
+        Sheet {
+            text,
+            rows,
+            strands,
+            counts,
         }
     }
+}
 
-    // Those of the first so many strands.
+impl Sheet<'_> {
+    // The rows of the first so many strands.
     pub(crate) fn first_strands(&self, users: usize) -> Chosen<'_> {
         Chosen {
             rows: self.rows,
-            places: first(self.strand_rows, users),
+            places: first(self.strands.places, users),
         }
     }
 

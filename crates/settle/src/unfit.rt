@@ -27,10 +27,11 @@ impl Sheet<'_> {
             return None;
         }
         let user = strand - 1;
-        if user < self.strand_rows.len() {
-            return self.rows.get(self.strand_rows[user]);
+        let users = self.strands.places;
+        if user < users.len() {
+            return self.rows.get(users[user]);
         }
-        if user == self.strand_rows.len() {
+        if user == users.len() {
             return self.row_of(Kind::Quencher);
         }
         self.row_of(Kind::Reporter)

@@ -1,10 +1,9 @@
 -- Small sheets of rows, worked out by hand and computed from the definitions.
-use Rattle.std.specs.Prelude.{List, [], ◌∷◌, ◌++◌, map, ◌≡◌, refl, ℕ, suc, pos, Float, replicate, false, Result, Ok, Err}
+use Rattle.std.specs.Prelude.{List, [], ◌∷◌, ◌++◌, map, ◌≡◌, refl, ℕ, suc, pos, Float, replicate, false, Result, Ok, Err, Some, None}
 use Rattle.std.specs.Float.{fin}
 use Rattle.doubles.specs.Decimal.{zero}
 use Rattle.lists.specs.Find.{first_index}
 use Rattle.lists.specs.Build.{tabulate, up_to}
-use Rattle.sdc1d_params.specs.declared.Copied.TheVariants.{Nothing, Strand as StrandNumber}
 use Rattle.statements.specs.Words.{word_at, spelled}
 use Rattle.statements.specs.declared.grammar.Kind.{Kind}
 use Rattle.statements.specs.declared.grammar.Kind.TheVariants.{Kelvin, Ambient, Strand, Quencher, Reporter, Position, EnergyGiven, EnergySequence, PairSequence, Penalty, Blocked}
@@ -146,8 +145,8 @@ pub record Gathered : Type 0 where
   pub pairs : tabulate 2 (pair_at sample sample_entries) ≡ 0 ∷ 1 ∷ []
   pub forms : tabulate 2 (form_at sample sample_entries) ≡ 1 ∷ 1 ∷ []
   pub potentials : tabulate 4 (potential_at sample sample_strands) ≡ zero ∷ whole 5 ∷ whole 7 ∷ zero ∷ []
-  pub copied : copied_of group.Quencher sample_text sample sample_strands ≡ StrandNumber 1
-  pub nothing : copied_of group.Reporter sample_text sample sample_strands ≡ Nothing
+  pub copied : copied_of group.Quencher sample_text sample sample_strands ≡ Some 1
+  pub nothing : copied_of group.Reporter sample_text sample sample_strands ≡ None
   pub blocks : tabulate 3 (blocked_at sample_scaffold (rows_of group.Position sample_scaffold)) ≡ 0 ∷ 1 ∷ 0 ∷ []
 
 -- the definitions gather what was worked out

@@ -1,8 +1,6 @@
 -- What stands in the file at most once: the ambient, the junction penalty, quencher and reporter.
 use Rattle.std.specs.Prelude.{Bool, cond, List, ℕ, suc, eqb, ltb, Float, length, Option, None, Some}
 use Rattle.lists.specs.Find.{first_index}
-use Rattle.sdc1d_params.specs.declared.Copied.{Copied}
-use Rattle.sdc1d_params.specs.declared.Copied.TheVariants as copied
 use Rattle.statements.specs.Layout.{row_word, row_number, word_in}
 use Rattle.statements.specs.declared.grammar.Kind.{Kind}
 use Rattle.statements.specs.declared.grammar.Kind.TheVariants as kind
@@ -11,7 +9,7 @@ use Rattle.statements.specs.declared.words.Word.{Word}
 use Rattle.sheet.specs.Rows.{first_of}
 use Rattle.sheet.specs.Faults.{same_word}
 use Rattle.sheet.specs.declared.once.Ambient.{Ambient}
-use Rattle.sheet.specs.declared.once.Ambient.TheVariants.{Kelvin, Given}
+use Rattle.sheet.specs.declared.once.Ambient.TheVariants.{At, Given}
 use Rattle.sheet.specs.declared.rows.Group.{Group}
 use Rattle.sheet.specs.declared.rows.Group.TheVariants as group
 
@@ -19,10 +17,11 @@ use Rattle.sheet.specs.declared.rows.Group.TheVariants as group
 abbrev pub number_once : Group → List Row → ℕ → Float
 number_once group rows j = row_number (first_of group rows) j
 
--- the ambient of a row by its kind: kelvin, or RT, strand excess and scaffold excess
+-- the ambient of a row by its kind: at its kelvin, or with its RT, strand excess and scaffold excess
 abbrev pub ambient_by : Kind → Row → Ambient
-ambient_by kind.Kelvin row = Kelvin (row_number (Some row) 0)
-ambient_by other row = Given (row_number (Some row) 0) (row_number (Some row) 1) (row_number (Some row) 2)
+ambient_by kind.Kelvin row = At (record { 0 = row_number (Some row) 0 })
+ambient_by other row =
+    Given (record { rt = record { 0 = row_number (Some row) 0 }; strand_excess = record { 0 = row_number (Some row) 1 }; scaffold_excess = record { 0 = row_number (Some row) 2 } })
 
 -- of a row that may be there
 abbrev pub ambient_in : Option Row → Option Ambient
@@ -43,14 +42,14 @@ strand_named text rows chosen name =
     cond (ltb (first_index (is_named text rows name) chosen) (length chosen)) (suc (first_index (is_named text rows name) chosen)) 0
 
 -- whose glues one with this word for its strand copies; `-` is a word of size 0
-abbrev pub copied_from : List ℕ → List Row → List ℕ → Word → Copied
-copied_from text rows chosen name = cond (eqb name.size 0) copied.Nothing (copied.Strand (strand_named text rows chosen name))
+abbrev pub copied_from : List ℕ → List Row → List ℕ → Word → Option ℕ
+copied_from text rows chosen name = cond (eqb name.size 0) None (Some (strand_named text rows chosen name))
 
 -- of a row that may be there
-abbrev pub copied_in : List ℕ → List Row → List ℕ → Option Row → Copied
-copied_in text rows chosen None = copied.Nothing
+abbrev pub copied_in : List ℕ → List Row → List ℕ → Option Row → Option ℕ
+copied_in text rows chosen None = None
 copied_in text rows chosen (Some row) = copied_from text rows chosen (row_word (Some row) 0)
 
 -- whose glues the quencher or the reporter copies: nobody's where the statement is missing, or has `-` for its strand
-abbrev pub copied_of : Group → List ℕ → List Row → List ℕ → Copied
+abbrev pub copied_of : Group → List ℕ → List Row → List ℕ → Option ℕ
 copied_of group text rows chosen = copied_in text rows chosen (first_of group rows)

@@ -5,18 +5,17 @@ ghost use Rattle.sheet.specs.declared.rows.Group.TheVariants as group;
 
 use crate::faults::same_word;
 use crate::rows::{Chosen, Group, first_of, word_of};
-use sdc1d_params::{Copied, Penalty};
+use sdc1d_params::Penalty;
 use statements::grammar::Kind;
 use statements::statement::Row;
 use statements::words::Word;
-use units::{KcalPerMol, KcalPerMolKelvin};
+use units::{KcalPerMol, KcalPerMolKelvin, Kelvin};
 
-// The ambient as a file gives it.
+// The ambient as a file gives it: its temperature, or itself.
 #[derive(Clone, Copy)]
 pub enum Ambient {
-    Kelvin(f64),
-    // RT, strand excess and scaffold excess.
-    Given(f64, f64, f64),
+    At(Kelvin),
+    Given(units::Ambient),
 }
 
 // Number j of the first row of a group, or 0.0.
@@ -34,8 +33,12 @@ pub fn ambient_of(rows: &[Row]) -> Option<Ambient>
     let row = first_of(rows, Group::Ambient)?;
     let [first, second, third] = row.numbers;
     match row.kind {
-        Kind::Kelvin => Some(Ambient::Kelvin(first)),
-        _ => Some(Ambient::Given(first, second, third)),
+        Kind::Kelvin => Some(Ambient::At(Kelvin(first))),
+        _ => Some(Ambient::Given(units::Ambient {
+            rt: KcalPerMol(first),
+            strand_excess: Kelvin(second),
+            scaffold_excess: Kelvin(third),
+        })),
     }
 }
 
@@ -58,14 +61,14 @@ fn strand_named(text: &[u8], strands: &Chosen, name: Word) -> Option<usize>
 
 // Whose glues the quencher or the reporter, by its group, copies; strands are numbered from 1. A name that no strand has gives strand 0, which
 // `from_params` refuses.
-pub fn copied(text: &[u8], strands: &Chosen, group: Group) -> Copied
+pub fn copied(text: &[u8], strands: &Chosen, group: Group) -> Option<usize>
     ensures { result ≡ copied_of group text.now strands.now.rows.now strands.now.places.now }
 {
     match first_of(strands.rows, group) {
-        Some(row) if row.words[0].size != 0 => match strand_named(text, strands, row.words[0]) {
-            Some(place) => Copied::Strand(place + 1),
-            None => Copied::Strand(0),
-        },
-        _ => Copied::Nothing,
+        Some(row) if row.words[0].size != 0 => {
+            let place = strand_named(text, strands, row.words[0]);
+            Some(place.map_or(0, |place| place + 1))
+        }
+        _ => None,
     }
 }

@@ -1,7 +1,7 @@
 // What the calls take of lists of rows. Each lent slice is filled to its end.
 ghost use Rattle.std.specs.Prelude.{◌≡◌, ℕ, length};
 ghost use Rattle.lists.specs.Build.{tabulate};
-ghost use Rattle.sheet.specs.Parts.{is_pair, is_sequence, glue_at, first_at, bases_at, name_number, name_number_at, entry_number_at, energy_at, potential_at, blocked_at};
+ghost use Rattle.sheet.specs.Parts.{is_pair, is_sequence, glue_at, first_at, bases_at, name_row, name_number_at, entry_row, entry_number_at, energy_at, potential_at, blocked_at};
 
 use crate::once::number_once;
 use crate::rows::{Chosen, Group};
@@ -32,15 +32,12 @@ fn fill<T: Copy, F: Fn(usize) -> T>(out: &mut [T], rule: F)
     }
 }
 
-// Number k of rows of three, the names as C lends them to `from_params`: the mark, the start and the size of a word.
-fn name_number(word: Word, k: usize) -> usize
-    ensures { result ≡ name_number word k }
+// A name as C lends it to `from_params`: the mark, the start and the size of its word. Rows are made again for each of their numbers: of what is
+// written through `as_chunks_mut` the kit's contract says nothing.
+fn name_row(word: Word) -> [usize; 3]
+    ensures { result ≡ name_row word }
 {
-    match k % 3 {
-        0 => usize::from(0 < word.size),
-        1 => word.start,
-        _ => word.size,
-    }
+    [usize::from(0 < word.size), word.start, word.size]
 }
 
 impl Chosen<'_> {
@@ -55,22 +52,24 @@ impl Chosen<'_> {
         }
     }
 
-    // Number k of rows of eight, as C lends them: all that an entry is but its two doubles.
-    #[tactic(auto, unfolding(crate::specs::Parts::entry_number_at))]
-    fn entry_number(&self, k: usize) -> usize
-        ensures { result ≡ entry_number_at self.now.rows.now self.now.places.now k }
+    // Entry m as C lends it: all that it is but its two doubles.
+    fn entry_row(&self, m: usize) -> [usize; 8]
+        ensures { result ≡ entry_row self.now.rows.now self.now.places.now m }
     {
-        let m = k / 8;
-        match k % 8 {
-            0 => self.word(m, 0).start,
-            1 => self.word(m, 0).size,
-            2 => usize::from(is_pair(self.kind(m))),
-            3 => self.word(m, 1).start,
-            4 => self.word(m, 1).size,
-            5 => usize::from(is_sequence(self.kind(m))),
-            6 => self.bases_at(m).start,
-            _ => self.bases_at(m).size,
-        }
+        let kind = self.kind(m);
+        let first = self.word(m, 0);
+        let second = self.word(m, 1);
+        let bases = self.bases_at(m);
+        [
+            first.start,
+            first.size,
+            usize::from(is_pair(kind)),
+            second.start,
+            second.size,
+            usize::from(is_sequence(kind)),
+            bases.start,
+            bases.size,
+        ]
     }
 
     // The potential of strand m: 0.0 of strand 0, then those of the rows, the quencher and the reporter.
@@ -103,7 +102,7 @@ impl Chosen<'_> {
     {
         fill(names, |k| {
             let m = k / 3;
-            name_number(self.word(m / 3, 1 + m % 3), k)
+            name_row(self.word(m / 3, 1 + m % 3))[k % 3]
         });
     }
 
@@ -112,7 +111,7 @@ impl Chosen<'_> {
     pub fn positions(&self, names: &mut [usize])
         ensures { names.new ≡ tabulate (length names.old) (name_number_at (first_at self.now.rows.now self.now.places.now)) }
     {
-        fill(names, |k| name_number(self.word(k / 3, 0), k));
+        fill(names, |k| name_row(self.word(k / 3, 0))[k % 3]);
     }
 
     // The names that are shown, of positions or of strands: the first word of each row.
@@ -133,10 +132,11 @@ impl Chosen<'_> {
 
     // The entries, a row of eight for each: start and size of the first name; mark, start and size of the second, which is there where the entry
     // is for a pair; the form, and start and size of the bases.
+    #[tactic(auto, unfolding(crate::specs::Parts::entry_number_at))]
     pub fn entries(&self, out: &mut [usize])
         ensures { out.new ≡ tabulate (length out.old) (entry_number_at self.now.rows.now self.now.places.now) }
     {
-        fill(out, |k| self.entry_number(k));
+        fill(out, |k| self.entry_row(k / 8)[k % 8]);
     }
 
     // The energies of the entries, a row of dG and dS for each.

@@ -53,10 +53,11 @@ pub(crate) fn first_of(rows: &[Row], group: Group) -> Option<&Row>
     rows.iter().find(|row| Group::from(row.kind) == group)
 }
 
-// The places of a group's rows, in order, into a slice as long as there are: lent memory, and no heap for a list of them.
+// The places of a group's rows, in order and as far as they fit, into lent memory: no heap for a list of them.
 pub fn rows_of(rows: &[Row], group: Group, chosen: &mut [usize])
     ensures { chosen.new ≡ laid group rows.now chosen.old }
 {
+    // Stored by number: of what is written through a `zip` of an `iter_mut` nothing is known.
     let mut n = 0;
     for (i, row) in rows.iter().enumerate() {
         if n < chosen.len() && Group::from(row.kind) == group {
@@ -80,6 +81,17 @@ pub fn word_of(rows: &[Row], row: usize, j: usize) -> Word
 pub struct Chosen<'a> {
     pub rows: &'a [Row],
     pub places: &'a [usize],
+}
+
+impl<'a> Chosen<'a> {
+    // A group's rows: their places are written into a slice, as far as they fit, and what was in it past them counts as places too.
+    pub fn of(rows: &'a [Row], group: Group, places: &'a mut [usize]) -> Self
+        ensures rows { result.rows.now ≡ rows.now }
+        ensures places { result.places.now ≡ laid group rows.now places.old }
+    {
+        rows_of(rows, group, places);
+        Chosen { rows, places }
+    }
 }
 
 impl Chosen<'_> {

@@ -10,7 +10,6 @@ ghost use Rattle.reply.specs.First.{nowhere};
 ghost use Rattle.reply.specs.declared.Refusal.TheVariants.{WeightOut};
 ghost use Rattle.model.specs.Model.{options};
 ghost use Rattle.design.specs.Design.{positions, strands, model_of};
-ghost use Rattle.design.specs.Checks.{Admitted};
 ghost use Rattle.partition.specs.Weights.{weights_out};
 ghost use Rattle.partition_sums.specs.Layout.{options_of, weights_of, Celled};
 ghost use Rattle.state_sums.specs.Sizes.{weights_lent, lists_lent};
@@ -18,8 +17,9 @@ ghost use Rattle.state_sums.specs.Answers.{sum_figures, free_answer, constrained
 
 use design::Design;
 use design::checks::design_reply;
-use design::options::fill_options;
-use ensemble::options::Options;
+use design::options::options_of;
+use design::passed::AdmittedDesign;
+use ensemble::options::OPTIONS;
 use fractions::Weight;
 use partition_sums::constraint::Constraint;
 use partition_sums::forms::weights_out;
@@ -70,38 +70,26 @@ impl<'a> LentWeights<'a> {
     }
 }
 
-// The options of all positions, a row of 64 for each.
-const OPTIONS: usize = 8192;
-
 // The options of an admitted design, written into lent rows, with weights that are in form where some state uses them; or that one is not.
 fn formed<'a, 'b>(
-    design: &Design,
+    admitted: &AdmittedDesign,
     weights: Weights<'b>,
     rows: &'a mut [u8],
     counts: &'a mut [u8],
 ) -> Result<Formed<'a, 'b>, Refused>
-    requires admitted { Admitted design.now }
-    requires short { positions design.now ≤ 128 }
-    requires some { 0 < strands design.now }
-    requires few { strands design.now ≤ 64 }
-    requires same_strands { weights.strands ≡ strands design.now }
-    requires celled { Celled (positions design.now) (weights_of weights) }
-    requires scaffold_nonzero { 0 < positions design.now }
-    requires scaffold_in_bounds { 64 * positions design.now ≤ length rows.old }
-    requires counts_len { length counts.old ≡ positions design.now }
-    ensures in_form { IfOk result (λ formed. weights_out (model_of design.now).friends (weights_of weights.entry) ≡ false) }
+    requires same_strands { weights.strands ≡ strands admitted.now }
+    requires celled { Celled (positions admitted.now) (weights_of weights) }
+    requires scaffold_nonzero { 0 < positions admitted.now }
+    requires scaffold_in_bounds { 64 * positions admitted.now ≤ length rows.old }
+    requires counts_len { length counts.old ≡ positions admitted.now }
+    ensures in_form { IfOk result (λ formed. weights_out (model_of admitted.now).friends (weights_of weights.entry) ≡ false) }
     ensures same_weights { IfOk result (λ formed. weights_of formed.lent.weights ≡ weights_of weights.entry) }
-    ensures options { IfOk result (λ formed. options_of formed.lent.options ≡ options (model_of design.now)) }
-    ensures a_count_each { IfOk result (λ formed. length formed.lent.options.counts.now ≡ positions design.now) }
-    ensures not_in_form { IfErr result (λ refused. weights_out (model_of design.now).friends (weights_of weights.entry) ≡ true) }
+    ensures options { IfOk result (λ formed. options_of formed.lent.options ≡ options (model_of admitted.now)) }
+    ensures a_count_each { IfOk result (λ formed. length formed.lent.options.counts.now ≡ positions admitted.now) }
+    ensures not_in_form { IfErr result (λ refused. weights_out (model_of admitted.now).friends (weights_of weights.entry) ≡ true) }
     ensures refused { IfErr result (λ refused. refused ≡ nowhere WeightOut) }
 {
-    fill_options(design, rows, counts);
-    let options = Options {
-        rows,
-        counts,
-        strands: weights.strands,
-    };
+    let options = options_of(&admitted.tabled(), rows, counts);
     let lent = Lent { options, weights };
     refused_if(Refusal::WeightOut, weights_out(&lent))?;
     Ok(Formed { lent })
@@ -116,13 +104,15 @@ pub fn free_sum(design: &Design, weights: &LentWeights<'_>) -> Result<Weight, Re
     let weights = weights.of_design(design);
     design_reply(wrong_cells(positions, &weights), design)?;
     refused_if(Refusal::BareScaffold, positions == 0)?;
+    let admitted = AdmittedDesign { design };
     let mut rows = [0u8; OPTIONS];
     let mut counts = [0u8; POSITIONS];
-    let formed = formed(design, weights, &mut rows, &mut counts[..positions])?;
+    let formed = formed(&admitted, weights, &mut rows, &mut counts[..positions])?;
     Ok(partition_sums::sums::free_sum(&formed))
 }
 
-// The sum over the states that meet a constraint, lists of allowed occupants. An empty list leaves its place free. Replies as the free sum's.
+// The sum over the states that meet a constraint, lists of allowed occupants. An empty list leaves its place free. Replies as the free sum's; the lines
+// that stand in both lend arrays of their own.
 pub fn constrained_sum(
     design: &Design,
     weights: &LentWeights<'_>,
@@ -140,8 +130,9 @@ pub fn constrained_sum(
         starts: lists.starts,
         lengths: lists.lengths,
     };
+    let admitted = AdmittedDesign { design };
     let mut rows = [0u8; OPTIONS];
     let mut counts = [0u8; POSITIONS];
-    let formed = formed(design, weights, &mut rows, &mut counts[..positions])?;
+    let formed = formed(&admitted, weights, &mut rows, &mut counts[..positions])?;
     Ok(partition_sums::sums::constrained_sum(&formed, &constraint))
 }

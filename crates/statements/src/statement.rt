@@ -46,7 +46,8 @@ pub struct Fault {
 }
 
 // A row. A word that is absent, or that the kind does not have, has the size 0; a number that the kind does not have is 0.0. No Options: `sheet`
-// hands words on as rows of plain numbers, a mark, a start and a size, and the start of a `-` with them.
+// hands words on as rows of plain numbers, a mark, a start and a size, and the start of a `-` with them. By place and no fields of each kind: the n-th
+// word is asked for of rows of any kind.
 #[derive(Clone, Copy)]
 pub struct Row {
     pub kind: Kind,

@@ -1,7 +1,7 @@
 // Lines and words of a text. A line is handed on as the text up to its end, so that places count from the text's first byte.
-ghost use Rattle.std.specs.Prelude.{◌≡◌, ◌∷◌, [], ◌+◌, ◌-◌, ◌^◌, ◌≤◌, ◌<◌, length, drop, MatchOption};
-ghost use Rattle.std.proofs.Math.Option.{some};
-ghost use Rattle.statements.specs.Words.{is_blank, scan, words_in, IsNext, IsNextByte, spelled, line_of, lines_from};
+ghost use Rattle.std.specs.Prelude.{◌≡◌, ◌∷◌, [], ◌+◌, ◌^◌, ◌≤◌, ◌<◌, length, drop, MatchOption};
+ghost use Rattle.std.specs.List.{prefix_len};
+ghost use Rattle.statements.specs.Words.{not_newline, is_blank, not_blank, words_in, IsNext, spelled, line_of, lines_from};
 
 // A word by its place in the text. In a row a size of 0 stands for no word.
 #[derive(Clone, Copy, PartialEq, Eq, Default)]
@@ -20,17 +20,19 @@ impl Word {
     }
 }
 
+// How long the line is that a text begins with.
+fn line_length(text: &[u8]) -> usize
+    ensures { (result ≡ prefix_len not_newline text.now) × (result ≤ length text.now) }
+{
+    text.iter().take_while(|&&byte| byte != b'\n').count()
+}
+
 // The end of the line that begins at a place: the next newline, or the text's end.
 pub(crate) fn line_end(text: &[u8], at: usize) -> usize
     requires { at < length text.now }
     ensures { (at ≤ result) × (result ≤ length text.now) × (lines_from at at (drop at text.now) ≡ line_of at result ∷ lines_from (result + 1) (result + 1) (drop (result + 1) text.now)) }
 {
-    for end in at..text.len() {
-        if text[end] == b'\n' {
-            return end;
-        }
-    }
-    text.len()
+    at + line_length(&text[at..])
 }
 
 // Space, tab and carriage return.
@@ -40,40 +42,32 @@ pub fn is_blank(byte: u8) -> bool
     matches!(byte, b'\t' | b'\r' | b' ')
 }
 
-// The first place, from `at` on, with a byte that is no blank.
-fn after_blanks(line: &[u8], at: usize) -> Option<usize>
-    ensures { MatchOption result (words_in line.now at ≡ []) (IsNextByte line.now at) }
+// How many blanks a text begins with.
+fn blanks(text: &[u8]) -> usize
+    ensures { (result ≡ prefix_len is_blank text.now) × (result ≤ length text.now) }
 {
-    for i in at..line.len() {
-        if !is_blank(line[i]) {
-            return Some(i);
-        }
-    }
-    None
+    text.iter().take_while(|&&byte| is_blank(byte)).count()
 }
 
-// The end of the word that begins at `start`: the next blank, or the line's end.
-fn word_end(line: &[u8], start: usize) -> usize
-    requires { start < length line.now }
-    ensures { (start < result) × (result ≤ length line.now) × (scan (some start) (start + 1) (drop (start + 1) line.now) ≡ record { start = start; size = result - start } ∷ words_in line.now result) }
+// How long the word is that a text begins with.
+fn word_length(text: &[u8]) -> usize
+    ensures { (result ≡ prefix_len not_blank text.now) × (result ≤ length text.now) }
 {
-    for i in start + 1..line.len() {
-        if is_blank(line[i]) {
-            return i;
-        }
-    }
-    line.len()
+    text.iter().take_while(|&&byte| !is_blank(byte)).count()
 }
 
 // The first word from `at` on.
 pub(crate) fn next_word(line: &[u8], at: usize) -> Option<Word>
     ensures { MatchOption result (words_in line.now at ≡ []) (IsNext line.now at) }
 {
-    let start = after_blanks(line, at)?;
-    if line[start] == b'#' {
+    if line.len() <= at {
         return None;
     }
-    let size = word_end(line, start) - start;
+    let start = at + blanks(&line[at..]);
+    if start == line.len() || line[start] == b'#' {
+        return None;
+    }
+    let size = word_length(&line[start..]);
     Some(Word { start, size })
 }
 

@@ -7,7 +7,7 @@ use lib.Bits.{bit_and}
 use lib.Dec.{eqb, lit<}
 use lib.ListN.{length, get_or, drop, take}
 use borrow.Author.Tests.{eqb-true, not-false}
-use Rattle.std.specs.List.{list_any, push}
+use Rattle.std.specs.List.{list_any}
 use Rattle.lists.specs.Find.{any}
 use Rattle.lists.proofs.Any.{none_passes}
 use Rattle.lists.proofs.Tests.{neither}
@@ -21,8 +21,11 @@ some_any p [] = refl
 some_any p (x ∷ xs) = ap (λ (b : Bool). p x || b) (some_any p xs)
 
 -- each byte of a sequence without wrong letters is a base
+pub base-in : (s : List ℕ) (i d : ℕ) → any not_a_base s ≡ false → i < length s → is_base (get_or s i d) ≡ true
+base-in s i d e h = not-false _ (none_passes not_a_base d s e i h)
+
 pub base-here : (s : List ℕ) (i : ℕ) → any not_a_base s ≡ false → i < length s → is_base (get_or s i 0) ≡ true
-base-here s i e h = not-false _ (none_passes not_a_base 0 s e i h)
+base-here s i = base-in s i 0
 
 -- and what is left after the first has none either
 pub later-bases : (s : List ℕ) → any not_a_base s ≡ false → any not_a_base (drop 1 s) ≡ false
@@ -38,22 +41,6 @@ front-bases (suc n) [] e = refl
 front-bases (suc n) (x ∷ s) e =
     let both = neither (not_a_base x) (any not_a_base s) e in
     rw both.0 (front-bases n s both.1)
-
--- what is left without the last has none, and the last is a base
-pub all-but-last : (s : List ℕ) (x : ℕ) → any not_a_base (push s x) ≡ false → (any not_a_base s ≡ false) × (is_base x ≡ true)
-unfolding any
-all-but-last [] x e = (refl, not-false _ (neither (not_a_base x) false e).0)
-all-but-last (y ∷ s) x e =
-    let both = neither (not_a_base y) (any not_a_base (push s x)) e in
-    let rest = all-but-last s x both.1 in
-    (rw both.0 rest.0, rest.1)
-
--- so the first is one, and what is left after it has none
-pub first-and-rest : (x : ℕ) (s : List ℕ) → any not_a_base (x ∷ s) ≡ false → (is_base x ≡ true) × (any not_a_base s ≡ false)
-unfolding any
-first-and-rest x s e =
-    let both = neither (not_a_base x) (any not_a_base s) e in
-    (not-false _ both.0, both.1)
 
 either : {P : Type 0} (x y : Bool) → (x || y) ≡ true → (x ≡ true → P) → (y ≡ true → P) → P
 either true y e f g = f refl

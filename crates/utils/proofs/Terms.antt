@@ -1,18 +1,21 @@
 -- The paper's terms after the pairs: the sum taken one term after the other, and the reverse complement place by place. Assumes nothing.
-use mathlib.Core.Path.{◌≡◌, refl, ◌∙◌}
-use mathlib.Core.Bool.{true, false, ◌&&◌}
-use mathlib.Core.List.{List, [], ◌∷◌, ◌++◌, map}
+use mathlib.Core.Path.{◌≡◌, refl, ap, ◌∙◌}
+use mathlib.Core.Bool.{Bool, true, false, ◌&&◌}
+use mathlib.Core.List.{List, [], ◌∷◌, ◌++◌, map, reverse, reverse-cons}
 use Prim.Native.Nat.{ℕ, ◌-◌, ◌<◌, ◌≤◌}
 use native.Mathlib.Omega.{arith}
 use lib.Ieee.{Float, binary64, add}
 use lib.ListN.{length, get_or}
-use Rattle.std.specs.List.{push}
-use Rattle.std.proofs.lemmas.List.{reverse-append, map-append}
+use Rattle.std.specs.List.{list_all, zip}
+use Rattle.std.proofs.lemmas.List.{map-append, length-reverse, get_or-reverse}
+use Rattle.std.proofs.lemmas.Slice.Zip.{get_or-zip, length-zip}
 use Rattle.doubles.specs.Sum.{sum_from}
 use Rattle.doubles.proofs.Sums.{sum-append}
-use Rattle.utils.specs.Bases.{Base, base_of, bases, complementary, index_of}
-use Rattle.utils.specs.Terms.{is_a_or_t, reverse_complement, same_bases, first_base, last_base, end_term, symmetry_term, terms_after}
+use Rattle.lists.specs.Find.{any}
+use Rattle.utils.specs.Bases.{Base, base_of, bases, is_base, not_a_base, complement, complementary, index_of}
+use Rattle.utils.specs.Terms.{is_a_or_t, same_bases, self_complementary, first_base, last_base, end_term, symmetry_term, terms_after}
 use Rattle.utils.specs.declared.bases.DnaNucleotideBase.TheVariants.{A, T, G, C}
+use Rattle.utils.proofs.Letters.{base-in}
 use Rattle.utils.proofs.Neighbours.{base-at, bases-length}
 
 -- the sum of the terms, one after the other
@@ -50,23 +53,35 @@ high-number C h = refl
 
 -- ---- the reverse complement
 
--- the last base of what is left at the back is compared with the first of what is left in front
-compared : (back front : List ℕ) (last first : ℕ)
-    → same_bases (reverse_complement (bases (push back last))) (bases (first ∷ front)) ≡ (complementary (base_of last) (base_of first) && same_bases (reverse_complement (bases back)) (bases front))
+bases_reverse : (s : List ℕ) → bases (reverse s) ≡ reverse (bases s)
+unfolding bases
+bases_reverse [] = refl
+bases_reverse (x ∷ s) = rw (reverse-cons x s, reverse-cons (base_of x) (map base_of s), map-append base_of (reverse s) (x ∷ [])) (ap (◌++ (base_of x ∷ [])) (bases_reverse s))
+
+-- two letters that pair
+abbrev pub pairs : ℕ × ℕ → Bool
+pairs p = complementary (base_of p.0) (base_of p.1)
+
+-- each letter pairs with the one beside it
+all_pair : (back front : List ℕ) → length back ≡ length front → list_all pairs (zip back front) ≡ same_bases (map complement (bases back)) (bases front)
 unfolding bases same_bases
-compared back front last first = rw (map-append base_of back (last ∷ []), reverse-append (map base_of back) (base_of last ∷ [])) refl
+all_pair [] [] e = refl
+all_pair [] (y ∷ front) e = absurd (omega arith)
+all_pair (x ∷ back) [] e = absurd (omega arith)
+all_pair (x ∷ back) (y ∷ front) e = ap (complementary (base_of x) (base_of y) &&◌) (all_pair back front (omega arith))
 
-module _ (back front : List ℕ) (last first : ℕ) where
-  pub symmetric-more : complementary (base_of last) (base_of first) ≡ true
-      → same_bases (reverse_complement (bases (push back last))) (bases (first ∷ front)) ≡ same_bases (reverse_complement (bases back)) (bases front)
-  symmetric-more e = compared back front last first ∙ simp e
+-- of letters and the same from the last to the first
+pub all_symmetric : (s : List ℕ) → list_all pairs (zip (reverse s) s) ≡ self_complementary (bases s)
+unfolding self_complementary
+all_symmetric s = all_pair (reverse s) s (length-reverse s) ∙ ap (λ (t : List Base). same_bases (map complement t) (bases s)) (bases_reverse s)
 
-  pub symmetric-fails : complementary (base_of last) (base_of first) ≡ false
-      → same_bases (reverse_complement (bases (push back last))) (bases (first ∷ front)) ≡ false
-  symmetric-fails e = compared back front last first ∙ simp e
-
-pub symmetric-done : (back front : List ℕ) → length back ≡ 0 → length front ≡ 0 → same_bases (reverse_complement (bases back)) (bases front) ≡ true
-unfolding bases same_bases
-symmetric-done [] [] e f = refl
-symmetric-done (x ∷ back) front e f = absurd (omega arith)
-symmetric-done [] (y ∷ front) e f = absurd (omega arith)
+-- each that is looked at is a base
+pub both-bases : (s : List ℕ) (k : ℕ) (d : ℕ × ℕ) → any not_a_base s ≡ false → k < length (zip (reverse s) s) → d ≡ get_or (zip (reverse s) s) k d → (is_base d.0 ≡ true) × (is_base d.1 ≡ true)
+both-bases s k d b h e =
+    let long = length-reverse s in
+    let size = length-zip (reverse s) s in
+    let inside : k < length s = omega (arith, h, long, size) in
+    let here = e ∙ get_or-zip (reverse s) s k d (omega (arith, long, inside)) inside in
+    let back : d.0 ≡ get_or s (length s - 1 - k) d.0 = ap (λ (p : ℕ × ℕ). p.0) here ∙ get_or-reverse s k d.0 inside in
+    let front : d.1 ≡ get_or s k d.1 = ap (λ (p : ℕ × ℕ). p.1) here in
+    (ap is_base back ∙ base-in s (length s - 1 - k) d.0 b (omega (arith, inside)), ap is_base front ∙ base-in s k d.1 b inside)

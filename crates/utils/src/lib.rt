@@ -23,6 +23,7 @@ ghost use Rattle.utils.specs.Strength.{strength_at, excess_in_range, sequence_st
 
 use bases::{DnaNucleotideBase, Window, base, base_index, good_match};
 use dna::{Dna, Strands};
+use reply::limits::EXCESS;
 use reply::{Refusal, refused_if};
 use std::ops::Add;
 use tables::{
@@ -86,13 +87,7 @@ const SYMMETRY: DgDs = DgDs {
 };
 
 // The longest sequence.
-const LONGEST: usize = 256;
-
-// The lowest excess.
-const LOWEST_EXCESS: f64 = -1024.0;
-
-// The highest excess.
-const HIGHEST_EXCESS: f64 = 1024.0;
+pub const LONGEST: usize = 256;
 
 // dG and dS so far, and the bad windows in a row up to here.
 #[derive(Clone, Copy)]
@@ -101,7 +96,7 @@ struct Sums {
     bad: usize,
 }
 
-// The energy of a loop of 3 to 254. Kinds are 0 (internal), 1 (bulge) and 2 (hairpin).
+// The energy of a loop of 3 to 254. Kinds are 0 (internal), 1 (bulge) and 2 (hairpin): a number, as C lends it, and an enum once it is one of these.
 pub fn loop_penalty(length: usize, kind: u32) -> Result<KcalPerMol, Refusal>
     ensures { dg_figures result ≡ loop_penalty length kind }
 {
@@ -157,12 +152,11 @@ impl Dna<'_> {
     fn self_complementary(&self) -> bool
         ensures { result ≡ self_complementary (bases self.now.letters.now) }
     {
-        for (last, first) in self.letters.iter().rev().zip(self.letters) {
-            if !good_match(base(*last), base(*first)) {
-                return false;
-            }
-        }
-        true
+        self.letters
+            .iter()
+            .rev()
+            .zip(self.letters)
+            .all(|(last, first)| good_match(base(*last), base(*first)))
     }
 
     // The sums after the symmetry: its terms, if the sequence has it.
@@ -284,7 +278,7 @@ fn strength(excess: Kelvin, sums: DgDs) -> KcalPerMol
 fn excess_in_range(excess: Kelvin) -> bool
     ensures { result ≡ excess_in_range excess.0 }
 {
-    doubles::in_range(LOWEST_EXCESS, HIGHEST_EXCESS, excess.0)
+    doubles::in_range(-EXCESS, EXCESS, excess.0)
 }
 
 // The strength of a sequence on its perfect partner.

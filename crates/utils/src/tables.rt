@@ -49,7 +49,7 @@ impl Stacks {
 }
 
 // Mismatches 5'-PX-3' over 3'-P*Y-5', at [P][X][Y], in hundredths of kcal/mol; 0 where X and Y pair.
-// Lent as it is, and not in a struct as the stacks: three levels of arrays in a struct get no proof yet.
+// Lent as it is, and not in a struct as the stacks: of three levels of arrays in a struct the proof does not close.
 pub(crate) const PENALTY_TABLE: [[[i16; 4]; 4]; 4] = [
     [
         [61, 0, 14, 88],
@@ -169,17 +169,15 @@ pub(crate) fn calculate_single_mismatch_penalty(
     KcalPerMol(0.0)
 }
 
-// The place among LENGTHS of the longest that is no longer than this one. The loop goes by number, since a place is what is asked for.
+// The place among LENGTHS of the longest that is no longer than this one: as many of those after the first as are no longer.
 fn entry_up_to(length: usize) -> usize
     requires { 3 ≤ length }
     ensures { (result < 15) × (get_or loop_rows result no_loop ≡ entry_up_to length) }
 {
-    for at in 0..14 {
-        if length < LENGTHS[at + 1] {
-            return at;
-        }
-    }
-    14
+    LENGTHS[1..]
+        .iter()
+        .take_while(|entry| **entry <= length)
+        .count()
 }
 
 // The energy of an entry, by its kind and the place of its length. One division gives the double nearest to the decimal.

@@ -1,5 +1,5 @@
 -- A design that is judged once for all jobs.
-use Rattle.std.specs.Prelude.{◌≡◌, false, cond, [], ◌∷◌, ℕ, min, leb, ltb, eqb, Result, Ok, Err}
+use Rattle.std.specs.Prelude.{◌≡◌, false, cond, [], ◌∷◌, ℕ, min, leb, ltb, eqb, Option, None, Some, Result, Ok, Err}
 use Rattle.reply.specs.First.{bare, first_of, ◌if◌}
 use Rattle.reply.specs.declared.Refusal.{Refusal}
 use Rattle.reply.specs.declared.Refusal.TheVariants.{TooManyStates, RankTooHigh, NotAJob}
@@ -7,7 +7,7 @@ use Rattle.model.specs.States.{count}
 use Rattle.design.specs.Design.{Design, model_of}
 use Rattle.design.specs.Checks.{table_checks, number_checks}
 use Rattle.jobs.specs.declared.job.Job.{Job}
-use Rattle.jobs.specs.declared.job.Job.TheVariants.{EnergyAt, Search, Count, Malformed}
+use Rattle.jobs.specs.declared.job.Job.TheVariants.{EnergyAt, Search, Count}
 use Rattle.jobs.specs.declared.judge.Judged.{Judged}
 
 infixr 40 ◌or_next◌
@@ -20,15 +20,28 @@ abbrev pub ◌or_next◌ : Result Unit Refusal → Result Unit Refusal → Resul
 (Ok u) or_next next = next
 (Err refusal) or_next next = Err refusal
 
+-- the reply of the tables, and where they pass how many states were counted and the reply of the numbers
+abbrev pub tables_of : Result Judged Refusal → Result Unit Refusal
+tables_of (Ok judged) = Ok tt
+tables_of (Err refusal) = Err refusal
+
+abbrev pub states_of : Result Judged Refusal → ℕ
+states_of (Ok judged) = judged.counted.states
+states_of (Err refusal) = 0
+
+abbrev pub numbers_of : Result Judged Refusal → Result Unit Refusal
+numbers_of (Ok judged) = judged.numbers
+numbers_of (Err refusal) = Ok tt
+
 -- what a job replies by what its design was judged for
-abbrev pub judged_reply : Judged → Job → Result Unit Refusal
-judged_reply j (EnergyAt rank) = j.tables or_next (bare (first_of (TooManyStates if ltb 1048576 j.states ∷ [])) or_next (bare (first_of (RankTooHigh if leb j.states rank ∷ [])) or_next j.numbers))
-judged_reply j Search = j.tables or_next j.numbers
-judged_reply j Count = j.tables or_next (bare (first_of (TooManyStates if ltb 1048576 j.states ∷ [])) or_next j.numbers)
-judged_reply j Malformed = Err NotAJob
+abbrev pub judged_reply : Result Judged Refusal → Option Job → Result Unit Refusal
+judged_reply j (Some (EnergyAt rank)) = tables_of j or_next (bare (first_of (TooManyStates if ltb 1048576 (states_of j) ∷ [])) or_next (bare (first_of (RankTooHigh if leb (states_of j) rank ∷ [])) or_next numbers_of j))
+judged_reply j (Some Search) = tables_of j or_next numbers_of j
+judged_reply j (Some Count) = tables_of j or_next (bare (first_of (TooManyStates if ltb 1048576 (states_of j) ∷ [])) or_next numbers_of j)
+judged_reply j None = Err NotAJob
 
 -- what is judged is the design's: its tables, and where they pass its number of states and its numbers
-pub record JudgedRight (d : Design) (j : Judged) : Type 0 where
-  pub tables : j.tables ≡ bare (first_of (table_checks false d.scaffold d.marks d.glues d.dg d.ds d.potentials))
-  pub states : j.tables ≡ Ok tt → j.states ≡ min (count (model_of d)) 1048577
-  pub numbers : j.tables ≡ Ok tt → j.numbers ≡ bare (first_of (number_checks d))
+pub record JudgedRight (d : Design) (j : Result Judged Refusal) : Type 0 where
+  pub tables : tables_of j ≡ bare (first_of (table_checks false d.scaffold d.marks d.glues d.dg d.ds d.potentials))
+  pub states : tables_of j ≡ Ok tt → states_of j ≡ min (count (model_of d)) 1048577
+  pub numbers : tables_of j ≡ Ok tt → numbers_of j ≡ bare (first_of (number_checks d))

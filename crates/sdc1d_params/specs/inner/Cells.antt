@@ -1,11 +1,13 @@
 -- Cells as the build finds them: from the numbers of an entry's names.
 use Rattle.std.specs.Prelude.{Bool, true, false, cond, ◌&&◌, List, ℕ, ◌+◌, ◌-◌, ◌%◌, ◌<◌, eqb, Float, length, get_or, set}
+use Rattle.lists.specs.Build.{tabulate}
 use Rattle.sdc_common.specs.Names.{Name}
 use Rattle.sdc_common.specs.Lent.{part_of, glue_of}
 use Rattle.sdc_common.specs.declared.names.LentName.{LentName}
-use Rattle.sdc1d_params.specs.Entries.{Cell, cell, cell_of, energy_of, entry_at, is_written}
+use Rattle.sdc1d_params.specs.Entries.{Cell, cell, cell_of, energy_of, entry_at, entry_rows, is_written}
 use Rattle.sdc1d_params.specs.Tables.{Write, write_of, place_of}
 use Rattle.sdc1d_params.specs.declared.Entry.{Entry}
+use Rattle.sdc1d_params.specs.declared.LentParameters.{LentParameters}
 
 -- the number of the base of a name that has this number: a base has the odd one of two
 abbrev pub base_at : ℕ → ℕ
@@ -31,10 +33,18 @@ cell_among bases text e = cell_of bases (part_of text e.first_start e.first_size
 abbrev pub cell_at : List Name → List ℕ → List ℕ → List Float → ℕ → Cell
 cell_at bases text numbers doubles i = cell_among bases text (entry_at numbers doubles i)
 
+-- the cells of the entries of a lent parameter set, in order
+abbrev pub cells_among : List Name → LentParameters → List Cell
+cells_among bases l = tabulate (entry_rows l.entries.now) (cell_at bases l.text.now l.entries.now l.energies.now)
+
 -- what entry i writes, from the cells
 abbrev pub write_at : List ℕ → List ℕ → List Float → Float → Float → List Cell → ℕ → Write
 write_at text numbers doubles penalty_dg penalty_ds cells i =
     write_of text penalty_dg penalty_ds (get_or cells i (cell 0 0)) (energy_of (entry_at numbers doubles i))
+
+-- what they all write, in order
+abbrev pub writes_at : LentParameters → List Cell → List Write
+writes_at l cells = tabulate (entry_rows l.entries.now) (write_at l.text.now l.entries.now l.energies.now l.penalty.dg.0 l.penalty.ds.0 cells)
 
 -- the cells lie in the tables
 abbrev pub InTables : List Cell → Type 0

@@ -1,11 +1,11 @@
 -- The parameter set that the inner functions pass on, and what is lent beside it.
-use Rattle.sdc1d_params.specs.Params.{Params, Outcome, params_of, lent_of}
+use Rattle.sdc1d_params.specs.Params.{Params, Outcome, params_lent, lent_of}
 use Rattle.sdc1d_params.specs.declared.set.ParameterSet.{ParameterSet}
 use Rattle.sdc1d_params.specs.declared.sizes.Lent.{Lent}
 
 -- the names and entries that its rows hold
 abbrev pub set_of : ParameterSet → Params
-set_of s = params_of s.text.now s.users s.strands.now s.scaffold.now s.entries.now s.energies.now s.penalty s.copies
+set_of s = params_lent s.lent
 
 -- what is lent to be written, as it comes
 abbrev pub as_lent : Lent → Outcome

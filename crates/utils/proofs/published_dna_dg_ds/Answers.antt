@@ -1,5 +1,5 @@
 -- `utils::published_dna_dg_ds` meets its contract: the reply is that of the checks, and the figures are the published sums. Assumes nothing.
-use mathlib.Core.Path.{sym, refl, ap, ◌∙◌}
+use mathlib.Core.Path.{sym, ap, ◌∙◌}
 use Rattle.reply.specs.First.{first_of}
 use Rattle.reply.proofs.Bare.{same-error, answers}
 use Rattle.utils.specs.Answers.{dg_ds_figures, refused_dg_ds}

@@ -1,5 +1,5 @@
 -- `utils::sequence_pair_dg_ds` meets its contract: first the strands' checks, then the loop's, then the sums. Assumes nothing.
-use mathlib.Core.Path.{sym, ◌≡◌, refl, ap, ap₂, ◌∙◌}
+use mathlib.Core.Path.{sym, ◌≡◌, ap, ap₂, ◌∙◌}
 use mathlib.Core.List.{List, [], ◌∷◌}
 use Prim.Native.Nat.{ℕ}
 use Rattle.std.specs.Prelude.{None, Result, Ok, Err}

@@ -1,5 +1,5 @@
 -- `utils::sequence_strength` meets its contract: first the sequence's checks, then the excess's, then the strength. Assumes nothing.
-use mathlib.Core.Path.{sym, ◌≡◌, refl, ap, ◌∙◌}
+use mathlib.Core.Path.{sym, ◌≡◌, ap, ◌∙◌}
 use mathlib.Core.List.{◌++◌}
 use Rattle.std.specs.Prelude.{Ok}
 use Rattle.reply.specs.First.{first_of}

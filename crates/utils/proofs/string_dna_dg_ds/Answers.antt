@@ -1,5 +1,5 @@
 -- `utils::string_dna_dg_ds` meets its contract: the reply is that of the checks, and the figures are the stacks' with the initiation. Assumes nothing.
-use mathlib.Core.Path.{sym, refl, ap, ◌∙◌}
+use mathlib.Core.Path.{sym, ap, ◌∙◌}
 use lib.Ieee.{of_bits}
 use Rattle.doubles.specs.Decimal.{nearest}
 use Rattle.reply.specs.First.{first_of}

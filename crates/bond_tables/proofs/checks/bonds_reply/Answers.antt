@@ -33,7 +33,7 @@ returns-then-cells_beyond-clause-value c = λ own.
       | then-cells_beyond-via-then-cells_beyond w ↦ simp (sym c.cells_beyond.ensures ∙ w.if-cells_beyond.true)
       | then-cells_beyond-via-else-cells_beyond+then-cells_beyond-2 w ↦ simp (sym c.cells_beyond.ensures ∙ w.if-cells_beyond.false, sym w.cells_beyond-else-cells_beyond.ensures ∙ w.if-cells_beyond-2.true)
     ] in
-    ap (λ (r : Reply). r or_else first_of (design_checks a.own_size d own [])) c.ranged_reply.ensures
+    ap (λ (r : Reply). r or_else first_of (design_checks a.own_size d own [])) c.ranged_reply.ensures.value
     ∙ range-told a.own_size d t u own right out (first_of (design_checks a.own_size d own []))
 
 pub returns-clause-cells : goal.returns-clause-cells

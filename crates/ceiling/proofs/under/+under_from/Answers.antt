@@ -13,12 +13,12 @@ use Rattle.model.proofs.Search.{own}
 use Rattle.ensemble.proofs.OptionRows.{options-are, count-is, option_is}
 use Rattle.prepared.specs.inner.Sums.{sum_on, energy_on}
 use Rattle.prepared.proofs.Begun.{begun-is, ended_is, beside-next}
-use Rattle.ceiling.proofs.Passing.{step-some, step-none, step-done, end-under, end-over}
+use Rattle.ceiling.proofs.Passing.{step-some, step-none, step-done, end-told}
 use Rattle.ceiling.proofs.under.+under_from.Goals as goal
 
-pub returns-then-energy-limit : goal.returns-then-energy-limit
+pub returns-then-position-lent : goal.returns-then-position-lent
 unfolding energy_on sum_on
-returns-then-energy-limit t c =
+returns-then-position-lent t c =
     λ m o w e beside.
     let a = c.args in
     let p = c.requires in
@@ -27,20 +27,7 @@ returns-then-energy-limit t c =
     let whole : length a.entries.now ≤ a.position = omega arith in
     let inside : a.position ≤ length m.friends = omega arith in
     let energy-is = ap₂ (mul binary64) (c.ended.ensures ∙ ended_is w a.position a.begun.strand a.begun.sum inside beside) e in
-    end-under m a.limit.ceiling a.position a.begun.strand a.begun.sum a.entries.now all whole _ energy-is c.if-energy-limit.true
-
-pub returns-else-energy-limit : goal.returns-else-energy-limit
-unfolding energy_on sum_on
-returns-else-energy-limit t c =
-    λ m o w e beside.
-    let a = c.args in
-    let p = c.requires in
-    let number = o.positions in
-    let all : length (options m) ≤ a.position = rw (length-map m.friends options_of) (omega arith) in
-    let whole : length a.entries.now ≤ a.position = omega arith in
-    let inside : a.position ≤ length m.friends = omega arith in
-    let energy-is = ap₂ (mul binary64) (c.ended.ensures ∙ ended_is w a.position a.begun.strand a.begun.sum inside beside) e in
-    end-over m a.limit.ceiling a.position a.begun.strand a.begun.sum a.entries.now all whole _ energy-is c.if-energy-limit.false
+    rw c.then_some.ensures (end-told m a.limit.ceiling a.position a.begun.strand a.begun.sum a.entries.now all whole _ energy-is)
 
 -- an option out of its position's part of the rows
 listed : (options rows : List ℕ) (row count k : ℕ) → options ≡ take count (drop row rows) → length options ≡ count → k < length options → (k < count) × (get_or options k 0 ≡ get_or rows (row + k) 0)

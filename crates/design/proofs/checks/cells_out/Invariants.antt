@@ -11,4 +11,4 @@ abbrev pub Counted : ℕ → List Float → ℕ → ℕ → Type 0
 Counted most cells i count = (count ≤ i) × CountedOrLeft (beyond most) cells i count
 
 abbrev pub invariant-loop-i : goal.invariant-loop-i
-invariant-loop-i l = Counted 1024 l.dg l.i l.dg_out × Counted 8 l.ds l.i l.ds_out
+invariant-loop-i l = Counted 1024 l.design.dg l.i l.dg_out × Counted 8 l.design.ds l.i l.ds_out

@@ -1,6 +1,7 @@
 -- The invariant: each two neighbouring positions add at most 255 * 255. Assumes nothing.
 use Prim.Native.Nat.{◌*◌, ◌≤◌}
+use lib.ListN.{length}
 use Rattle.design.proofs.needed.pairs_read.Given as goal
 
-abbrev pub invariant-loop-position : goal.invariant-loop-position
-invariant-loop-position l = (l.position ≤ 128) × (l.read ≤ 65025 * l.position)
+abbrev pub invariant-loop-pair : goal.invariant-loop-pair
+invariant-loop-pair l = (length l.yielded ≤ 127) × (l.read ≤ 65025 * length l.yielded)

@@ -14,8 +14,8 @@ pub loop-friend-preserved : goal.loop-friend-preserved
 loop-friend-preserved c =
     let left = c.args.left.now in
     let l = c.loop-friend in
-    let x = c.from-tile.result in
-    let low : x < left.bonds.strands = rw c.from-tile.ensures (c.requires.known l.friend-index c.loop-friend-test.true) in
+    let x = c.from-right.result in
+    let low : x < left.bonds.strands = rw c.from-right.ensures (c.requires.known l.friend-index c.loop-friend-test.true) in
     let r = c.last_least in
     let below = r.ensures.known in
     let in-choice : x < length l.choice = omega arith in
@@ -23,4 +23,4 @@ loop-friend-preserved c =
     (λ key keys.
     let least = c.least_sums.ensures x low key keys ∙ ap (λ (xs : List ℕ). key (last_least key xs)) (take-length left.options.now) in
     record { strand = r.ensures.choice key keys least; energy = least ∙ sym (some_key key left.options.now (last_least key left.options.now) c.requires.left_nonzero) })
-    l.friend-index c.from-tile.ensures (omega arith) l.invariant
+    l.friend-index c.from-right.ensures (omega arith) l.invariant

@@ -1,6 +1,16 @@
--- The least sums meet their contract. The invariant: those over the first k left entries. Assumes nothing.
+-- The least sums meet their contract. The invariant: those over the first left entries, and the others are to come. Assumes nothing.
+use mathlib.Core.Path.{◌≡◌}
+use Prim.Native.Nat.{◌+◌, ◌≤◌}
+use lib.ListN.{length, drop}
+use Rattle.std.specs.Iterator.Adapters.{zip_first, zip_second}
+use Rattle.std.specs.Slice.Iter.{iter_rest}
 use Rattle.ensemble.specs.inner.Entries.{table_bond, LeastSums}
 use Rattle.ensemble.proofs.sums.least_sums.Given as goal
 
-abbrev pub invariant-loop-k : goal.invariant-loop-k
-invariant-loop-k l = LeastSums (table_bond l.left.bonds.strands l.left.bonds.cells.now) l.left.options.now l.left.energies.now l.left.bonds.strands l.k l.best
+abbrev pub invariant-loop-strand : goal.invariant-loop-strand
+invariant-loop-strand l = record {
+  some : length l.yielded + 1 ≤ length l.left.options.now;
+  options : iter_rest (zip_first l.strand-iterator) ≡ drop (length l.yielded + 1) l.left.options.now;
+  energies : iter_rest (zip_second l.strand-iterator) ≡ drop (length l.yielded + 1) l.left.energies.now;
+  sums : LeastSums (table_bond l.left.bonds.strands l.left.bonds.cells.now) l.left.options.now l.left.energies.now l.left.bonds.strands (length l.yielded + 1) l.best;
+}

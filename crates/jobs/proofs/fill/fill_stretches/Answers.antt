@@ -2,6 +2,7 @@ use Rattle.jobs.specs.declared.job.Job.{Job}
 use Rattle.jobs.specs.inner.Settled.{stretch_in}
 use Rattle.jobs.proofs.Stretches.{filled_none, filled_more, filled-done}
 use Rattle.lists.proofs.Grid.{row-end}
+use Rattle.std.specs.Prelude.{Option}
 use lib.ListN.{length, take, drop, length-take, length-drop}
 use native.Mathlib.Omega.{arith}
 use native.Mathlib.Nat.{mul-le-mul}
@@ -77,7 +78,7 @@ loop-k-preserved c =
     let kept : length last ≡ length (take (at + n - at) (drop at st)) = c.fill_stretch.auto.stretch in
     let is : last ≡ stretch_in a.configuration.now c.read.result (take (at + n - at) (drop at st)) = c.fill_stretch.ensures in
     let filled : last ≡ stretch_in a.configuration.now c.read.result (take n (drop at st)) = is ∙ ap (λ (w : ℕ). stretch_in a.configuration.now c.read.result (take w (drop at st))) width in
-    rw width (filled_more a.configuration.now a.jobs.now a.stretches.now c.loop-k.k c.loop-k.invariant here size (kept ∙ lent) (filled ∙ ap (λ (j : Job). stretch_in a.configuration.now j (take n (drop at st))) c.read.ensures))
+    rw width (filled_more a.configuration.now a.jobs.now a.stretches.now c.loop-k.k c.loop-k.invariant here size (kept ∙ lent) (filled ∙ ap (λ (j : Option Job). stretch_in a.configuration.now j (take n (drop at st))) c.read.ensures))
 
 pub returns : goal.returns
 returns c =

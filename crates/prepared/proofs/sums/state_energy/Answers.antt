@@ -52,4 +52,4 @@ returns c =
     let old = l.invariant.1 m w v in
     let all : l.position ≤ length m.friends = rw (← v.places) l.auto.position-end in
     let sum = c.ended.ensures ∙ ended_is w l.position l.begun.strand l.begun.sum all old.1 ∙ sym (old.0 ∙ sum_done m a.state.now l.position l.begun.strand l.begun.sum c.loop-position-test.false) in
-    c.scale.ensures ∙ ap (λ (x : Float). mul binary64 x a.rt.0) sum ∙ ap (mul binary64 (sum_on m 0 0 zero a.state.now)) e ∙ whole-energy m a.state.now
+    c.mul.ensures ∙ ap (λ (x : Float). mul binary64 x a.rt.0) sum ∙ ap (mul binary64 (sum_on m 0 0 zero a.state.now)) e ∙ whole-energy m a.state.now

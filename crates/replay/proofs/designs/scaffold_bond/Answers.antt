@@ -2,24 +2,21 @@
 use Rattle.std.proofs.Common.{ap, ◌∙◌}
 use Rattle.replay.specs.Kinds.{word, later}
 use Rattle.replay.proofs.Words.{as-decimal}
-use Rattle.replay.proofs.Tests.{never}
+use Rattle.replay.proofs.Values.{on-some}
 use Rattle.replay.proofs.Figures.{says-as}
 use Rattle.replay.proofs.designs.scaffold_bond.Goals as goal
 
-pub returns-in_default : goal.returns-in_default
-returns-in_default c = λ e. never e
-
-pub returns-in_default-small : goal.returns-in_default-small
-returns-in_default-small c = λ e. never e
-
 pub returns : goal.returns
-returns c = λ e.
+returns c =
     let told = c.mj_scaffold_bond-reply.ensures in
-    let rest = c.past-rest.ensures in
+    let one = c.split_at_first.ensures in
+    let two = c.split_at_first-2.ensures in
+    on-some c.says.result c.says.ensures
+    (λ e.
     record {
-      position = c.in-Some.position;
-      strand = c.in-Some-small.strand;
-      first = as-decimal c.up_to.ensures c.in-Some.ensures;
-      second = as-decimal (c.up_to-2.ensures ∙ ap word rest) c.in-Some-small.ensures;
-      answer = says-as (c.past.ensures ∙ ap later rest) told.number (rw (c.bits.ensures, told.figure)) (c.says.ensures e);
-    }
+      position = c.in_ok-position.position;
+      strand = c.in_ok-strand.strand;
+      first = as-decimal one.before c.in_ok-position.ensures;
+      second = as-decimal (two.before ∙ ap word one.after) c.in_ok-strand.ensures;
+      answer = says-as (two.after ∙ ap later one.after) told.number (rw (c.bits.ensures, told.figure)) e;
+    })

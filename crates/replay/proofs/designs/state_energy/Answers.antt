@@ -1,17 +1,17 @@
 -- `replay::designs::state_energy` meets its contract: the call has the definition's figures, and the rest of the line says them. Assumes nothing.
 use Rattle.std.proofs.Common.{sym, ap, ◌∙◌}
 use Rattle.replay.specs.Kinds.{letters}
-use Rattle.replay.proofs.Tests.{never}
+use Rattle.replay.proofs.Values.{on-some}
 use Rattle.replay.proofs.Figures.{says-as}
 use Rattle.replay.proofs.designs.state_energy.Goals as goal
 
-pub returns-then-not-is_places : goal.returns-then-not-is_places
-returns-then-not-is_places c = λ e. never e
-
 pub returns : goal.returns
-returns c = λ e.
+returns c =
     let told = c.mj_state_energy-reply.ensures in
+    let words = c.split_at_first.ensures in
+    on-some c.says.result c.says.ensures
+    (λ e.
     record {
-      first = ap letters (sym c.up_to.ensures) ∙ c.is_places.ensures c.if-not-is_places.false;
-      answer = says-as c.past.ensures told.number (rw (c.bits.ensures, told.figure)) (c.says.ensures e);
-    }
+      first = ap letters (sym words.before) ∙ c.is_places.ensures c.if-not-is_places.false;
+      answer = says-as words.after told.number (rw (c.bits.ensures, told.figure)) e;
+    })

@@ -2,24 +2,21 @@
 use Rattle.std.proofs.Common.{ap, ◌∙◌}
 use Rattle.replay.specs.Kinds.{word, later}
 use Rattle.replay.proofs.Words.{as-decimal}
-use Rattle.replay.proofs.Tests.{never}
+use Rattle.replay.proofs.Values.{on-some}
 use Rattle.replay.proofs.Figures.{says-as}
 use Rattle.replay.proofs.designs.strand_bond.Goals as goal
 
-pub returns-in_default : goal.returns-in_default
-returns-in_default c = λ e. never e
-
-pub returns-in_default-small : goal.returns-in_default-small
-returns-in_default-small c = λ e. never e
-
 pub returns : goal.returns
-returns c = λ e.
+returns c =
     let told = c.mj_strand_bond-reply.ensures in
-    let rest = c.past-rest.ensures in
+    let one = c.split_at_first.ensures in
+    let two = c.split_at_first-2.ensures in
+    on-some c.says.result c.says.ensures
+    (λ e.
     record {
-      x = c.in-Some.x;
-      y = c.in-Some-small.y;
-      first = as-decimal c.up_to.ensures c.in-Some.ensures;
-      second = as-decimal (c.up_to-2.ensures ∙ ap word rest) c.in-Some-small.ensures;
-      answer = says-as (c.past.ensures ∙ ap later rest) told.number (rw (c.bits.ensures, told.figure)) (c.says.ensures e);
-    }
+      x = c.in_ok-x.x;
+      y = c.in_ok-y.y;
+      first = as-decimal one.before c.in_ok-x.ensures;
+      second = as-decimal (two.before ∙ ap word one.after) c.in_ok-y.ensures;
+      answer = says-as (two.after ∙ ap later one.after) told.number (rw (c.bits.ensures, told.figure)) e;
+    })

@@ -1,25 +1,26 @@
 -- `replay::kinds::strength2` meets its contract: the call has the definition's figures, and the rest of the line says them. Assumes nothing.
 use Rattle.std.proofs.Common.{ap, ◌∙◌, sym}
 use Rattle.replay.specs.Kinds.{word, later, letters}
-use Rattle.replay.proofs.Tests.{never}
+use Rattle.replay.proofs.Values.{on-some}
 use Rattle.replay.proofs.Figures.{says-as}
 use Rattle.replay.proofs.kinds.strength2.Goals as goal
 
-pub returns-in_default : goal.returns-in_default
-returns-in_default c = λ e. never e
-
 pub returns : goal.returns
-returns c = λ e.
+returns c =
     let told = c.mj_pair_strength-reply.ensures in
-    let rest = c.past-rest.ensures in
-    let last = c.past-last.ensures ∙ ap later rest in
-    let s = c.letters-a.ensures ∙ ap letters (c.up_to-2.ensures ∙ ap word rest) in
-    let t = c.letters-b.ensures ∙ ap letters (c.up_to-3.ensures ∙ ap word last) in
+    let one = c.split_at_first.ensures in
+    let two = c.split_at_first-2.ensures in
+    let three = c.split_at_first-3.ensures in
+    let last = two.after ∙ ap later one.after in
+    let s = c.letters-a.ensures ∙ ap letters (two.before ∙ ap word one.after) in
+    let t = c.letters-b.ensures ∙ ap letters (three.before ∙ ap word last) in
+    on-some c.says.result c.says.ensures
+    (λ e.
     record {
-      excess = c.in-Some.read;
-      first = sym c.up_to.ensures ∙ c.in-Some.ensures;
+      excess = c.in_ok-read.read;
+      first = sym one.before ∙ c.in_ok-read.ensures;
       answer =
-          says-as (c.past.ensures ∙ ap later last) (rw (told.value, s, t, c.double-excess.ensures))
+          says-as (three.after ∙ ap later last) (rw (told.value, s, t, c.double-excess.ensures))
           (rw (c.bits.ensures, told.strength_after, s, t, c.double-excess.ensures))
-          (c.says.ensures e);
-    }
+          e;
+    })

@@ -1,36 +1,28 @@
-use Rattle.std.proofs.Common.{◌≡◌, length, take, sym, ◌∙◌, arith, take-append-drop, length-take-le, eqb-true}
-use Rattle.replay.specs.Says.{ok}
-use Rattle.replay.proofs.Words.{as-word-ne}
-use Rattle.replay.proofs.Tests.{never}
-use Rattle.replay.proofs.Figures.{figures-more, figures-done}
+-- `replay::says::given` meets its contract. Assumes nothing.
+use Rattle.std.proofs.Common.{◌≡◌, ℕ, ◌/◌, ◌%◌, ◌<◌, List, [], length, get_or, take, drop, sym, ap, ◌∙◌, refl, arith, eqb-true, take-append-drop}
+use Rattle.replay.specs.Says.{ok, figures_text}
+use Rattle.replay.proofs.Words.{as-word}
+use Rattle.replay.proofs.Values.{on-then}
+use Rattle.replay.proofs.Figures.{chunks-text}
 use Rattle.replay.proofs.says.given.Goals as goal
 
-pub returns-then-words-lt2 : goal.returns-then-words-lt2
-returns-then-words-lt2 c = λ e. never e
-
-pub slice_bounds-ne-end : goal.slice_bounds-ne-end
-slice_bounds-ne-end c = sym (length-take-le 2 c.args.words.now (omega arith))
-
-pub returns-then-ne : goal.returns-then-ne
-returns-then-ne c = λ e. never e
-
-pub loop-figure-init : goal.loop-figure-init
-loop-figure-init c =
-    let words = c.args.words.now in
-    let two : take 2 words ≡ ok = as-word-ne c.ne.ensures c.if-ne.false ∙ c.as_slice.ensures in
-    (omega arith, λ e. sym (take-append-drop 2 words) ∙ rw (two, e))
-
-pub returns-then-not-has_figure : goal.returns-then-not-has_figure
-returns-then-not-has_figure c = λ e. never e
-
-pub loop-figure-preserved : goal.loop-figure-preserved
-loop-figure-preserved c =
-    let a = c.args in
-    let figure = c.has_figure.ensures c.if-not-has_figure.false in
-    (figure.within, λ e. c.loop-figure.invariant.1 (figures-more a.words.now a.figures.now c.loop-figure.at c.loop-figure.figure-index (omega arith) figure e))
-
 pub returns : goal.returns
-returns c = λ e.
-    let a = c.args in
-    let end : c.loop-figure.at ≡ length a.words.now = eqb-true _ _ e in
-    c.loop-figure.invariant.1 (figures-done a.words.now a.figures.now c.loop-figure.at c.loop-figure.figure-index (omega arith) (omega arith))
+returns c =
+    let words = c.args.words.now in
+    let text = c.in_ok-text.text.now in
+    let figures = c.args.figures.now in
+    let cut = c.in_ok-text.ensures.cases in
+    let parts = c.as_chunks.ensures in
+    let many : length c.as_chunks.result.0.now ≡ length text / 17 = parts.front_len in
+    let none : length text % 17 ≡ 0 = sym parts.back_len ∙ eqb-true _ _ (sym c.is_empty.ensures ∙ c.if-not-is_empty.false) in
+    let s = c.as_slice.result.now in
+    let same : take (length s) words ≡ s = as-word refl cut.0 in
+    let two : take 2 words ≡ ok = rw c.as_slice.ensures at same in
+    let rest : text ≡ drop 2 words = rw c.as_slice.ensures at cut.1 in
+    on-then c.are_figures.result tt c.then_some.result c.then_some.ensures
+    (λ e.
+    let told = c.are_figures.ensures e in
+    let each = λ (k : ℕ) (h : k < length text / 17). ap (λ (l : List (List ℕ)). get_or l k []) (sym parts.front) ∙ told.1 k (omega (arith, h, many)) in
+    let figured : text ≡ figures_text figures = chunks-text (length text / 17) text figures (sym told.0 ∙ many) (omega (arith, none)) each in
+    let later : drop 2 words ≡ figures_text figures = sym rest ∙ figured in
+    sym (take-append-drop 2 words) ∙ rw (two, later))

@@ -1,15 +1,18 @@
 -- `sdc1d_params::build_all` meets its contract: a refusal leaves what was lent, and an admitted set is written. Assumes nothing.
 use mathlib.Core.Path.{◌≡◌, refl, sym, ◌∙◌}
 use Prim.Native.Nat.{◌*◌}
+use native.Mathlib.Omega.{arith}
 use lib.Ieee.{of_bits}
+use lib.Seq.{length-take-le}
 use Rattle.reply.specs.First.{first_of}
 use Rattle.reply.specs.declared.Refusal.TheVariants.{TwoStars}
 use Rattle.reply.proofs.Asked.{admits, exits}
 use Rattle.reply.proofs.Bare.{admitted, refusing}
 use Rattle.sdc_common.proofs.Fit.{fit-names, fit-glues}
+use Rattle.sdc1d_params.specs.Entries.{entry_rows}
 use Rattle.sdc1d_params.specs.inner.Set.{set_of}
 use Rattle.sdc1d_params.specs.Params.{Outcome, lent_of, param_checks, build_checks}
-use Rattle.sdc1d_params.proofs.Lengths.{Sized}
+use Rattle.sdc1d_params.proofs.Lengths.{Sized, few-entries}
 use Rattle.sdc1d_params.proofs.Passed.{build-refused, build-stars, build-none}
 use Rattle.sdc1d_params.proofs.Stars.{stars-said}
 use Rattle.sdc1d_params.proofs.Written.{kept, fits-tables, fits-sizes, fits-lengths, all-written}
@@ -29,10 +32,23 @@ passed c = admitted _ c.in_ok-check.ensures.value
 fit : (c : In_ok-check) → Sized (set_of c.args.set.now) (lent_of c.args.strand_glues.now c.args.scaffold_glues.now c.args.dg.now c.args.ds.now)
 fit c = fits-sizes _ _ (passed c)
 
+pub slice_bounds-cells-end : goal.slice_bounds-cells-end
+slice_bounds-cells-end c = let l = c.args.set.now.lent in few-entries l.text.now l.entries.now l.energies.now c.args.set.now.fit
+
+pub slice_bounds-cells-end-2 : goal.slice_bounds-cells-end-2
+slice_bounds-cells-end-2 c =
+    let l = c.args.set.now.lent in
+    sym (length-take-le (entry_rows l.entries.now) _ (let few = few-entries l.text.now l.entries.now l.energies.now c.args.set.now.fit in omega (arith, few)))
+
+pub check-requires-clause-cells_len : goal.check-requires-clause-cells_len
+check-requires-clause-cells_len c =
+    let l = c.args.set.now.lent in
+    length-take-le (entry_rows l.entries.now) _ (let few = few-entries l.text.now l.entries.now l.energies.now c.args.set.now.fit in omega (arith, few))
+
 pub refuses_names-requires : goal.refuses_names-requires
 refuses_names-requires c =
     let p = set_of c.args.set.now in
-    fit-names (3 * p.users) p.text c.args.set.now.strands.now (fit-glues p.users p.text p.strands (fit (goal.at.refuses_names-requires c).In_ok-check).strands)
+    fit-names (3 * p.users) p.text c.args.set.now.lent.strands.now (fit-glues p.users p.text p.strands (fit (goal.at.refuses_names-requires c).In_ok-check).strands)
 
 pub returns-in_err-refused_if : goal.returns-in_err-refused_if
 unfolding lent
@@ -75,4 +91,4 @@ returns c =
     let s = c.args.set.now in
     let so = goal.at.returns c in
     let built : first_of (build_checks c.args.build (set_of s) (lent so.Start)) ≡ Ok tt = sym (build-none c.args.build (set_of s) (lent so.Start) (sym (passed so.In_ok-check)) (stars-said (set_of s) c.args.build c.refuses_names.ensures (admits TwoStars c.refuses_names.result c.in_ok-refused_if.ensures))) in
-    all-written (set_of s) (lent so.Start) s.entries.now s.energies.now refl _ _ (c.in_ok-check.ensures.checked refl) c.args.build _ _ _ _ _ _ built c.write_strands.ensures c.write_scaffold.ensures (c.fill.ensures.after (λ y e. e)) (c.fill-2.ensures.after (λ y e. e)) c.fill_tables.ensures.dg_after c.fill_tables.ensures.ds_after
+    all-written (set_of s) (lent so.Start) s.lent.entries.now s.lent.energies.now refl _ _ (c.in_ok-check.ensures.checked refl) c.args.build _ _ _ _ _ _ built c.write_strands.ensures c.write_scaffold.ensures (c.fill.ensures.after (λ y e. e)) (c.fill-2.ensures.after (λ y e. e)) c.fill_tables.ensures.dg_after c.fill_tables.ensures.ds_after

@@ -31,19 +31,19 @@ size c = sym c.wrong_size.ensures ∙ admits WrongSize _ c.in_ok-refused_if.ensu
 fit : (c : In_ok-refused_if) → Sized (set_of c.args.set.now) (as_lent c.args.lent.now)
 fit c = sized (set_of c.args.set.now) (as_lent c.args.lent.now) (size c)
 
-base : (c : In_ok-refused_if-2) → any (has_bad_base c.args.set.now.text.now) (energies_of (set_of c.args.set.now)) ≡ false
+base : (c : In_ok-refused_if-2) → any (has_bad_base c.args.set.now.lent.text.now) (energies_of (set_of c.args.set.now)) ≡ false
 base c = sym c.any_bad_base.ensures ∙ admits NotABase _ c.in_ok-refused_if-2.ensures
 
-short : (c : In_ok-refused_if-3) → any (is_short c.args.set.now.text.now) (energies_of (set_of c.args.set.now)) ≡ false
+short : (c : In_ok-refused_if-3) → any (is_short c.args.set.now.lent.text.now) (energies_of (set_of c.args.set.now)) ≡ false
 short c = sym c.any_short.ensures ∙ admits TooShort _ c.in_ok-refused_if-3.ensures
 
-numbers : (c : After-fill_numbers) → c.fill_numbers.new.numbers ≡ numbers_among (strand_names (set_of c.args.set.now)) (glues_of c.args.set.now.text.now (names_of c.args.set.now.scaffold.now))
+numbers : (c : After-fill_numbers) → c.fill_numbers.new.numbers ≡ numbers_among (strand_names (set_of c.args.set.now)) (glues_of c.args.set.now.lent.text.now (names_of c.args.set.now.lent.scaffold.now))
 numbers c = numbers-among _ _ _ _ c.new-bases.ensures c.fill_numbers.ensures
 
-known : (c : In_ok-refused_if-4) → any (is_unknown (bases (set_of c.args.set.now))) (glues_of c.args.set.now.text.now (names_of c.args.set.now.scaffold.now)) ≡ false
+known : (c : In_ok-refused_if-4) → any (is_unknown (bases (set_of c.args.set.now))) (glues_of c.args.set.now.lent.text.now (names_of c.args.set.now.lent.scaffold.now)) ≡ false
 known c =
     let all = numbers-among _ _ _ _ c.new-bases.ensures c.fill_numbers.ensures in
-    sym (unknown-found (strand_names (set_of c.args.set.now)) c.args.set.now.text.now c.args.set.now.scaffold.now _ all) ∙ sym c.any_unknown-unknown.ensures ∙ admits UnknownName _ c.in_ok-refused_if-4.ensures
+    sym (unknown-found (strand_names (set_of c.args.set.now)) c.args.set.now.lent.text.now c.args.set.now.lent.scaffold.now _ all) ∙ sym c.any_unknown-unknown.ensures ∙ admits UnknownName _ c.in_ok-refused_if-4.ensures
 
 few : (c : In_ok-refused_if-5) → too_many_bases (strand_names (set_of c.args.set.now)) ≡ false
 few c = few-bases (set_of c.args.set.now) c.new-bases.result c.len.result (sym c.len.ensures) c.new-bases.ensures (ltb-false _ _ (admits TooManyGlues (ltb 31 c.len.result) c.in_ok-refused_if-5.ensures))
@@ -55,8 +55,8 @@ new-bases-requires c =
     let few = few-strands p.users p.text p.strands strands in
     let glues = fit-glues p.users p.text p.strands strands in
     record {
-      fit_names = fit-names (3 * p.users) p.text c.args.set.now.strands.now glues;
-      names_len_bound = omega (arith, rows-many (3 * p.users) p.text c.args.set.now.strands.now glues);
+      fit_names = fit-names (3 * p.users) p.text c.args.set.now.lent.strands.now glues;
+      names_len_bound = omega (arith, rows-many (3 * p.users) p.text c.args.set.now.lent.strands.now glues);
     }
 
 pub fill_numbers-requires : goal.fill_numbers-requires
@@ -64,8 +64,8 @@ fill_numbers-requires c =
     let s = c.args.set.now in
     let scaffold = (fit (goal.at.fill_numbers-requires c).In_ok-refused_if).scaffold in
     record {
-      fit_names = fit-names _ s.text.now s.scaffold.now scaffold;
-      numbers_len = c.requires.scaffold_glues_len_bound.1 ∙ sym (rows-many _ s.text.now s.scaffold.now scaffold);
+      fit_names = fit-names _ s.lent.text.now s.lent.scaffold.now scaffold;
+      numbers_len = c.requires.scaffold_glues_len_bound.1 ∙ sym (rows-many _ s.lent.text.now s.lent.scaffold.now scaffold);
     }
 
 pub any_unknown-unknown-requires : goal.any_unknown-unknown-requires
@@ -73,8 +73,8 @@ any_unknown-unknown-requires c =
     let s = c.args.set.now in
     let so = goal.at.any_unknown-unknown-requires c in
     record {
-      fit_names = fit-names _ s.text.now s.scaffold.now (fit so.In_ok-refused_if).scaffold;
-      numbers_len = numbers-length (strand_names (set_of s)) s.text.now s.scaffold.now _ (numbers so.After-fill_numbers);
+      fit_names = fit-names _ s.lent.text.now s.lent.scaffold.now (fit so.In_ok-refused_if).scaffold;
+      numbers_len = numbers-length (strand_names (set_of s)) s.lent.text.now s.lent.scaffold.now _ (numbers so.After-fill_numbers);
     }
 
 pub returns-in_err-refused_if-4-clause-value : goal.returns-in_err-refused_if-4-clause-value
@@ -82,7 +82,7 @@ returns-in_err-refused_if-4-clause-value c =
     let s = c.args.set.now in
     let so = goal.at.returns-in_err-refused_if-4-clause-value c in
     let q = exits c.from_residual-in_err-refused_if-4.result UnknownName c.any_unknown-unknown.result _ c.from_residual-in_err-refused_if-4.ensures.1 c.in_err-refused_if-4.ensures in
-    let found = unknown-found (strand_names (set_of s)) s.text.now s.scaffold.now _ (numbers so.After-fill_numbers) in
+    let found = unknown-found (strand_names (set_of s)) s.lent.text.now s.lent.scaffold.now _ (numbers so.After-fill_numbers) in
     q.1 ∙ ap bare (reply-unknown (set_of s) (as_lent c.args.lent.now) (size so.In_ok-refused_if) (base so.In_ok-refused_if-2) (short so.In_ok-refused_if-3) (sym found ∙ sym c.any_unknown-unknown.ensures ∙ q.0))
 
 pub returns-in_err-refused_if-5-clause-value : goal.returns-in_err-refused_if-5-clause-value

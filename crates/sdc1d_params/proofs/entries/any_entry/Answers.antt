@@ -14,16 +14,16 @@ loop-i-init g c p h = refl
 
 pub returns-then-test : goal.returns-then-test
 returns-then-test g c p h =
-    let f = entry_at c.args.entries.now c.args.energies.now in
+    let f = entry_at c.args.lent.now.entries.now c.args.lent.now.energies.now in
     let i = c.loop-i.i in
-    let in-rows : i < entry_rows c.args.entries.now = omega arith in
+    let in-rows : i < entry_rows c.args.lent.now.entries.now = omega arith in
     let here : p (f i) ≡ true = sym (h i _ in-rows (rw c.entry_at.ensures at c.test.ensures)) ∙ c.if-test.true in
-    sym (any_found p (entry_rows c.args.entries.now) f i in-rows here)
+    sym (any_found p (entry_rows c.args.lent.now.entries.now) f i in-rows here)
 
 pub loop-i-preserved : goal.loop-i-preserved
 loop-i-preserved g c p h =
-    let f = entry_at c.args.entries.now c.args.energies.now in
+    let f = entry_at c.args.lent.now.entries.now c.args.lent.now.energies.now in
     let i = c.loop-i.i in
-    let in-rows : i < entry_rows c.args.entries.now = omega arith in
+    let in-rows : i < entry_rows c.args.lent.now.entries.now = omega arith in
     let other : p (f i) ≡ false = sym (h i _ in-rows (rw c.entry_at.ensures at c.test.ensures)) ∙ c.if-test.false in
     any-more p f i (c.loop-i.invariant p h) other

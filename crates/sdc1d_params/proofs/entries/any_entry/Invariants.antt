@@ -11,5 +11,5 @@ use Rattle.sdc1d_params.proofs.entries.any_entry.Given as goal
 abbrev pub invariant-loop-i : goal.invariant-loop-i
 invariant-loop-i g l =
     (p : Entry → Bool)
-    → ((i : ℕ) (b : Bool) → i < entry_rows l.entries → goal.F-post g l.test (entry_at l.entries l.energies i) b → b ≡ p (entry_at l.entries l.energies i))
-    → any p (tabulate l.i (entry_at l.entries l.energies)) ≡ false
+    → ((i : ℕ) (b : Bool) → i < entry_rows l.lent.entries.now → goal.F-post g l.test (entry_at l.lent.entries.now l.lent.energies.now i) b → b ≡ p (entry_at l.lent.entries.now l.lent.energies.now i))
+    → any p (tabulate l.i (entry_at l.lent.entries.now l.lent.energies.now)) ≡ false

@@ -16,13 +16,13 @@ returns-then-entries-ne0 c =
       | then-entries-ne0-via-then-entries-ne0 w ↦ simp (ne_eqb _ _ w.if-entries-ne0.true)
       | then-entries-ne0-via-else-entries-ne0+then-energies-n w ↦ simp (eq-eqb _ _ w.if-entries-ne0.false, ne_eqb _ _ w.if-energies-n.true)
       | then-entries-ne0-via-else-entries-ne0+else-energies-n+then-n-gt-MOST_ENTRIES w ↦
-          simp (eq-eqb _ _ w.if-entries-ne0.false, eq-eqb _ _ w.if-energies-n.false, length-tabulate (entry_rows a.entries.now) (entry_at a.entries.now a.energies.now), lt-ltb _ _ w.if-n-gt-MOST_ENTRIES.true)
+          simp (eq-eqb _ _ w.if-entries-ne0.false, eq-eqb _ _ w.if-energies-n.false, length-tabulate (entry_rows a.lent.now.entries.now) (entry_at a.lent.now.entries.now a.lent.now.energies.now), lt-ltb _ _ w.if-n-gt-MOST_ENTRIES.true)
     ]
 
 pub returns : goal.returns
 unfolding unfit_entries
 returns c =
     let a = c.args in
-    let f = entry_at a.entries.now a.energies.now in
-    let found : c.any_entry.result ≡ any (unfit_entry a.text.now) (tabulate (entry_rows a.entries.now) f) = c.any_entry.ensures (unfit_entry a.text.now) (λ i b h k. search rules) in
-    simp (eq-eqb _ _ c.if-entries-ne0.false, eq-eqb _ _ c.if-energies-n.false, length-tabulate (entry_rows a.entries.now) f, le-ltb _ _ c.if-n-gt-MOST_ENTRIES.false) found
+    let f = entry_at a.lent.now.entries.now a.lent.now.energies.now in
+    let found : c.any_entry.result ≡ any (unfit_entry a.lent.now.text.now) (tabulate (entry_rows a.lent.now.entries.now) f) = c.any_entry.ensures (unfit_entry a.lent.now.text.now) (λ i b h k. search rules) in
+    simp (eq-eqb _ _ c.if-entries-ne0.false, eq-eqb _ _ c.if-energies-n.false, length-tabulate (entry_rows a.lent.now.entries.now) f, le-ltb _ _ c.if-n-gt-MOST_ENTRIES.false) found

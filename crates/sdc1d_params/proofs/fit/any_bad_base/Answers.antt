@@ -8,11 +8,11 @@ use Rattle.sdc1d_params.proofs.fit.any_bad_base.Goals as goal
 pub any_entry-requires : goal.any_entry-requires
 any_entry-requires c =
     let s = c.args.set.now in
-    let fit = fit-entries s.text.now s.entries.now s.energies.now s.fit in
+    let fit = fit-entries s.lent.text.now s.lent.entries.now s.lent.energies.now s.fit in
     record { two_each = fit.many; callable = λ i h. let e = fit.each i h in search rules }
 
 pub returns : goal.returns
 returns c =
     let s = c.args.set.now in
-    c.any_entry.ensures (λ e. has_bad_base s.text.now (energy_of e)) (λ i b h k. search rules)
-    ∙ any-map (has_bad_base s.text.now) energy_of (entries_of s.entries.now s.energies.now).each
+    c.any_entry.ensures (λ e. has_bad_base s.lent.text.now (energy_of e)) (λ i b h k. search rules)
+    ∙ any-map (has_bad_base s.lent.text.now) energy_of (entries_of s.lent.entries.now s.lent.energies.now).each

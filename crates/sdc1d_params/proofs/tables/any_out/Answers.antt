@@ -1,32 +1,40 @@
-use mathlib.Core.Path.{refl, sym, ap, ◌∙◌}
+-- `sdc1d_params::any_out` meets its contract: each cell is that of the entry at its place. Assumes nothing.
+use Rattle.std.proofs.Common.{rules, tests}
+use mathlib.Core.Path.{◌≡◌, ap, ◌∙◌}
+use Prim.Native.Nat.{ℕ, ◌+◌}
 use native.Mathlib.Omega.{arith}
 use lib.ListN.{get_or}
-use Rattle.lists.specs.Find.{any}
-use Rattle.lists.specs.Build.{tabulate}
-use Rattle.lists.proofs.Counted.{any-more, any_found}
-use Rattle.sdc1d_params.specs.Entries.{cell, energy_of, entry_rows}
-use Rattle.sdc1d_params.specs.Tables.{out_of_range}
+use Rattle.std.specs.List.{enumerate_from}
+use Rattle.std.proofs.lemmas.Iterator.{YieldsList-from_slice}
+use Rattle.std.proofs.lemmas.Iterator.Consumers.{YieldsList-from_enumerate}
+use Rattle.std.proofs.lemmas.Iterator.Adapters.{serves_from_places}
+use Rattle.std.proofs.lemmas.Iterator.Search.{any_from_yields_List}
+use Rattle.std.proofs.lemmas.List.FromFn.{get_or-enumerate_from, length-enumerate_from}
+use Rattle.lists.proofs.Searches.{any_is}
+use Rattle.sdc1d_params.specs.Entries.{Cell, cell, energy_of, entry_at, entry_rows}
+use Rattle.sdc1d_params.specs.Tables.{out_of_range, write_of}
 use Rattle.sdc1d_params.specs.inner.Cells.{write_at}
 use Rattle.sdc1d_params.proofs.Writes.{same_write}
+use Rattle.sdc_common.proofs.Fit.{any-rows}
 use Rattle.sdc1d_params.proofs.tables.any_out.Goals as goal
 
-pub loop-i-init : goal.loop-i-init
-unfolding any tabulate
-loop-i-init c = refl
+pub any-requires-clause-callable : goal.any-requires-clause-callable
+any-requires-clause-callable c =
+    serves_from_places (YieldsList-from_enumerate (YieldsList-from_slice c.args.cells.now cc) cc) (λ x q k. search rules)
+    (λ x k g e _ _ _ _ _ _ _.
+    let l = length-enumerate_from 0 c.args.cells.now in
+    let i = ap (λ (q : ℕ × Cell). q.0) (e ∙ get_or-enumerate_from 0 c.args.cells.now k (x.0, x.1.now) (omega (arith, g, l))) in
+    omega (arith, i, g, l, c.requires))
 
-pub returns-then-is_out : goal.returns-then-is_out
-returns-then-is_out c =
+pub returns : goal.returns
+returns c =
     let a = c.args in
-    let l = c.loop-i in
-    let n = c.requires in
-    let f = write_at a.set.now.text.now a.set.now.entries.now a.set.now.energies.now a.set.now.penalty.dg.0 a.set.now.penalty.ds.0 a.cells.now in
-    let made = same_write a.set.now.text.now a.set.now.penalty.dg.0 a.set.now.penalty.ds.0 (get_or a.cells.now l.i (cell 0 0)) (ap energy_of c.entry.ensures.1) (rw c.entry.ensures.0 at c.with_penalty.ensures.0) (rw c.entry.ensures.0 at c.with_penalty.ensures.1) in
-    sym (any_found out_of_range (entry_rows a.set.now.entries.now) f l.i (omega arith) (sym (ap out_of_range made) ∙ sym c.is_out.ensures ∙ c.if-is_out.true))
-
-pub loop-i-preserved : goal.loop-i-preserved
-loop-i-preserved c =
-    let a = c.args in
-    let l = c.loop-i in
-    let f = write_at a.set.now.text.now a.set.now.entries.now a.set.now.energies.now a.set.now.penalty.dg.0 a.set.now.penalty.ds.0 a.cells.now in
-    let made = same_write a.set.now.text.now a.set.now.penalty.dg.0 a.set.now.penalty.ds.0 (get_or a.cells.now l.i (cell 0 0)) (ap energy_of c.entry.ensures.1) (rw c.entry.ensures.0 at c.with_penalty.ensures.0) (rw c.entry.ensures.0 at c.with_penalty.ensures.1) in
-    any-more out_of_range f l.i l.invariant (sym (ap out_of_range made) ∙ sym c.is_out.ensures ∙ c.if-is_out.false)
+    let l = a.set.now.lent in
+    let n = entry_rows l.entries.now in
+    let f = write_at l.text.now l.entries.now l.energies.now l.penalty.dg.0 l.penalty.ds.0 a.cells.now in
+    let p = λ (q : ℕ × Cell). out_of_range (write_of l.text.now l.penalty.dg.0 l.penalty.ds.0 q.1 (energy_of (entry_at l.entries.now l.energies.now q.0))) in
+    let by_call = any_from_yields_List p c.any.new.self _ _ c.any.ensures.ran (YieldsList-from_enumerate (YieldsList-from_slice a.cells.now cc) cc) (λ x b q k. search (rules, tests, same_write)) in
+    let here = any-rows p out_of_range (0, cell 0 0) (enumerate_from 0 a.cells.now) n f (length-enumerate_from 0 a.cells.now ∙ c.requires) (λ k h.
+    let at : 0 + k ≡ k = omega arith in
+    ap p (get_or-enumerate_from 0 a.cells.now k (0, cell 0 0) (omega (arith, h, c.requires))) ∙ ap (λ (i : ℕ). p (i, get_or a.cells.now k (cell 0 0))) at) in
+    by_call ∙ any_is p (enumerate_from 0 a.cells.now) ∙ here

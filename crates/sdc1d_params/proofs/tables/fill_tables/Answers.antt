@@ -19,8 +19,8 @@ pub loop-i-preserved : goal.loop-i-preserved
 loop-i-preserved c =
     let a = c.args in
     let l = c.loop-i in
-    let f = write_at a.set.now.text.now a.set.now.entries.now a.set.now.energies.now a.set.now.penalty.dg.0 a.set.now.penalty.ds.0 a.cells.now in
-    let made = same_write a.set.now.text.now a.set.now.penalty.dg.0 a.set.now.penalty.ds.0 (get_or a.cells.now l.i (cell 0 0)) (ap energy_of c.entry.ensures.1) (rw c.entry.ensures.0 at c.with_penalty-sum.ensures.0) (rw c.entry.ensures.0 at c.with_penalty-sum.ensures.1) in
+    let f = write_at a.set.now.lent.text.now a.set.now.lent.entries.now a.set.now.lent.energies.now a.set.now.lent.penalty.dg.0 a.set.now.lent.penalty.ds.0 a.cells.now in
+    let made = same_write a.set.now.lent.text.now a.set.now.lent.penalty.dg.0 a.set.now.lent.penalty.ds.0 (get_or a.cells.now l.i (cell 0 0)) (ap energy_of c.entry.ensures.1) (rw c.entry.ensures.0 at c.with_penalty-sum.ensures.0) (rw c.entry.ensures.0 at c.with_penalty-sum.ensures.1) in
     let one = c.set_both.ensures ∙ ap₂ (λ (t : List Float) (w : Write). write_dg t w) l.invariant.0 made ∙ sym (fold_more write_dg a.dg.now f l.i) in
     let two = c.set_both-in-loop-i.ensures ∙ ap₂ (λ (t : List Float) (w : Write). write_ds t w) l.invariant.1 made ∙ sym (fold_more write_ds a.ds.now f l.i) in
     (one, two)

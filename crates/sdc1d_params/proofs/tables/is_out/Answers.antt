@@ -1,7 +1,7 @@
 -- `sdc1d_params::is_out` meets its contract: each range is that of its unit. Assumes nothing.
 use mathlib.Core.Path.{◌≡◌, refl, sym, ap, ◌∙◌}
 use mathlib.Core.Bool.{true, false, not}
-use lib.Ieee.{Float, binary64, of_bits}
+use lib.Ieee.{Float, binary64, of_bits, neg}
 use Rattle.doubles.specs.Decimal.{nearest}
 use Rattle.doubles.specs.Range.{in_range}
 use borrow.Author.Tests.{not-true, not-false}
@@ -10,12 +10,12 @@ use Rattle.sdc1d_params.specs.Tables.{dg_in_range, ds_in_range, out_of_range}
 use Rattle.doubles.specs.Range.{within}
 use Rattle.sdc1d_params.proofs.tables.is_out.Goals as goal
 
-dg-range : (x : Float) → dg_in_range x ≡ within (of_bits binary64 13875590451928498176) (of_bits binary64 4652218415073722368) x
-unfolding dg_in_range in_range nearest of_bits
+dg-range : (x : Float) → dg_in_range x ≡ within (neg (of_bits binary64 4652218415073722368)) (of_bits binary64 4652218415073722368) x
+unfolding dg_in_range in_range nearest of_bits neg
 dg-range x = refl
 
-ds-range : (x : Float) → ds_in_range x ≡ within (of_bits binary64 13844065254536904704) (of_bits binary64 4620693217682128896) x
-unfolding ds_in_range in_range nearest of_bits
+ds-range : (x : Float) → ds_in_range x ≡ within (neg (of_bits binary64 4620693217682128896)) (of_bits binary64 4620693217682128896) x
+unfolding ds_in_range in_range nearest of_bits neg
 ds-range x = refl
 
 pub returns-else-is_written : goal.returns-else-is_written

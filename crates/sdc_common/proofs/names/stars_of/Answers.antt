@@ -1,15 +1,19 @@
--- `sdc_common::stars_of` meets its contract: the stars are what the base lacks. Assumes nothing.
-use mathlib.Core.Path.{ap}
-use native.Mathlib.Omega.{arith}
-use lib.ListN.{length}
-use Rattle.sdc_common.specs.Names.{stars_of}
-use Rattle.sdc_common.proofs.Bases.{base-le}
-use Rattle.sdc_common.proofs.Held.{base-size}
+-- `sdc_common::stars_of` meets its contract: it counts from the end. Assumes nothing.
+use Rattle.std.proofs.Common.{rules, tests}
+use mathlib.Core.Path.{ap, ◌∙◌}
+use Prim.Native.Nat.{ℕ}
+use mathlib.Core.List.{reverse}
+use lib.ListN.{length, length-reverse}
+use Rattle.std.specs.Prelude.{Option}
+use Rattle.std.specs.Option.{unwrap_or}
+use Rattle.std.proofs.lemmas.Iterator.Adapters.{YieldsList-from_rev_slice}
+use Rattle.std.proofs.lemmas.Iterator.Search.{position_from_yields_List}
+use Rattle.lists.proofs.Searches.{position_first}
+use Rattle.sdc_common.proofs.Bases.{is_other, stars-first}
 use Rattle.sdc_common.proofs.names.stars_of.Goals as goal
 
-pub overflow_sub-result : goal.overflow_sub-result
-overflow_sub-result c = let name = c.args.name.now in omega (arith, ap length c.base_of.ensures, base-size name, base-le name)
-
 pub returns : goal.returns
-unfolding stars_of
-returns c = let name = c.args.name.now in omega (arith, ap length c.base_of.ensures, base-size name, base-le name)
+returns c =
+    let name = c.args.name.now in
+    let by_call = position_from_yields_List is_other _ _ c.position.result c.position.ensures.ran (YieldsList-from_rev_slice name cc) (λ x b q k. search (rules, tests)) in
+    c.unwrap_or.ensures ∙ ap (λ (r : Option ℕ). unwrap_or r (length name)) by_call ∙ rw (← length-reverse name) (position_first is_other (reverse name)) ∙ stars-first name

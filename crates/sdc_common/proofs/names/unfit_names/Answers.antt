@@ -1,57 +1,39 @@
+-- `sdc_common::unfit_names` meets its contract: each row is a name. Assumes nothing.
+use Rattle.std.proofs.Common.{rules, tests}
 use mathlib.Core.Path.{◌≡◌, refl, sym, ap, ◌∙◌}
-use mathlib.Core.Bool.{true, false}
-use Prim.Native.Nat.{ℕ, ◌/◌}
-use native.Mathlib.Omega.{arith}
+use mathlib.Core.Bool.{not, ◌||◌}
+use mathlib.Core.List.{List, []}
+use Prim.Native.Nat.{ℕ, ◌/◌, ◌%◌}
+use lib.Dec.{eqb}
 use lib.ListN.{length}
 use borrow.Author.Tests.{eq-eqb, ne_eqb}
-use Rattle.lists.specs.Find.{any}
-use Rattle.lists.specs.Build.{tabulate}
-use Rattle.lists.proofs.Build.{length-tabulate}
-use Rattle.lists.proofs.Counted.{any-more, any_found}
-use Rattle.sdc_common.specs.Lent.{name_at, unfit_glue, unfit_names}
+use Rattle.std.proofs.lemmas.Iterator.{YieldsList-from_slice}
+use Rattle.std.proofs.lemmas.Iterator.Search.{any_from_yields_List}
+use Rattle.lists.proofs.Searches.{any_is}
+use Rattle.sdc_common.specs.Lent.{name_at, unfit_glue}
+use Rattle.sdc_common.proofs.Fit.{any-rows, unfit-sizes, unfit-rows}
 use Rattle.sdc_common.proofs.names.unfit_names.Goals as goal
-use Rattle.sdc_common.proofs.names.unfit_names.Goals.{then-names-ne0-via-then-names-ne0, then-names-ne0-via-else-names-ne0+then-names-n}
+use Rattle.sdc_common.proofs.names.unfit_names.Goals.{then-names-ne0, else-names-ne0}
 
-pub returns-then-names-ne0 : goal.returns-then-names-ne0
-unfolding unfit_names
-returns-then-names-ne0 c =
-    let rows = c.args.names.now in
-    elim c.then-names-ne0.branch [
-      | then-names-ne0-via-then-names-ne0 w ↦ simp (ne_eqb _ _ w.if-names-ne0.true)
-      | then-names-ne0-via-else-names-ne0+then-names-n w ↦ simp (eq-eqb _ _ w.if-names-ne0.false, length-tabulate (length rows / 3) (name_at rows), ne_eqb _ _ w.if-names-n.true)
-    ]
-
-pub loop-row-init : goal.loop-row-init
-unfolding any tabulate
-loop-row-init c = refl
-
-pub returns-then-unfit_glue : goal.returns-then-unfit_glue
-unfolding unfit_names
-returns-then-unfit_glue c =
+pub returns-then-names-n : goal.returns-then-names-n
+returns-then-names-n c =
     let a = c.args in
-    let i = c.loop-row.row-index in
-    let rows = a.names.now in
-    let many = c.rows-row-items.ensures.len in
-    let here = c.from.ensures ∙ c.rows-row-items.ensures.by_index i (omega arith) in
-    let bad : unfit_glue a.text.now (name_at rows i) ≡ true = ap (unfit_glue a.text.now) (sym here) ∙ sym c.unfit_glue.ensures ∙ c.if-unfit_glue.true in
-    simp (eq-eqb _ _ c.if-names-ne0.false, length-tabulate (length rows / 3) (name_at rows), eq-eqb _ _ c.if-names-n.false, any_found (unfit_glue a.text.now) (length rows / 3) (name_at rows) i (omega arith) bad)
+    let n = length a.names.now in
+    let counted : c.if-names-ne0.value ≡ (not (eqb (n % 3) 0) || not (eqb (n / 3) a.n)) = elim c.if-names-ne0.branch [
+      | then-names-ne0 w ↦ w.value-is ∙ rw (ne_eqb _ _ w.if-names-ne0.true) refl
+      | else-names-ne0 w ↦ w.value-is ∙ ap (λ t. not t || not (eqb (n / 3) a.n)) (sym (eq-eqb _ _ w.if-names-ne0.false))
+    ] in
+    unfit-sizes a.n a.text.now a.names.now c.if-names-ne0.value counted c.if-names-n.true
 
-pub loop-row-preserved : goal.loop-row-preserved
-loop-row-preserved c =
+pub returns-else-names-n : goal.returns-else-names-n
+returns-else-names-n c =
     let a = c.args in
-    let i = c.loop-row.row-index in
-    let rows = a.names.now in
-    let many = c.rows-row-items.ensures.len in
-    let here = c.from.ensures ∙ c.rows-row-items.ensures.by_index i (omega arith) in
-    let good : unfit_glue a.text.now (name_at rows i) ≡ false = ap (unfit_glue a.text.now) (sym here) ∙ sym c.unfit_glue.ensures ∙ c.if-unfit_glue.false in
-    any-more (unfit_glue a.text.now) (name_at rows) i c.loop-row.invariant good
-
-pub returns : goal.returns
-unfolding unfit_names
-returns c =
-    let a = c.args in
-    let rows = a.names.now in
-    let many = c.rows-row-items.ensures.len in
-    let e : c.loop-row.row-index ≡ length rows / 3 = omega arith in
-    let none : any (unfit_glue a.text.now) (tabulate (length rows / 3) (name_at rows)) ≡ false = ap (λ (k : ℕ). any (unfit_glue a.text.now) (tabulate k (name_at rows))) (sym e) ∙ c.loop-row.invariant in
-    simp (eq-eqb _ _ c.if-names-ne0.false, length-tabulate (length rows / 3) (name_at rows), eq-eqb _ _ c.if-names-n.false, none)
+    let n = length a.names.now in
+    let counted : c.if-names-ne0.value ≡ (not (eqb (n % 3) 0) || not (eqb (n / 3) a.n)) = elim c.if-names-ne0.branch [
+      | then-names-ne0 w ↦ w.value-is ∙ rw (ne_eqb _ _ w.if-names-ne0.true) refl
+      | else-names-ne0 w ↦ w.value-is ∙ ap (λ t. not t || not (eqb (n / 3) a.n)) (sym (eq-eqb _ _ w.if-names-ne0.false))
+    ] in
+    let p = λ (row : List ℕ). unfit_glue a.text.now (name_at row 0) in
+    let by_call = any_from_yields_List p _ _ _ c.any.ensures.ran (YieldsList-from_slice c.rows.result.now cc) (λ x b q k. search (rules, tests)) in
+    let here = any-rows p (unfit_glue a.text.now) [] c.rows.result.now (n / 3) (name_at a.names.now) c.rows.ensures.len (λ k h. ap (unfit_glue a.text.now) (c.rows.ensures.by_index k h)) in
+    by_call ∙ any_is p c.rows.result.now ∙ here ∙ unfit-rows a.n a.text.now a.names.now c.if-names-ne0.value counted c.if-names-n.false

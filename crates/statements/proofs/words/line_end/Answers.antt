@@ -1,24 +1,15 @@
-use mathlib.Core.Path.{◌∙◌, ◌≡◌}
-use native.Mathlib.Omega.{arith}
-use lib.ListN.{length}
-use Rattle.statements.proofs.Bytes.{line-ends, line_on, line-last}
+-- `statements::words::line_end` meets its contract: up to the first newline. Assumes nothing.
+use Rattle.std.proofs.Common.{◌≡◌, ◌∙◌, ap, drop, arith}
+use Rattle.std.specs.List.{prefix_len}
+use Rattle.std.proofs.lemmas.List.{length-drop}
+use Rattle.statements.specs.Words.{not_newline}
+use Rattle.statements.proofs.Bytes.{rest_is, line_ends}
 use Rattle.statements.proofs.words.line_end.Goals as goal
-
-pub returns-then-text-end-eq10 : goal.returns-then-text-end-eq10
-returns-then-text-end-eq10 c =
-    let l = c.loop-end in
-    let a = c.args in
-    (omega arith, omega arith, l.invariant ∙ line-ends a.text.now l.end a.at (omega arith) c.if-text-end-eq10.true)
-
-pub loop-end-preserved : goal.loop-end-preserved
-loop-end-preserved c =
-    let l = c.loop-end in
-    let a = c.args in
-    l.invariant ∙ line_on a.text.now l.end a.at (omega arith) c.if-text-end-eq10.false
 
 pub returns : goal.returns
 returns c =
-    let l = c.loop-end in
-    let a = c.args in
-    let past : l.end ≡ length a.text.now = omega arith in
-    (omega arith, omega arith, rw (← past) (l.invariant ∙ line-last a.text.now l.end a.at (omega arith) (omega arith)))
+    let text = c.args.text.now in
+    let at = c.args.at in
+    let l = length-drop at text in
+    let n : c.line_length.result ≡ prefix_len not_newline (drop at text) = c.line_length.ensures.0 ∙ ap (prefix_len not_newline) (rest_is text at) in
+    (omega arith, omega (arith, l), line_ends text at c.line_length.result n c.requires)

@@ -18,11 +18,11 @@ returns-then-right-self c = λ m t.
     let inside = c.requires in
     let occupied = c.if-self-id-eq0.false in
     let right : drop (a.id + 1) s ≡ get_or s (a.id + 1) 0 ∷ drop (a.id + 1 + 1) s = rw (add-one (a.id + 1)) (drop-cons s (a.id + 1) 0 c.if-right-self.true) in
-    place-joined m a.id a.sum occupied (t.site a.id inside occupied) (t.log a.id inside occupied) (t.pair a.id c.if-right-self.true) right
+    place-joined m a.id a.sum occupied (t.site a.id inside occupied) (t.potential a.id inside occupied) (t.pair a.id c.if-right-self.true) right
 
 pub returns : goal.returns
 returns c = λ m t.
     let a = c.args in
     let inside = c.requires in
     let occupied = c.if-self-id-eq0.false in
-    place-last m a.id a.sum occupied (t.site a.id inside occupied) (t.log a.id inside occupied) (drop_of_length-le a.self.now.configuration.now c.if-right-self.false)
+    place-last m a.id a.sum occupied (t.site a.id inside occupied) (t.potential a.id inside occupied) (drop_of_length-le a.self.now.configuration.now c.if-right-self.false)

@@ -9,4 +9,4 @@ use Rattle.ensemble.proofs.energies.Places.chain_sum.Given as goal
 
 abbrev pub invariant-loop-position : goal.invariant-loop-position
 invariant-loop-position l =
-    (m : Model) → PlaceTerms m l.self.configuration.now l.self.sites.now l.self.pairs.now l.self.logs.now → chain_energy m l.self.configuration.now ≡ sum_from l.sum (chain_terms m l.position (left_of l.self.configuration.now l.position) (drop l.position l.self.configuration.now))
+    (m : Model) → PlaceTerms m l.self.configuration.now l.self.terms.now → chain_energy m l.self.configuration.now ≡ sum_from l.sum (chain_terms m l.position (left_of l.self.configuration.now l.position) (drop l.position l.self.configuration.now))

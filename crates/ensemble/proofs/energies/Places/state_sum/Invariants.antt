@@ -10,4 +10,4 @@ use Rattle.ensemble.proofs.energies.Places.state_sum.Given as goal
 
 abbrev pub invariant-loop-id : goal.invariant-loop-id
 invariant-loop-id l =
-    (m : Model) → PlaceTerms m l.self.configuration.now l.self.sites.now l.self.pairs.now l.self.logs.now → sum_from zero (state_terms m 0 l.self.configuration.now) ≡ sum_from l.sum (state_terms m l.id (drop l.id l.self.configuration.now))
+    (m : Model) → PlaceTerms m l.self.configuration.now l.self.terms.now → sum_from zero (state_terms m 0 l.self.configuration.now) ≡ sum_from l.sum (state_terms m l.id (drop l.id l.self.configuration.now))
