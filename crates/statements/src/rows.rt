@@ -8,19 +8,14 @@ ghost use Rattle.statements.specs.Rows.{position_row, rows_of_line, rows_of, cou
 use crate::ReadFault;
 use crate::grammar::Kind;
 use crate::statement::{Fault, Row, Statement, glue_of, statement_of};
-use crate::words::{bytes, line_end, next_word};
+use crate::words::{Words, bytes, line_end, next_word};
 
-// How many words stand from a place on. Where one begins is known only where the one before it ends, so a `while` asks for each.
+// How many words stand from a place on.
+#[tactic(auto, using(crate::proofs::Bytes::few_words))]
 fn count_words(line: &[u8], at: usize) -> usize
     ensures { result ≡ length (words_in line.now at) }
 {
-    let mut count = 0;
-    let mut from = at;
-    while let Some(word) = next_word(line, from) {
-        count += 1;
-        from = word.end();
-    }
-    count
+    Words { line, at }.count()
 }
 
 // How many rows the line has that begins at a place.
@@ -59,7 +54,7 @@ pub(crate) fn check(text: &[u8], room: usize) -> Result<usize, ReadFault>
     Ok(count)
 }
 
-// The positions of a line, of this kind, from row i on, and the row after them: word by word, as `count_words` counts.
+// The positions of a line, of this kind, from row i on, and the row after them.
 fn lay_positions(
     kind: Kind,
     line: &[u8],
@@ -72,11 +67,9 @@ fn lay_positions(
     ensures { (result ≡ i + length (words_in line.now at)) × (rows.new ≡ sets rows.old i (map (position_row kind line.now number) (words_in line.now at))) }
 {
     let mut next = i;
-    let mut from = at;
-    while let Some(word) = next_word(line, from) {
+    for word in (Words { line, at }) {
         rows[next] = Row::blank(kind, number).put(0, glue_of(bytes(line, word), word));
         next += 1;
-        from = word.end();
     }
     next
 }

@@ -6,7 +6,7 @@ ghost use Rattle.statements.specs.Grammar.{InRow};
 ghost use Rattle.statements.specs.Statement.{reason_of, blank, put, glue_of, accepted, closed, fit, statement_of};
 
 use crate::grammar::{Item, Kind};
-use crate::words::{Word, bytes, next_word};
+use crate::words::{Word, Words, bytes, next_word};
 use decimals::{NumberFault, read_number};
 
 // Why a line can't be read.
@@ -154,17 +154,19 @@ impl Row {
     }
 }
 
-// The row of the words after the keyword: word by word, each from where the one before it ends. What a word has to be hangs on those before it.
+// The row of the words after the keyword. What a word has to be hangs on those before it.
 fn fit(line: &[u8], key: Word, kind: Kind, number: usize) -> Result<Row, Fault>
     requires { Inside line.now key }
     ensures { result ≡ fit line.now key 0 (blank kind number) (words_in line.now (key.start + key.size)) }
 {
     let mut row = Row::blank(kind, number);
-    let mut at = key.end();
     let mut place = 0;
-    while let Some(word) = next_word(line, at) {
+    let words = Words {
+        line,
+        at: key.end(),
+    };
+    for word in words {
         row = row.accept(bytes(line, word), row.kind.item_at(place), word)?;
-        at = word.end();
         place += 1;
     }
     row.close(row.kind.item_at(place), key)

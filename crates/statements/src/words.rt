@@ -1,6 +1,7 @@
 // Lines and words of a text. A line is handed on as the text up to its end, so that places count from the text's first byte.
 ghost use Rattle.std.specs.Prelude.{◌≡◌, ◌∷◌, [], ◌+◌, ◌^◌, ◌≤◌, ◌<◌, length, drop, MatchOption};
 ghost use Rattle.std.specs.List.{prefix_len};
+ghost use Rattle.std.specs.Iterator.{YieldsFirst, item_count};
 ghost use Rattle.statements.specs.Words.{not_newline, is_blank, not_blank, words_in, IsNext, spelled, line_of, lines_from};
 
 // A word by its place in the text. In a row a size of 0 stands for no word.
@@ -69,6 +70,27 @@ pub(crate) fn next_word(line: &[u8], at: usize) -> Option<Word>
     }
     let size = word_length(&line[start..]);
     Some(Word { start, size })
+}
+
+// The words of a line from a place on.
+#[derive(Drop)]
+pub(crate) struct Words<'a> {
+    pub(crate) line: &'a [u8],
+    pub(crate) at: usize,
+}
+
+impl<'a> Iterator for Words<'a> {
+    type Item = Word;
+
+    ghost next_gives = { YieldsFirst (λ words. words_in words.line.now words.at) };
+
+    ghost remaining = { item_count (λ words. words_in words.line.now words.at) };
+
+    fn next(&mut self) -> Option<Word> {
+        let word = next_word(self.line, self.at)?;
+        self.at = word.end();
+        Some(word)
+    }
 }
 
 // The bytes of a word, as far as they stand in the text.
