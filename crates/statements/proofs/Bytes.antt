@@ -88,9 +88,9 @@ module _ (text : List ℕ) (at : ℕ) where
       rw rest at (rw (← e) at whole)
 
   -- past the text's end there is none
-  pub lines-past : length text ≤ at → lines_from at at (drop at text) ≡ []
+  pub lines_past : length text ≤ at → lines_from at at (drop at text) ≡ []
   unfolding lines_from
-  lines-past h = rw (drop_of_length-le text h) (simp (le-ltb at at (omega arith)))
+  lines_past h = rw (drop_of_length-le text h) (simp (le-ltb at at (omega arith)))
 
   -- after the blanks the words are the same
   pub blanks_on : (n : ℕ) → n ≡ prefix_len is_blank (drop at text) → words_in text at ≡ words_in text (at + n)

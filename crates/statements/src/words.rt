@@ -1,4 +1,4 @@
-// Lines and words of a text. A line is handed on as the text up to its end, so that places count from the text's first byte.
+// Lines and words of a text.
 ghost use Rattle.std.specs.Prelude.{◌≡◌, ◌∷◌, [], ◌+◌, ◌^◌, ◌≤◌, ◌<◌, length, drop, MatchOption};
 ghost use Rattle.std.specs.List.{prefix_len};
 ghost use Rattle.std.specs.Iterator.{YieldsFirst, item_count};
@@ -29,11 +29,66 @@ fn line_length(text: &[u8]) -> usize
 }
 
 // The end of the line that begins at a place: the next newline, or the text's end.
-pub(crate) fn line_end(text: &[u8], at: usize) -> usize
+fn line_end(text: &[u8], at: usize) -> usize
     requires { at < length text.now }
     ensures { (at ≤ result) × (result ≤ length text.now) × (lines_from at at (drop at text.now) ≡ line_of at result ∷ lines_from (result + 1) (result + 1) (drop (result + 1) text.now)) }
 {
     at + line_length(&text[at..])
+}
+
+// A line: the text up to its end, so that places count from the text's first byte, where it begins, and its number, from 1.
+#[derive(Clone, Copy)]
+pub(crate) struct NumberedLine<'a> {
+    pub(crate) text: &'a [u8],
+    pub(crate) start: usize,
+    pub(crate) number: usize,
+}
+
+// The lines of a text. None follows the last newline.
+#[derive(Drop)]
+pub(crate) struct Lines<'a> {
+    text: &'a [u8],
+    at: usize,
+    number: usize,
+    ghost in_text: { (at ≤ length text.now + 1) × (number ≤ at + 1) },
+}
+
+impl<'a> Lines<'a> {
+    pub(crate) fn of(text: &'a [u8]) -> Self
+        ensures { (result.text.now ≡ text.now) × (result.at ≡ 0) × (result.number ≡ 1) }
+    {
+        Lines {
+            text,
+            at: 0,
+            number: 1,
+        }
+    }
+}
+
+impl<'a> Iterator for Lines<'a> {
+    ghost use Rattle.statements.specs.Lines.{lines_left, GivesLine};
+
+    type Item = NumberedLine<'a>;
+
+    ghost next_gives = { GivesLine };
+
+    ghost remaining = { item_count lines_left };
+
+    #[tactic(auto, using(crate::proofs::Bytes::lines_past))]
+    fn next(&mut self) -> Option<NumberedLine<'a>> {
+        if self.text.len() <= self.at {
+            return None;
+        }
+        let end = line_end(self.text, self.at);
+        let line = NumberedLine {
+            text: &self.text[..end],
+            start: self.at,
+            number: self.number,
+        };
+        self.at = end + 1;
+        self.number += 1;
+        Some(line)
+    }
 }
 
 // Space, tab and carriage return.
@@ -75,8 +130,16 @@ pub(crate) fn next_word(line: &[u8], at: usize) -> Option<Word>
 // The words of a line from a place on.
 #[derive(Drop)]
 pub(crate) struct Words<'a> {
-    pub(crate) line: &'a [u8],
-    pub(crate) at: usize,
+    line: &'a [u8],
+    at: usize,
+}
+
+impl<'a> Words<'a> {
+    pub(crate) fn of(line: &'a [u8], at: usize) -> Self
+        ensures { (result.line.now ≡ line.now) × (result.at ≡ at) }
+    {
+        Words { line, at }
+    }
 }
 
 impl<'a> Iterator for Words<'a> {

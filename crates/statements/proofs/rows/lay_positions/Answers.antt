@@ -17,8 +17,8 @@ loop-word-preserved c =
     let rest = words_in c.next.new.self.line.now c.next.new.self.at in
     let more : words ≡ word ∷ rest = c.in-Some.ensures.steps in
     let count = ap length more in
-    let made : c.put.result ≡ position_row a.kind a.line.now a.number word = rw (c.put.ensures, c.glue_of.ensures, c.bytes.ensures, c.blank.ensures) in (
+    let made : c.put.result ≡ position_row a.kind a.line.now.text.now a.line.now.number word = rw (c.put.ensures, c.glue_of.ensures, c.bytes.ensures, c.blank.ensures) in (
       length-set l.rows l.next c.put.result ∙ l.invariant.0,
       omega arith,
-      position-step (position_row a.kind a.line.now a.number) words rest word more l.rows l.next c.put.result made ∙ l.invariant.2,
+      position-step (position_row a.kind a.line.now.text.now a.line.now.number) words rest word more l.rows l.next c.put.result made ∙ l.invariant.2,
     )

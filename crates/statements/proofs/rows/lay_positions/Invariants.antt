@@ -11,5 +11,5 @@ use Rattle.statements.proofs.rows.lay_positions.Given as goal
 abbrev pub invariant-loop-word : goal.invariant-loop-word
 invariant-loop-word l =
     let rest = words_in l.word-iterator.line.now l.word-iterator.at in
-    (length l.rows ≡ length l.initial.rows) × (l.next + length rest ≡ l.i + length (words_in l.line l.at))
-    × (sets l.rows l.next (map (position_row l.kind l.line l.number) rest) ≡ sets l.initial.rows l.i (map (position_row l.kind l.line l.number) (words_in l.line l.at)))
+    (length l.rows ≡ length l.initial.rows) × (l.next + length rest ≡ l.i + length (words_in l.line.text.now l.at))
+    × (sets l.rows l.next (map (position_row l.kind l.line.text.now l.line.number) rest) ≡ sets l.initial.rows l.i (map (position_row l.kind l.line.text.now l.line.number) (words_in l.line.text.now l.at)))

@@ -11,13 +11,13 @@ use Rattle.statements.proofs.statement.fit.Goals as goal
 
 pub loop-word-init : goal.loop-word-init
 loop-word-init c =
-    let few = few_words c.args.line.now c.end.result in
-    rw (c.into_iter-word-iterator.ensures.into_iter_gives) (omega (arith, few), rw (c.blank-row.ensures, c.end.ensures) refl)
+    let few = few_words c.args.line.now.text.now c.end.result in
+    rw (c.into_iter-word-iterator.ensures.into_iter_gives, c.of-word-items.ensures.0, c.of-word-items.ensures.1) (omega (arith, few), rw (c.blank-row.ensures, c.end.ensures) refl)
 
 pub returns-in_err-row : goal.returns-in_err-row
 returns-in_err-row c =
     let l = c.loop-word in
-    let line = c.args.line.now in
+    let line = c.args.line.now.text.now in
     let word = c.in-Some.word in
     let words = words_in l.word-iterator.line.now l.word-iterator.at in
     let rest = words_in c.next.new.self.line.now c.next.new.self.at in
@@ -30,7 +30,7 @@ returns-in_err-row c =
 pub loop-word-preserved : goal.loop-word-preserved
 loop-word-preserved c =
     let l = c.loop-word in
-    let line = c.args.line.now in
+    let line = c.args.line.now.text.now in
     let word = c.in-Some.word in
     let words = words_in l.word-iterator.line.now l.word-iterator.at in
     let rest = words_in c.next.new.self.line.now c.next.new.self.at in
@@ -45,4 +45,4 @@ loop-word-preserved c =
 pub returns : goal.returns
 returns c =
     let l = c.loop-word in
-    c.close.ensures ∙ fit-done c.args.line.now c.args.key l.place l.row c.item_at-2.result c.item_at-2.ensures.value (words_in l.word-iterator.line.now l.word-iterator.at) c.in-None.ensures.steps.0 ∙ sym l.invariant.1
+    c.close.ensures ∙ fit-done c.args.line.now.text.now c.args.key l.place l.row c.item_at-2.result c.item_at-2.ensures.value (words_in l.word-iterator.line.now l.word-iterator.at) c.in-None.ensures.steps.0 ∙ sym l.invariant.1
