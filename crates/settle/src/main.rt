@@ -6,7 +6,6 @@
 
 mod build;
 mod file;
-mod lines;
 mod place;
 mod reads;
 mod report;

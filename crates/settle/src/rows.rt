@@ -1,5 +1,4 @@
 // A file's rows, and what is looked for among them.
-use crate::lines::word_on_line;
 use crate::reads::first;
 use answers::reasons::Why;
 use answers::{Found, Spot};
@@ -7,7 +6,7 @@ use sheet::faults::Counts;
 use sheet::rows::{Chosen, Group};
 use statements::grammar::Kind;
 use statements::statement::Row;
-use statements::words::Word;
+use statements::words::{Lines, Word, Words};
 
 // A file whose every line can be read: its text, its rows, those of its strands, and how many strands, positions and entries it has.
 #[derive(Clone, Copy)]
@@ -16,6 +15,12 @@ pub(crate) struct Sheet<'a> {
     pub(crate) rows: &'a [Row],
     pub(crate) strands: Chosen<'a>,
     pub(crate) counts: Counts,
+}
+
+// The n-th word of a line, both counted from 1. The rows have the words that are names; a number or a keyword is found here.
+fn word_on_line(text: &[u8], line: usize, n: usize) -> Option<Word> {
+    let line = Lines::of(text).nth(line.checked_sub(1)?)?;
+    Words::of(line.text, line.start).nth(n.checked_sub(1)?)
 }
 
 // A reason that lies in a line.

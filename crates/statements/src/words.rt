@@ -38,15 +38,15 @@ fn line_end(text: &[u8], at: usize) -> usize
 
 // A line: the text up to its end, so that places count from the text's first byte, where it begins, and its number, from 1.
 #[derive(Clone, Copy)]
-pub(crate) struct NumberedLine<'a> {
-    pub(crate) text: &'a [u8],
-    pub(crate) start: usize,
-    pub(crate) number: usize,
+pub struct NumberedLine<'a> {
+    pub text: &'a [u8],
+    pub start: usize,
+    pub number: usize,
 }
 
 // The lines of a text. None follows the last newline.
 #[derive(Drop)]
-pub(crate) struct Lines<'a> {
+pub struct Lines<'a> {
     text: &'a [u8],
     at: usize,
     number: usize,
@@ -54,7 +54,7 @@ pub(crate) struct Lines<'a> {
 }
 
 impl<'a> Lines<'a> {
-    pub(crate) fn of(text: &'a [u8]) -> Self
+    pub fn of(text: &'a [u8]) -> Self
         ensures { (result.text.now ≡ text.now) × (result.at ≡ 0) × (result.number ≡ 1) }
     {
         Lines {
@@ -129,13 +129,13 @@ pub(crate) fn next_word(line: &[u8], at: usize) -> Option<Word>
 
 // The words of a line from a place on.
 #[derive(Drop)]
-pub(crate) struct Words<'a> {
+pub struct Words<'a> {
     line: &'a [u8],
     at: usize,
 }
 
 impl<'a> Words<'a> {
-    pub(crate) fn of(line: &'a [u8], at: usize) -> Self
+    pub fn of(line: &'a [u8], at: usize) -> Self
         ensures { (result.line.now ≡ line.now) × (result.at ≡ at) }
     {
         Words { line, at }
