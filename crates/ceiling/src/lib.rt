@@ -11,8 +11,7 @@ ghost use Rattle.ceiling.specs.Answers.{counted_answer, counted_entries, ceiling
 ghost use Rattle.ceiling.specs.inner.Found.{FoundUnder};
 
 use design::Design;
-use design::checks::{numbers_reply, ranged_reply};
-use design::passed::{AdmittedDesign, TabledDesign};
+use design::passed::{AdmittedDesign, TabledDesign, ranged};
 use ensemble::bonds::{Bonds, SCAFFOLD_BONDS, STRAND_BONDS};
 use ensemble::lent::LentModel;
 use ensemble::options::{OPTIONS, Options};
@@ -67,8 +66,8 @@ fn counted(
     let counts = &mut counts[..design.positions()];
     let Counted { options, states } = count_options(tabled, &mut rows, counts);
     refused_if(Refusal::TooManyStates, MOST_STATES < states)?;
-    numbers_reply(design)?;
-    let found = search_states(&AdmittedDesign { design }, &options, ceiling, entries);
+    let admitted = tabled.admitted()?;
+    let found = search_states(&admitted, &options, ceiling, entries);
     Ok(KcalPerMol(found.ok_or(Refusal::NoneUnder)?))
 }
 
@@ -82,6 +81,6 @@ pub fn first_state_under(
     ensures entries_after { entries.new ≡ ceiling_entries design.now ceiling.0 entries.old }
 {
     let own_size = entries.len() != design.positions();
-    ranged_reply(own_size, !ceiling.0.is_finite(), design)?;
-    counted(&TabledDesign { design }, ceiling, entries)
+    let tabled = ranged(own_size, !ceiling.0.is_finite(), design)?;
+    counted(&tabled, ceiling, entries)
 }

@@ -7,7 +7,7 @@ ghost use Rattle.reply.specs.First.{first_of, ◌if◌at◌};
 ghost use Rattle.reply.specs.declared.Refusal.TheVariants.{OutOfRange, AmbientOut};
 ghost use Rattle.design.specs.Design.{positions, strands};
 ghost use Rattle.design.specs.Places.{potential_out};
-ghost use Rattle.design.specs.Checks.{sizes_out, outside, cells_out, bad_cell, ambient_out, bad_ambient, null_cells, null_binds, ranged_checks, table_checks, number_checks, design_checks, TablesPass, Admitted};
+ghost use Rattle.design.specs.Checks.{sizes_out, outside, cells_out, bad_cell, ambient_out, bad_ambient, null_cells, null_binds, ranged_checks, number_checks, TablesPass, Admitted};
 
 use super::Design;
 use super::friends::BLOCKED;
@@ -164,18 +164,6 @@ pub fn ranged_reply(own_size: bool, own_range: bool, design: &Design) -> Result<
     Ok(())
 }
 
-// The same of a call that finds nothing else out of range.
-pub fn tables_reply(own_size: bool, design: &Design) -> Result<(), Refused>
-    ensures value { result ≡ first_of (table_checks own_size design.now.scaffold design.now.marks design.now.glues design.now.dg design.now.ds design.now.potentials) }
-    ensures own { OnOk result (own_size ≡ false) }
-    ensures tables { OnOk result (TablesPass design.now) }
-    ensures short { OnOk result (positions design.now ≤ 128) }
-    ensures some { OnOk result (0 < strands design.now) }
-    ensures few { OnOk result (strands design.now ≤ 64) }
-{
-    ranged_reply(own_size, false, design)
-}
-
 // The first of the checks of a design's numbers that holds: its ambient, and the potentials that are read.
 pub fn numbers_reply(design: &Design) -> Result<(), Refused>
     requires { strands design.now ≤ 64 }
@@ -190,17 +178,4 @@ pub fn numbers_reply(design: &Design) -> Result<(), Refused>
         }),
         None => Ok(()),
     }
-}
-
-// The first check of a design that holds, of a call that has none of its own but of a size.
-pub fn design_reply(own_size: bool, design: &Design) -> Result<(), Refused>
-    ensures value { result ≡ first_of (design_checks own_size design.now [] []) }
-    ensures own { OnOk result (own_size ≡ false) }
-    ensures design { OnOk result (Admitted design.now) }
-    ensures short { OnOk result (positions design.now ≤ 128) }
-    ensures some { OnOk result (0 < strands design.now) }
-    ensures few { OnOk result (strands design.now ≤ 64) }
-{
-    tables_reply(own_size, design)?;
-    numbers_reply(design)
 }

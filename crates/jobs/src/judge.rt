@@ -7,8 +7,8 @@ ghost use Rattle.jobs.specs.inner.Judged.{JudgedRight, judged_reply};
 
 use super::job::Job;
 use design::Design;
-use design::checks::{numbers_reply, tables_reply};
-use design::passed::TabledDesign;
+use design::checks::numbers_reply;
+use design::passed::tabled;
 use ensemble::states::MOST_STATES;
 use prepared::options::{Counted, count_options};
 use reply::{ANSWERED, Refusal, refused_if};
@@ -59,9 +59,9 @@ pub(crate) fn judge<'a>(
     ensures judged_right { JudgedRight design.now result }
     ensures options { IfOk result (λ judged. OptionRows (model_of design.now) judged.counted.options.rows.now judged.counted.options.counts.now × (judged.counted.options.strands ≡ strands design.now)) }
 {
-    tables_reply(false, design).map_err(|refused| refused.refusal)?;
+    let tabled = tabled(false, design).map_err(|refused| refused.refusal)?;
     let counts = &mut counts[..design.positions()];
-    let counted = count_options(&TabledDesign { design }, rows, counts);
+    let counted = count_options(&tabled, rows, counts);
     let numbers = numbers_reply(design).map_err(|refused| refused.refusal);
     Ok(Judged { counted, numbers })
 }

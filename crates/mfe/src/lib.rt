@@ -10,10 +10,9 @@ ghost use Rattle.design.specs.Answers.{energy_figures};
 ghost use Rattle.mfe.specs.Answers.{search_answer, search_entries, LowestShown};
 
 use design::Design;
-use design::checks::design_reply;
 use design::needed::{fill_closing_bonds, fill_needed_scaffold_bonds, fill_read_strand_bonds};
 use design::options::options_of;
-use design::passed::AdmittedDesign;
+use design::passed::{AdmittedDesign, admitted};
 use ensemble::bonds::{Bonds, SCAFFOLD_BONDS, STRAND_BONDS};
 use ensemble::lent::LentModel;
 use ensemble::lowest::lowest;
@@ -89,7 +88,7 @@ pub fn mfe_configuration(design: &Design, configuration: &mut [u8]) -> Result<Kc
     ensures configuration_after { configuration.new ≡ search_entries design.now configuration.old }
     ensures lowest_shown { LowestShown design.now configuration.old configuration.new result }
 {
-    design_reply(configuration.len() != design.positions(), design)?;
+    let admitted = admitted(configuration.len() != design.positions(), design)?;
     design.hold_doubles();
-    Ok(searched::<false>(&AdmittedDesign { design }, configuration))
+    Ok(searched::<false>(&admitted, configuration))
 }

@@ -7,8 +7,7 @@ ghost use Rattle.design.specs.Answers.{energy_figures};
 ghost use Rattle.ring.specs.Answers.{ring_energy_answer, ring_search_answer, ring_search_entries, LowestRingShown};
 
 use design::Design;
-use design::checks::design_reply;
-use design::passed::AdmittedDesign;
+use design::passed::admitted;
 use design::terms::fill_terms;
 use ensemble::energies::{Places, Terms};
 use mfe::searched;
@@ -45,8 +44,8 @@ pub fn ring_configuration(design: &Design, configuration: &mut [u8]) -> Result<K
     ensures configuration_after { configuration.new ≡ ring_search_entries design.now configuration.old }
     ensures lowest_ring_shown { LowestRingShown design.now configuration.old configuration.new result }
 {
-    design_reply(configuration.len() != design.positions(), design)?;
+    let admitted = admitted(configuration.len() != design.positions(), design)?;
     refused_if(Refusal::NotARing, design.positions() < LEAST_RING)?;
     design.hold_doubles();
-    Ok(searched::<true>(&AdmittedDesign { design }, configuration))
+    Ok(searched::<true>(&admitted, configuration))
 }
