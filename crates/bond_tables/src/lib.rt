@@ -17,14 +17,13 @@ ghost use Rattle.bond_tables.specs.Answers.{fill_answer, filled_strands, filled_
 
 use checks::{bonds_reply, wrong_tables};
 use design::Design;
-use design::options::options_of;
+use design::options::OptionRoom;
 use design::passed::{AdmittedDesign, admitted};
 use design::tables::{fill_scaffold_bonds, fill_strand_bonds};
 use ensemble::bonds::Bonds;
 use ensemble::energies::{Places, Terms};
 use ensemble::lent::LentModel;
 use ensemble::lowest::lowest;
-use ensemble::options::OPTIONS;
 use reply::Refused;
 use reply::limits::POSITIONS;
 use sdc1d::{energy_reply, number_of_states, state_at_rank};
@@ -109,13 +108,8 @@ fn lowest_over<'a>(
     ensures { Found (model_over admitted.now tables.now.strand_bonds.now tables.now.scaffold_bonds.now) configuration.new result.0 }
 {
     let design = admitted.design;
-    let mut rows = [0u8; OPTIONS];
-    let mut counts = [0u8; POSITIONS];
-    let options = options_of(
-        &admitted.tabled(),
-        &mut rows,
-        &mut counts[..design.positions()],
-    );
+    let mut room = OptionRoom::EMPTY;
+    let options = room.options_of(&admitted.tabled());
     let bonds = Bonds::new(
         tables.strand_bonds,
         tables.scaffold_bonds,

@@ -11,15 +11,15 @@ ghost use Rattle.ceiling.specs.Answers.{counted_answer, counted_entries, ceiling
 ghost use Rattle.ceiling.specs.inner.Found.{FoundUnder};
 
 use design::Design;
+use design::options::OptionRoom;
 use design::passed::{AdmittedDesign, TabledDesign, ranged};
 use ensemble::bonds::{Bonds, SCAFFOLD_BONDS, STRAND_BONDS};
 use ensemble::lent::LentModel;
-use ensemble::options::{OPTIONS, Options};
+use ensemble::options::Options;
 use ensemble::states::MOST_STATES;
 use prepared::bonds::fill_bonds;
 use prepared::options::{Counted, count_options};
 use prepared::sums::Begun;
-use reply::limits::POSITIONS;
 use reply::{Refusal, Refused, refused_if};
 use under::{Limit, under_from};
 use units::KcalPerMol;
@@ -60,11 +60,8 @@ fn counted(
     ensures result_value { energy_figures result ≡ counted_answer tabled.now ceiling.0 }
     ensures entries_after { entries.new ≡ counted_entries tabled.now ceiling.0 entries.old }
 {
-    let design = tabled.design;
-    let mut rows = [0; OPTIONS];
-    let mut counts = [0; POSITIONS];
-    let counts = &mut counts[..design.positions()];
-    let Counted { options, states } = count_options(tabled, &mut rows, counts);
+    let mut room = OptionRoom::EMPTY;
+    let Counted { options, states } = count_options(tabled, &mut room);
     refused_if(Refusal::TooManyStates, MOST_STATES < states)?;
     let admitted = tabled.admitted()?;
     let found = search_states(&admitted, &options, ceiling, entries);

@@ -7,7 +7,8 @@ ghost use Rattle.design.specs.Filling.{NullNowhere, Optioned};
 
 use super::Design;
 use super::passed::TabledDesign;
-use ensemble::options::Options;
+use ensemble::options::{OPTIONS, Options};
+use reply::limits::POSITIONS;
 
 // Writes the friends into the first entries, and says how many there are.
 pub fn write_friends(design: &Design, scaffold_glue: u8, entries: &mut [u8]) -> usize
@@ -64,23 +65,33 @@ pub fn fill_options(design: &Design, rows: &mut [u8], counts: &mut [u8])
     }
 }
 
-// The same of a design whose tables pass, handed back as they are lent to a search.
-pub fn options_of<'a>(
-    tabled: &TabledDesign,
-    rows: &'a mut [u8],
-    counts: &'a mut [u8],
-) -> Options<'a>
-    requires rows_in_bounds { 64 * positions tabled.now ≤ length rows.old }
-    requires counts_len { length counts.old ≡ positions tabled.now }
-    ensures same_strands { result.strands ≡ strands tabled.now }
-    ensures option_rows { (m : Model) → m.friends ≡ (model_of tabled.now).friends → OptionRows m result.rows.now result.counts.now }
-    ensures rows_len { length result.rows.now ≡ length rows.old }
-    ensures counts_len { length result.counts.now ≡ positions tabled.now }
-{
-    fill_options(tabled.design, rows, counts);
-    Options {
-        rows,
-        counts,
-        strands: tabled.design.strands(),
+// Room for the options of as many positions as there may be.
+pub struct OptionRoom {
+    pub rows: [u8; OPTIONS],
+    pub counts: [u8; POSITIONS],
+}
+
+impl OptionRoom {
+    // Room that nothing is written into.
+    pub const EMPTY: OptionRoom = OptionRoom {
+        rows: [0; OPTIONS],
+        counts: [0; POSITIONS],
+    };
+
+    // The options of a design whose tables pass, as they are lent to a search.
+    pub fn options_of(&mut self, tabled: &TabledDesign) -> Options<'_>
+        ensures same_strands { result.strands ≡ strands tabled.now }
+        ensures option_rows { (m : Model) → m.friends ≡ (model_of tabled.now).friends → OptionRows m result.rows.now result.counts.now }
+        ensures counts_len { length result.counts.now ≡ positions tabled.now }
+    {
+        let design = tabled.design;
+        let OptionRoom { rows, counts } = self;
+        let counts = &mut counts[..design.positions()];
+        fill_options(design, rows, counts);
+        Options {
+            rows,
+            counts,
+            strands: design.strands(),
+        }
     }
 }

@@ -1,5 +1,5 @@
 // What a design is judged for, once for all jobs of a sheet, and the number of each job by it.
-ghost use Rattle.std.specs.Prelude.{◌≡◌, length, IfOk};
+ghost use Rattle.std.specs.Prelude.{◌≡◌, IfOk};
 ghost use Rattle.ensemble.specs.Layout.{OptionRows};
 ghost use Rattle.design.specs.Design.{Design, strands, model_of};
 ghost use Rattle.jobs.specs.Job.{number_for};
@@ -8,6 +8,7 @@ ghost use Rattle.jobs.specs.inner.Judged.{JudgedRight, judged_reply};
 use super::job::Job;
 use design::Design;
 use design::checks::numbers_reply;
+use design::options::OptionRoom;
 use design::passed::tabled;
 use ensemble::states::MOST_STATES;
 use prepared::options::{Counted, count_options};
@@ -51,17 +52,13 @@ pub(crate) fn job_number(asked: Option<Job>, judged: &Result<Judged, Refusal>) -
 // Judges a design: a job's reply has no place.
 pub(crate) fn judge<'a>(
     design: &Design,
-    rows: &'a mut [u8],
-    counts: &'a mut [u8],
+    room: &'a mut OptionRoom,
 ) -> Result<Judged<'a>, Refusal>
-    requires rows_len { length rows.old ≡ 8192 }
-    requires counts_len { length counts.old ≡ 128 }
     ensures judged_right { JudgedRight design.now result }
     ensures options { IfOk result (λ judged. OptionRows (model_of design.now) judged.counted.options.rows.now judged.counted.options.counts.now × (judged.counted.options.strands ≡ strands design.now)) }
 {
     let tabled = tabled(false, design).map_err(|refused| refused.refusal)?;
-    let counts = &mut counts[..design.positions()];
-    let counted = count_options(&tabled, rows, counts);
+    let counted = count_options(&tabled, room);
     let numbers = numbers_reply(design).map_err(|refused| refused.refusal);
     Ok(Judged { counted, numbers })
 }

@@ -15,11 +15,11 @@ ghost use Rattle.jobs.specs.Job.{job_energy, job_count};
 ghost use Rattle.jobs.specs.Sheet.{sheet, stretches_of, sheet_reply, sheet_numbers, sheet_energies, sheet_counts, sheet_stretches};
 
 use design::Design;
+use design::options::OptionRoom;
 use design::passed::AdmittedDesign;
 use ensemble::bonds::{Bonds, SCAFFOLD_BONDS, STRAND_BONDS};
 use ensemble::lent::LentModel;
 use ensemble::lowest::lowest;
-use ensemble::options::OPTIONS;
 use fill::{fill_counts, fill_energies, fill_numbers, fill_stretches};
 use judge::{Judged, judge};
 use prepared::bonds::fill_bonds;
@@ -122,9 +122,8 @@ pub fn job_sheet(
         stretches.len(),
     );
     refused_if(Refusal::WrongSize, wrong)?;
-    let mut rows = [0; OPTIONS];
-    let mut options = [0; POSITIONS];
-    let judged = judge(design, &mut rows, &mut options);
+    let mut room = OptionRoom::EMPTY;
+    let judged = judge(design, &mut room);
     fill_numbers(jobs, &judged, numbers);
     match judged {
         Ok(

@@ -11,15 +11,13 @@ ghost use Rattle.mfe.specs.Answers.{search_answer, search_entries, LowestShown};
 
 use design::Design;
 use design::needed::{fill_closing_bonds, fill_needed_scaffold_bonds, fill_read_strand_bonds};
-use design::options::options_of;
+use design::options::OptionRoom;
 use design::passed::{AdmittedDesign, admitted};
 use ensemble::bonds::{Bonds, SCAFFOLD_BONDS, STRAND_BONDS};
 use ensemble::lent::LentModel;
 use ensemble::lowest::lowest;
-use ensemble::options::OPTIONS;
 use ensemble::rings::lowest_ring;
 use reply::Refused;
-use reply::limits::POSITIONS;
 use units::KcalPerMol;
 
 // Options and bonds of an admitted design, the bonds in tables with room for so many, and the search over them: of its lowest configuration, or of its
@@ -40,12 +38,10 @@ fn settled<const RING: bool, const PAIRS: usize, const SITES: usize>(
     ensures ring { RING ≡ true → FoundRing (model_of admitted.now) configuration.new result.0 }
 {
     let design = admitted.design;
-    let mut rows = [0u8; OPTIONS];
-    let mut counts = [0u8; POSITIONS];
-    let counts = &mut counts[..design.positions()];
+    let mut room = OptionRoom::EMPTY;
     let mut strand_bonds = [0.0; PAIRS];
     let mut scaffold_bonds = [0.0; SITES];
-    let options = options_of(&admitted.tabled(), &mut rows, counts);
+    let options = room.options_of(&admitted.tabled());
     fill_read_strand_bonds(design, &options, &mut strand_bonds);
     fill_needed_scaffold_bonds(design, &options, &mut scaffold_bonds);
     if RING {

@@ -14,11 +14,10 @@ ghost use Rattle.design.specs.Answers.{bond_figures, count_figures, energy_figur
 use design::Design;
 use design::answers::ChainEnergy;
 use design::checks::numbers_reply;
-use design::options::write_friends;
+use design::options::{OptionRoom, write_friends};
 use design::passed::{admitted, tabled};
 use design::terms::fill_terms;
 use ensemble::energies::{Places, Terms};
-use ensemble::options::OPTIONS;
 use ensemble::states::{MOST_STATES, write_state};
 use prepared::options::{Counted, count_options};
 use reply::limits::{POSITIONS, STRANDS};
@@ -63,10 +62,8 @@ pub fn number_of_states(design: &Design) -> Result<u64, Refused>
     ensures { count_figures result ≡ count_answer design.now }
 {
     let tabled = tabled(false, design)?;
-    let mut rows = [0u8; OPTIONS];
-    let mut counts = [0u8; POSITIONS];
-    let counts = &mut counts[..design.positions()];
-    let Counted { states, .. } = count_options(&tabled, &mut rows, counts);
+    let mut room = OptionRoom::EMPTY;
+    let Counted { states, .. } = count_options(&tabled, &mut room);
     refused_if(Refusal::TooManyStates, MOST_STATES < states)?;
     tabled.admitted()?;
     Ok(states)
@@ -78,10 +75,8 @@ pub fn state_at_rank(design: &Design, rank: u64, entries: &mut [u8]) -> Result<(
     ensures entries_after { entries.new ≡ rank_entries design.now rank entries.old }
 {
     let tabled = tabled(entries.len() != design.positions(), design)?;
-    let mut rows = [0u8; OPTIONS];
-    let mut counts = [0u8; POSITIONS];
-    let counts = &mut counts[..design.positions()];
-    let Counted { options, states } = count_options(&tabled, &mut rows, counts);
+    let mut room = OptionRoom::EMPTY;
+    let Counted { options, states } = count_options(&tabled, &mut room);
     refused_if(Refusal::TooManyStates, MOST_STATES < states)?;
     refused_if(Refusal::RankTooHigh, states <= rank)?;
     tabled.admitted()?;

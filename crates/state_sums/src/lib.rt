@@ -16,15 +16,13 @@ ghost use Rattle.state_sums.specs.Sizes.{weights_lent, lists_lent};
 ghost use Rattle.state_sums.specs.Answers.{sum_figures, free_answer, constrained_answer, FreeShown, ConstrainedShown};
 
 use design::Design;
-use design::options::options_of;
+use design::options::OptionRoom;
 use design::passed::{AdmittedDesign, admitted};
-use ensemble::options::OPTIONS;
 use fractions::Weight;
 use partition_sums::constraint::Constraint;
 use partition_sums::forms::weights_out;
 use partition_sums::lent::{Formed, Lent};
 use partition_sums::weights::Weights;
-use reply::limits::POSITIONS;
 use reply::{Refusal, Refused, refused_if};
 use sizes::{wrong_cells, wrong_sizes};
 
@@ -69,18 +67,15 @@ impl<'a> LentWeights<'a> {
     }
 }
 
-// The options of an admitted design, written into lent rows, with weights that are in form where some state uses them; or that one is not.
+// The options of an admitted design, written into a lent room, with weights that are in form where some state uses them; or that one is not.
 fn formed<'a, 'b>(
     admitted: &AdmittedDesign,
     weights: Weights<'b>,
-    rows: &'a mut [u8],
-    counts: &'a mut [u8],
+    room: &'a mut OptionRoom,
 ) -> Result<Formed<'a, 'b>, Refused>
     requires same_strands { weights.strands ≡ strands admitted.now }
     requires celled { Celled (positions admitted.now) (weights_of weights) }
     requires scaffold_nonzero { 0 < positions admitted.now }
-    requires scaffold_in_bounds { 64 * positions admitted.now ≤ length rows.old }
-    requires counts_len { length counts.old ≡ positions admitted.now }
     ensures in_form { IfOk result (λ formed. weights_out (model_of admitted.now).friends (weights_of weights.entry) ≡ false) }
     ensures same_weights { IfOk result (λ formed. weights_of formed.lent.weights ≡ weights_of weights.entry) }
     ensures options { IfOk result (λ formed. options_of formed.lent.options ≡ options (model_of admitted.now)) }
@@ -88,7 +83,7 @@ fn formed<'a, 'b>(
     ensures not_in_form { IfErr result (λ refused. weights_out (model_of admitted.now).friends (weights_of weights.entry) ≡ true) }
     ensures refused { IfErr result (λ refused. refused ≡ nowhere WeightOut) }
 {
-    let options = options_of(&admitted.tabled(), rows, counts);
+    let options = room.options_of(&admitted.tabled());
     let lent = Lent { options, weights };
     refused_if(Refusal::WeightOut, weights_out(&lent))?;
     Ok(Formed { lent })
@@ -103,9 +98,8 @@ pub fn free_sum(design: &Design, weights: &LentWeights<'_>) -> Result<Weight, Re
     let weights = weights.of_design(design);
     let admitted = admitted(wrong_cells(positions, &weights), design)?;
     refused_if(Refusal::BareScaffold, positions == 0)?;
-    let mut rows = [0u8; OPTIONS];
-    let mut counts = [0u8; POSITIONS];
-    let formed = formed(&admitted, weights, &mut rows, &mut counts[..positions])?;
+    let mut room = OptionRoom::EMPTY;
+    let formed = formed(&admitted, weights, &mut room)?;
     Ok(partition_sums::sums::free_sum(&formed))
 }
 
@@ -128,8 +122,7 @@ pub fn constrained_sum(
         starts: lists.starts,
         lengths: lists.lengths,
     };
-    let mut rows = [0u8; OPTIONS];
-    let mut counts = [0u8; POSITIONS];
-    let formed = formed(&admitted, weights, &mut rows, &mut counts[..positions])?;
+    let mut room = OptionRoom::EMPTY;
+    let formed = formed(&admitted, weights, &mut room)?;
     Ok(partition_sums::sums::constrained_sum(&formed, &constraint))
 }
