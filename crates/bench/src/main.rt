@@ -4,10 +4,10 @@
 
 use design::Design;
 use reply::{Refusal, Refused};
-use sdc1d_params::{Build, Copies, LentParameters, Penalty};
+use sdc1d_params::{Build, Copies, LentParameters};
 use std::io;
 use std::io::Write;
-use units::{Ambient, KcalPerMol, KcalPerMolKelvin, Kelvin};
+use units::{Ambient, KcalPerMol, Kelvin};
 use utils::DgDs;
 
 // A line of the table, and whether it holds.
@@ -51,10 +51,6 @@ fn named(mark: usize) -> Result<(), Refusal> {
         19, 1, 0, 20, 1, 0, 21, 1, 0, 22, 1, 0, 23, 1, 0, 24, 1, 0, 25, 1, 0, 26, 1, 0, 27, 1, 0,
         28, 1, 0, 29, 1, 0, 30, 1, 0, 31, mark, 0, 32, 0, 0, 0,
     ];
-    let penalty = Penalty {
-        dg: KcalPerMol(0.0),
-        ds: KcalPerMolKelvin(0.0),
-    };
     let copies = Copies {
         quencher: None,
         reporter: None,
@@ -66,7 +62,7 @@ fn named(mark: usize) -> Result<(), Refusal> {
         scaffold: &[],
         entries: &[],
         energies: &[],
-        penalty,
+        penalty: DgDs::default(),
         copies,
     };
     let mut strand_glues = [0u8; 42];

@@ -4,6 +4,7 @@ use Rattle.lists.specs.Find.{any}
 use Rattle.reply.specs.Number.{answered}
 use Rattle.reply.specs.First.{Check, ◌if◌, first_of, answer}
 use Rattle.reply.specs.declared.Refusal.TheVariants.{WrongSize, NotABase, TooShort, UnknownName, TooManyGlues, DuplicatePair, OutOfRange, TwoStars}
+use Rattle.utils.specs.declared.DgDs.{DgDs}
 use Rattle.sdc_common.specs.Names.{Name, is_retired}
 use Rattle.sdc_common.specs.Lent.{Names, names_of, Glue, part_of, glue_of, glues_of, unfit_names, is_retired_glue}
 use Rattle.sdc_common.specs.Numbers.{bases_of, numbers_among}
@@ -15,7 +16,6 @@ use Rattle.sdc1d_params.specs.declared.Build.{Build}
 use Rattle.sdc1d_params.specs.declared.Build.TheVariants.{Ordinary, Archive}
 use Rattle.sdc1d_params.specs.declared.Copies.{Copies}
 use Rattle.sdc1d_params.specs.declared.LentParameters.{LentParameters}
-use Rattle.sdc1d_params.specs.declared.Penalty.{Penalty}
 use Rattle.sdc1d_params.specs.declared.Entry.{Entry}
 use Rattle.sdc1d_params.specs.declared.entries.GsOrSeq.{GsOrSeq}
 
@@ -40,7 +40,7 @@ pub record Outcome : Type 0 where
   pub ds : List Float
 
 -- a parameter set out of its parts, in the order in which C lends them: names and entries are read off their rows here
-abbrev pub params_of : List ℕ → ℕ → List ℕ → List ℕ → List ℕ → List Float → Penalty → Copies → Params
+abbrev pub params_of : List ℕ → ℕ → List ℕ → List ℕ → List ℕ → List Float → DgDs → Copies → Params
 params_of text users strands scaffold entries energies penalty copies =
     record {
       text = text;

@@ -15,12 +15,6 @@ use utils::DgDs;
 // The shortest sequence.
 const SHORTEST: usize = 2;
 
-// What a sequence without an energy is taken for; those were refused before.
-const NO_ENERGY: DgDs = DgDs {
-    dg: KcalPerMol(0.0),
-    ds: KcalPerMolKelvin(0.0),
-};
-
 // An entry, and the text that its names and its sequence lie in.
 #[derive(Clone, Copy)]
 pub(crate) struct FitEntry<'a> {
@@ -40,8 +34,9 @@ impl FitEntry<'_> {
                 ds: KcalPerMolKelvin(ds),
             },
             GsOrSeq::Sequence(start, length) => {
+                // A sequence without an energy was refused before.
                 let end = start + length;
-                utils::string_dna_dg_ds(&self.text[start..end]).unwrap_or(NO_ENERGY)
+                utils::string_dna_dg_ds(&self.text[start..end]).unwrap_or_default()
             }
         }
     }

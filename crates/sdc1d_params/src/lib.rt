@@ -23,7 +23,7 @@ use reply::limits::POSITIONS;
 use reply::{Refusal, refused_if};
 use sdc_common::names::LentName;
 use set::ParameterSet;
-use units::{KcalPerMol, KcalPerMolKelvin};
+use utils::DgDs;
 
 // The most energy entries.
 pub const MOST_ENTRIES: usize = 1024;
@@ -33,13 +33,6 @@ pub const MOST_ENTRIES: usize = 1024;
 pub enum Build {
     Ordinary,
     Archive,
-}
-
-// The junction penalty, which is added to both numbers of every entry.
-#[derive(Clone, Copy)]
-pub struct Penalty {
-    pub dg: KcalPerMol,
-    pub ds: KcalPerMolKelvin,
 }
 
 // Whose glues the quencher and the reporter copy: no strand's, or those of a user strand, which are numbered from 1.
@@ -78,7 +71,8 @@ pub struct LentParameters<'a> {
     pub scaffold: &'a [usize],
     pub entries: &'a [usize],
     pub energies: &'a [f64],
-    pub penalty: Penalty,
+    // The junction penalty, which is added to both numbers of every entry.
+    pub penalty: DgDs,
     pub copies: Copies,
 }
 

@@ -14,11 +14,11 @@ use std::ops::{Add, Div, Mul, Sub};
 pub struct Kelvin(pub f64);
 
 // An energy: dG, or RT.
-#[derive(Clone, Copy, PartialEq, Debug)]
+#[derive(Clone, Copy, PartialEq, Default, Debug)]
 pub struct KcalPerMol(pub f64);
 
 // An entropy: dS, or the gas constant.
-#[derive(Clone, Copy, PartialEq, Debug)]
+#[derive(Clone, Copy, PartialEq, Default, Debug)]
 pub struct KcalPerMolKelvin(pub f64);
 
 // The sum of two temperatures.
