@@ -1,3 +1,4 @@
+pub mod EntryRows
 pub mod Sequences
 pub mod Pairs
 pub mod Marked

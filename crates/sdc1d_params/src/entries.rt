@@ -13,6 +13,9 @@ use utils::LONGEST;
 // The numbers of an entry's row.
 pub(crate) const ROW: usize = 8;
 
+// The doubles of an entry.
+const DOUBLES: usize = 2;
+
 // An entry's energy is lent as two doubles.
 const GIVEN: usize = 0;
 
@@ -26,26 +29,37 @@ pub(crate) enum GsOrSeq {
     Sequence(usize, usize),
 }
 
-// Entry i, out of its row of eight numbers and its two doubles.
+// An entry out of its row of eight numbers and its two doubles.
+impl From<([usize; ROW], [f64; DOUBLES])> for Entry {
+    ghost from_gives = { λ lent entry. entry ≡ entry_at lent.0 lent.1 0 };
+
+    fn from(lent: ([usize; ROW], [f64; DOUBLES])) -> Entry {
+        let (row, energy) = lent;
+        Entry {
+            first_start: row[0],
+            first_size: row[1],
+            second: LentName {
+                mark: row[2],
+                start: row[3],
+                size: row[4],
+            },
+            form: row[5],
+            start: row[6],
+            size: row[7],
+            dg: energy[0],
+            ds: energy[1],
+        }
+    }
+}
+
+// Entry i.
 pub(crate) fn entry_at(entries: &[usize], energies: &[f64], i: usize) -> Entry
     requires { (i < entry_rows entries.now) × (length energies.now ≡ 2 * entry_rows entries.now) }
     ensures { result ≡ entry_at entries.now energies.now i }
 {
-    let row = ROW * i;
-    Entry {
-        first_start: entries[row],
-        first_size: entries[row + 1],
-        second: LentName {
-            mark: entries[row + 2],
-            start: entries[row + 3],
-            size: entries[row + 4],
-        },
-        form: entries[row + 5],
-        start: entries[row + 6],
-        size: entries[row + 7],
-        dg: energies[2 * i],
-        ds: energies[2 * i + 1],
-    }
+    let rows = entries.as_chunks::<ROW>().0;
+    let energies = energies.as_chunks::<DOUBLES>().0;
+    Entry::from((rows[i], energies[i]))
 }
 
 // An entry's first name, which is always there.
@@ -96,19 +110,18 @@ fn unfit_entry(text: &[u8], entry: Entry) -> bool
         || unfit_energy(text, gs_or_seq(entry))
 }
 
-// Whether some entry passes a test. A loop over places and no `any`, whose closure would have to be told, in clauses of its own, that there are two
-// doubles for each row.
+// Whether some entry passes a test. The test is handed to `any` as it is: a closure that calls it would need clauses of its own.
 pub(crate) fn any_entry<F: Fn(Entry) -> bool>(lent: &LentParameters, test: F) -> bool
     requires two_each { length lent.now.energies.now ≡ 2 * entry_rows lent.now.entries.now }
     requires callable { (i : ℕ) → i < entry_rows lent.now.entries.now → F.pre test (entry_at lent.now.entries.now lent.now.energies.now i) }
     ensures { (p : Entry → Bool) → ((i : ℕ) (b : Bool) → i < entry_rows lent.now.entries.now → F.post test (entry_at lent.now.entries.now lent.now.energies.now i) b → b ≡ p (entry_at lent.now.entries.now lent.now.energies.now i)) → result ≡ any p (params_lent lent.now).entries.each }
 {
-    for i in 0..lent.entries.len() / ROW {
-        if test(entry_at(lent.entries, lent.energies, i)) {
-            return true;
-        }
-    }
-    false
+    let rows = lent.entries.as_chunks::<ROW>().0;
+    let energies = lent.energies.as_chunks::<DOUBLES>().0;
+    rows.iter()
+        .zip(energies)
+        .map(|(row, energy)| Entry::from((*row, *energy)))
+        .any(test)
 }
 
 // Whether the rows are not whole, the doubles not two for each, the entries too many, or one unfit.

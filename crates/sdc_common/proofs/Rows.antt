@@ -5,6 +5,7 @@ use mathlib.Core.List.{List, [], ◌∷◌, ◌++◌, map}
 use Prim.Native.Nat.{ℕ, zero, suc, ◌+◌, ◌*◌, ◌/◌, ◌<◌, ◌≤◌}
 use native.Mathlib.Numerals.{add-one}
 use native.Mathlib.Omega.{arith}
+use Rattle.std.proofs.Math.Nat.{mul_comm}
 use lib.Dec.{eqb, ltb}
 use lib.ListN.{length, get_or, set, take, drop, length-map}
 use lib.Seq.{get_or-drop, take-suc-set, length-take-le}
@@ -25,21 +26,24 @@ use Rattle.sdc_common.specs.inner.Table.{Found}
 
 -- ---- rows of three numbers
 
-chunk-at : (n k : ℕ) (xs : List ℕ) (i : ℕ) → i < k → get_or (first_chunks n k xs) i [] ≡ take n (drop (i * n) xs)
+pub chunk-at : {A : Type 0} (n k : ℕ) (xs : List A) (i : ℕ) → i < k → get_or (first_chunks n k xs) i [] ≡ take n (drop (i * n) xs)
 chunk-at n zero xs i h = absurd (omega arith)
 chunk-at n (suc k) xs zero h = ap (λ (m : ℕ). take n (drop m xs)) (let e : 0 ≡ 0 * n = omega arith in e)
 chunk-at n (suc k) xs (suc i) h = chunk-at n k (drop n xs) i (omega arith) ∙ ap (take n) (drop-drop (i * n) n xs) ∙ ap (λ (m : ℕ). take n (drop m xs)) (let e : n + i * n ≡ suc i * n = omega arith in e)
 
+-- what stands in a chunk
+pub in-chunk : {A : Type 0} (n k : ℕ) (xs : List A) (i j : ℕ) (d : A) → i < k → j < n → get_or (get_or (first_chunks n k xs) i []) j d ≡ get_or xs (n * i + j) d
+in-chunk n k xs i j d h l =
+    ap (λ row. get_or row j d) (chunk-at n k xs i h) ∙ get_or-take n (drop (i * n) xs) j d l ∙ get_or-drop (i * n) xs j d ∙ ap (λ m. get_or xs m d) (ap (λ m. m + j) (mul_comm i n))
+
 module _ (xs : List ℕ) (k : ℕ) (h : k < length xs / 3) where
-  number-in : (i : ℕ) → i < 3 → get_or (take 3 (drop (k * 3) xs)) i 0 ≡ get_or xs (3 * k + i) 0
-  number-in i l =
-      get_or-take 3 (drop (k * 3) xs) i 0 l ∙ get_or-drop (k * 3) xs i 0 ∙ ap (λ (n : ℕ). get_or xs n 0) (let e : k * 3 + i ≡ 3 * k + i = omega arith in e)
+  number-in : (i : ℕ) → i < 3 → get_or (get_or (first_chunks 3 (length xs / 3) xs) k []) i 0 ≡ get_or xs (3 * k + i) 0
+  number-in i l = in-chunk 3 (length xs / 3) xs k i 0 h l
 
   pub row-is : name_at (get_or (first_chunks 3 (length xs / 3) xs) k []) 0 ≡ name_at xs k
   row-is =
-      let e : get_or (first_chunks 3 (length xs / 3) xs) k [] ≡ take 3 (drop (k * 3) xs) = chunk-at 3 (length xs / 3) xs k h in
       let at : get_or xs (3 * k + 0) 0 ≡ get_or xs (3 * k) 0 = ap (λ (n : ℕ). get_or xs n 0) (let z : 3 * k + 0 ≡ 3 * k = omega arith in z) in
-      ap (λ (row : List ℕ). name_at row 0) e ∙ rw (number-in 0 (omega arith) ∙ at, number-in 1 (omega arith), number-in 2 (omega arith))
+      rw (number-in 0 (omega arith) ∙ at, number-in 1 (omega arith), number-in 2 (omega arith))
 
 -- ---- the same bytes
 
