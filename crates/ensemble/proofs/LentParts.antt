@@ -1,10 +1,8 @@
 -- Parts of what is lent to the search, and its tables of left choices, row by row. Assumes nothing.
 use mathlib.Core.Path.{◌≡◌, refl}
-use mathlib.Core.Bool.{Bool, true, false, cond}
-use mathlib.Core.List.{List, []}
+use mathlib.Core.List.{List}
 use Prim.Native.Nat.{ℕ, zero, suc, ◌+◌, ◌*◌, ◌-◌, ◌<◌, ◌≤◌}
 use native.Mathlib.Omega.{arith}
-use lib.Dec.{eqb}
 use lib.ListN.{length, get_or, take, drop, replicate, length-take}
 use lib.Seq.{get_or-take}
 use Rattle.ensemble.specs.Layout.{Searchable}
@@ -44,27 +42,17 @@ low_zeros zero k = omega arith
 low_zeros (suc n) zero = omega arith
 low_zeros (suc n) (suc k) = low_zeros n k
 
-pub table-zeros : (n k e : ℕ) → LowTable (replicate n (replicate k 0)) (replicate e 0)
-table-zeros n k e = record { friends = rows n; empties = low_zeros e }
-  where
-    rows : (n i : ℕ) → Low (get_or (replicate n (replicate {A = ℕ} k 0)) i [])
-    rows zero i j = omega arith
-    rows (suc n) zero j = low_zeros k j
-    rows (suc n) (suc i) j = rows n i j
+pub table-zeros : (n k : ℕ) → LowTable (replicate n (replicate k 0))
+table-zeros zero k i j = omega arith
+table-zeros (suc n) k zero j = low_zeros k j
+table-zeros (suc n) k (suc i) j = table-zeros n k i j
 
 zero_at : (n k : ℕ) → get_or (replicate {A = ℕ} n 0) k 0 ≡ 0
 zero_at zero k = refl
 zero_at (suc n) zero = refl
 zero_at (suc n) (suc k) = zero_at n k
 
-row-zeros : (n k i x : ℕ) → get_or (get_or (replicate n (replicate {A = ℕ} k 0)) i []) x 0 ≡ 0
-row-zeros zero k i x = refl
-row-zeros (suc n) k zero x = zero_at k x
-row-zeros (suc n) k (suc i) x = row-zeros n k i x
-
-pub choice-zeros : (n k e i x : ℕ) → choice_in (replicate n (replicate k 0)) (replicate e 0) i x ≡ 0
-choice-zeros n k e i x = go (eqb x 0)
-  where
-    go : (t : Bool) → cond t (get_or (replicate {A = ℕ} e 0) i 0) (get_or (get_or (replicate n (replicate {A = ℕ} k 0)) i []) x 0) ≡ 0
-    go true = zero_at e i
-    go false = row-zeros n k i x
+pub choice-zeros : (n k i x : ℕ) → choice_in (replicate n (replicate k 0)) i x ≡ 0
+choice-zeros zero k i x = refl
+choice-zeros (suc n) k zero x = zero_at k x
+choice-zeros (suc n) k (suc i) x = choice-zeros n k i x

@@ -14,7 +14,6 @@ use lib.ListN.{length, get_or, set, length-append, get_or-append}
 use lib.Seq.{get_or-set_same, get_or-set_other, get_or-append_seam}
 use lib.Ieee.{Float, nan, binary64, mul, lt}
 use borrow.Author.Count.{below_more}
-use borrow.Author.Tests.{ne_eqb}
 use Rattle.lists.specs.Fold.{foldl}
 use Rattle.lists.proofs.Places.{mem-get_or}
 use Rattle.doubles.specs.Decimal as Decimal
@@ -128,23 +127,21 @@ module _ {m : Model} {options : ℕ → List ℕ} (they : OptionsOf m options) {
       let k = index_of (subst (λ (xs : List ℕ). Memᴰ x xs) (sym is) f) in
       rw k.is at (attaches k.place k.inside).strand
 
-  pub table_more : (choice : List (List ℕ)) (empty : List ℕ) → i < length choice → i < length empty → Table m options i choice empty → Table m options (i + 1) (set choice i choice_row) (set empty i r.strand)
-  table_more choice empty in-choice in-empty table =
-      below_more (λ (j : ℕ). (x : ℕ) → Memᴰ x (options j) → choice_in (set choice i choice_row) (set empty i r.strand) j x ≡ left_choice m options j x) i earlier
-      (λ x o. here x o (ℕ_discrete x 0))
+  -- empty's choice stands at 0, which is no friend
+  pub table_more : (choice : List (List ℕ)) → i < length choice → 0 < length choice_row → Table m options i choice → Table m options (i + 1) (set choice i (set choice_row 0 r.strand))
+  table_more choice in-choice in-row table =
+      below_more (λ (j : ℕ). (x : ℕ) → Memᴰ x (options j) → choice_in (set choice i (set choice_row 0 r.strand)) j x ≡ left_choice m options j x) i
+      (λ j l x o. rw (get_or-set_other choice i j (set choice_row 0 r.strand) [] (ne_of_lt l)) (table j l x o)) (λ x o. here x o (ℕ_discrete x 0))
     where
-      earlier : (j : ℕ) → j < i → (x : ℕ) → Memᴰ x (options j) → choice_in (set choice i choice_row) (set empty i r.strand) j x ≡ left_choice m options j x
-      earlier j l x o = rw (get_or-set_other choice i j choice_row [] (ne_of_lt l), get_or-set_other empty i j r.strand 0 (ne_of_lt l)) (table j l x o)
-
-      here : (x : ℕ) → Memᴰ x (options i) → Dec (x ≡ 0) → choice_in (set choice i choice_row) (set empty i r.strand) i x ≡ left_choice m options i x
-      here x o (yes e) = rw (get_or-set_same choice i choice_row [] in-choice, get_or-set_same empty i r.strand 0 in-empty, e) none.strand
-      here x o (no some) = rw (get_or-set_same choice i choice_row [] in-choice, get_or-set_same empty i r.strand 0 in-empty, ne_eqb x 0 some) (friend-choice x (of-options m i x some (they.own i x o)))
+      here : (x : ℕ) → Memᴰ x (options i) → Dec (x ≡ 0) → choice_in (set choice i (set choice_row 0 r.strand)) i x ≡ left_choice m options i x
+      here x o (yes e) = rw (get_or-set_same choice i (set choice_row 0 r.strand) [] in-choice, e, get_or-set_same choice_row 0 r.strand 0 in-row) none.strand
+      here x o (no some) = rw (get_or-set_same choice i (set choice_row 0 r.strand) [] in-choice, get_or-set_other choice_row 0 x r.strand 0 some) (friend-choice x (of-options m i x some (they.own i x o)))
 
 -- ---- at the end
 
-module _ {m : Model} {options : ℕ → List ℕ} (they : OptionsOf m options) (ending : ℕ → Float → Float) (choice : List (List ℕ)) (empty left : List ℕ) (energies : List Float) (r : Attached) (written : List ℕ)
+module _ {m : Model} {options : ℕ → List ℕ} (they : OptionsOf m options) (ending : ℕ → Float → Float) (choice : List (List ℕ)) (left : List ℕ) (energies : List Float) (r : Attached) (written : List ℕ)
     (chosen : (key : ℕ → Float) → ((k : ℕ) → k < length left → ending (get_or left k 0) (get_or energies k nan) ≡ key (get_or left k 0)) → Chosen key left (first_least key left) r) where
-  pub found-over : (position : ℕ) → Left m options position left energies → Table m options position choice empty → written ≡ traced_back (choice_in choice empty) position r.strand
+  pub found-over : (position : ℕ) → Left m options position left energies → Table m options position choice → written ≡ traced_back (choice_in choice) position r.strand
       → (written ≡ (search_over m options ending position).configuration) × (r.energy ≡ (search_over m options ending position).energy)
   unfolding search_over traced_back key_of
   found-over zero w table is =
@@ -156,8 +153,8 @@ module _ {m : Model} {options : ℕ → List ℕ} (they : OptionsOf m options) (
       let x = first_least key (options last) in
       let o = pick-member (or_earlier key) (λ kept y. swapped (either-of (lt (key y) (key kept)) y kept)) (options last) (they.some last) in (
         is
-            ∙ ap (λ (y : ℕ). traced (choice_in choice empty) last y []) c.strand
-            ∙ traced-same (left_choice m options) (choice_in choice empty) options last (λ i y l k. choice-option m options they.some i y) (λ i y l k. table (suc i) (omega arith) y k) last x [] (le_refl last) o,
+            ∙ ap (λ (y : ℕ). traced (choice_in choice) last y []) c.strand
+            ∙ traced-same (left_choice m options) (choice_in choice) options last (λ i y l k. choice-option m options they.some i y) (λ i y l k. table (suc i) (omega arith) y k) last x [] (le_refl last) o,
         c.energy ∙ some_key key (options last) x (they.some last),
       )
 
@@ -166,10 +163,10 @@ module _ {m : Model} {options : ℕ → List ℕ} (they : OptionsOf m options) (
 pub own-options : (m : Model) → OptionsOf m (options_at m)
 own-options m = record { own = λ i x o. o; some = some-option m }
 
-pub found : {m : Model} (choice : List (List ℕ)) (empty left : List ℕ) (energies : List Float) (rt : Float) (r : Attached) (written : List ℕ) → rt ≡ m.rt
+pub found : {m : Model} (choice : List (List ℕ)) (left : List ℕ) (energies : List Float) (rt : Float) (r : Attached) (written : List ℕ) → rt ≡ m.rt
     → ((key : ℕ → Float) → ((k : ℕ) → k < length left → mul binary64 (get_or energies k nan) rt ≡ key (get_or left k 0)) → Chosen key left (first_least key left) r)
-    → (position : ℕ) → position ≡ Model.positions m → Left m (options_at m) position left energies → Table m (options_at m) position choice empty → written ≡ traced_back (choice_in choice empty) position r.strand → Found m written r.energy
+    → (position : ℕ) → position ≡ Model.positions m → Left m (options_at m) position left energies → Table m (options_at m) position choice → written ≡ traced_back (choice_in choice) position r.strand → Found m written r.energy
 unfolding search
-found {m} choice empty left energies rt r written rt-is chosen position e w table is =
-    let v = rw e at (found-over (own-options m) (times_rt m) choice empty left energies r written (rw rt-is at chosen) position w table is) in
+found {m} choice left energies rt r written rt-is chosen position e w table is =
+    let v = rw e at (found-over (own-options m) (times_rt m) choice left energies r written (rw rt-is at chosen) position w table is) in
     record { shown = v.0; least = v.1 }

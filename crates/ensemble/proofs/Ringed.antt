@@ -77,10 +77,10 @@ module _ (m : Model) (f : ℕ) (option : Memᴰ f (options_at m 0)) where
         one zero h = is ∙ first-is
         one (suc j) h = absurd (omega arith)
 
-  pub table-first : (choice : List (List ℕ)) (empty : List ℕ) → ((x : ℕ) → choice_in choice empty 0 x ≡ 0) → Table m (with_first m f) 1 choice empty
+  pub table-first : (choice : List (List ℕ)) → ((x : ℕ) → choice_in choice 0 x ≡ 0) → Table m (with_first m f) 1 choice
   unfolding left_choice
-  table-first choice empty none zero h x k = none x
-  table-first choice empty none (suc i) h x k = absurd (omega arith)
+  table-first choice none zero h x k = none x
+  table-first choice none (suc i) h x k = absurd (omega arith)
 
   -- ---- at the end
 
@@ -97,14 +97,14 @@ module _ (m : Model) (f : ℕ) (option : Memᴰ f (options_at m 0)) where
             of-last (inl z) = absurd (d z)
             of-last (inr w) = w
 
-    pub found-ring : (choice : List (List ℕ)) (empty left : List ℕ) (energies : List Float) (r : Attached) (written : List ℕ)
+    pub found-ring : (choice : List (List ℕ)) (left : List ℕ) (energies : List Float) (r : Attached) (written : List ℕ)
         → ((key : ℕ → Float) → ((k : ℕ) → k < length left → mul binary64 (closed_in (table_bond strands strand_bonds) f (get_or left k 0) (get_or energies k nan)) rt ≡ key (get_or left k 0)) → Chosen key left (first_least key left) r)
-        → Left m (with_first m f) (suc last) left energies → Table m (with_first m f) (suc last) choice empty → written ≡ traced_back (choice_in choice empty) (suc last) r.strand
+        → Left m (with_first m f) (suc last) left energies → Table m (with_first m f) (suc last) choice → written ≡ traced_back (choice_in choice) (suc last) r.strand
         → FoundFrom m f written r.energy
     unfolding ring_from
-    found-ring choice empty left energies r written chosen w table is =
+    found-ring choice left energies r written chosen w table is =
         let member : (k : ℕ) → k < length left → Memᴰ (get_or left k 0) (options_at m last) = λ k h. ring-options.own last (get_or left k 0) (subst (λ (xs : List ℕ). Memᴰ (get_or left k 0) xs) w.are (mem-get_or 0 left k h)) in
-        let v = found-over ring-options (closed_times_rt m f) choice empty left energies r written (λ key keys. chosen key (λ k h. closed_is (get_or left k 0) (get_or energies k nan) (member k h) ∙ keys k h)) (suc last) w table is in
+        let v = found-over ring-options (closed_times_rt m f) choice left energies r written (λ key keys. chosen key (λ k h. closed_is (get_or left k 0) (get_or energies k nan) (member k h) ∙ keys k h)) (suc last) w table is in
         record {
           shown = v.0 ∙ ap (λ (n : ℕ). (search_over m (with_first m f) (closed_times_rt m f) n).configuration) (sym e);
           least = v.1 ∙ ap (λ (n : ℕ). (search_over m (with_first m f) (closed_times_rt m f) n).energy) (sym e);
@@ -128,10 +128,10 @@ module _ {m : Model} {rows counts : List ℕ} {option : ℕ} (o : OptionRows m r
 
 -- at the end of a ring of so many positions
 pub found_first : (m : Model) (f : ℕ) (option : Memᴰ f (options_at m 0)) (strands : ℕ) (strand_bonds : List Float) → ClosingCells m strands strand_bonds → (rt : Float) → rt ≡ m.rt
-    → (choice : List (List ℕ)) (empty left : List ℕ) (energies : List Float) (r : Attached) (written : List ℕ)
+    → (choice : List (List ℕ)) (left : List ℕ) (energies : List Float) (r : Attached) (written : List ℕ)
     → ((key : ℕ → Float) → ((k : ℕ) → k < length left → mul binary64 (closed_in (table_bond strands strand_bonds) f (get_or left k 0) (get_or energies k nan)) rt ≡ key (get_or left k 0)) → Chosen key left (first_least key left) r)
-    → (position : ℕ) → 1 ≤ position → position ≡ Model.positions m → Left m (with_first m f) position left energies → Table m (with_first m f) position choice empty
-    → written ≡ traced_back (choice_in choice empty) position r.strand → FoundFrom m f written r.energy
-found_first m f option strands strand_bonds closing rt rt-is choice empty left energies r written chosen zero h e w table is = absurd (not-suc-le-zero h)
-found_first m f option strands strand_bonds closing rt rt-is choice empty left energies r written chosen (suc last) h e w table is =
-    found-ring m f option strands strand_bonds closing last (sym e) rt rt-is choice empty left energies r written chosen w table is
+    → (position : ℕ) → 1 ≤ position → position ≡ Model.positions m → Left m (with_first m f) position left energies → Table m (with_first m f) position choice
+    → written ≡ traced_back (choice_in choice) position r.strand → FoundFrom m f written r.energy
+found_first m f option strands strand_bonds closing rt rt-is choice left energies r written chosen zero h e w table is = absurd (not-suc-le-zero h)
+found_first m f option strands strand_bonds closing rt rt-is choice left energies r written chosen (suc last) h e w table is =
+    found-ring m f option strands strand_bonds closing last (sym e) rt rt-is choice left energies r written chosen w table is

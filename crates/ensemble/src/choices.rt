@@ -2,22 +2,20 @@
 ghost use Rattle.std.specs.Prelude.{◌≡◌, ℕ, ◌<◌, ◌≤◌, length};
 ghost use Rattle.ensemble.specs.inner.Entries.{choice_in, LowTable, traced_back};
 
-// A friend's left choice by its strand, and the empty entry's beside them.
+// A row for each position: each entry's left choice by its strand, the empty entry's at 0, which is no friend.
 #[derive(Drop)]
 pub(crate) struct Choices {
-    pub friends: [[u8; 64]; 128],
-    pub empty: [u8; 128],
-    ghost low: { LowTable friends empty },
+    pub rows: [[u8; 64]; 128],
+    ghost low: { LowTable rows },
 }
 
 impl Choices {
     // Before any position is passed: all are 0.
     pub(crate) fn new() -> Self
-        ensures { (i strand : ℕ) → choice_in result.friends result.empty i strand ≡ 0 }
+        ensures { (i strand : ℕ) → choice_in result.rows i strand ≡ 0 }
     {
         Choices {
-            friends: [[0; 64]; 128],
-            empty: [0; 128],
+            rows: [[0; 64]; 128],
         }
     }
 
@@ -25,20 +23,17 @@ impl Choices {
     fn of(&self, strand: u8, position: usize) -> u8
         requires place { position < 128 }
         requires known { strand < 64 }
-        ensures value { result ≡ choice_in self.now.friends self.now.empty position strand }
+        ensures value { result ≡ choice_in self.now.rows position strand }
         ensures known { result < 64 }
     {
-        if strand == 0 {
-            return self.empty[position];
-        }
-        self.friends[position][usize::from(strand)]
+        self.rows[position][usize::from(strand)]
     }
 
     // Writes a configuration from its last occupant: from the last position to the first, each occupant is the left choice of the one to its right.
     pub(crate) fn trace(&self, last: u8, configuration: &mut [u8])
         requires short { length configuration.old ≤ 128 }
         requires known { last < 64 }
-        ensures { configuration.new ≡ traced_back (choice_in self.now.friends self.now.empty) (length configuration.old) last }
+        ensures { configuration.new ≡ traced_back (choice_in self.now.rows) (length configuration.old) last }
     {
         let mut strand = last;
         // By number: after `iter_mut().enumerate().rev()` nothing is known of what was written.

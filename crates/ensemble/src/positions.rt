@@ -27,7 +27,7 @@ impl<'a> LentModel<'a, '_> {
         requires known { Known self.now.options.strands left.now }
         ensures few { length result.now ≤ 64 }
         ensures known { Known self.now.options.strands result.now }
-        ensures passed { (m : Model) (options : ℕ → List ℕ) → OptionRows m self.now.options.rows.now self.now.options.counts.now → BondCells m self.now.options.strands self.now.bonds.strand_bonds.cells.now self.now.bonds.scaffold_bonds.now self.now.bonds.potentials.now → OptionsOf m options → ((i : ℕ) → first ≤ i → options i ≡ options_at m i) → Passed m options first left.now energies.old choices.old.friends choices.old.empty → Passed m options (length self.now.options.counts.now) result.now energies.new choices.new.friends choices.new.empty }
+        ensures passed { (m : Model) (options : ℕ → List ℕ) → OptionRows m self.now.options.rows.now self.now.options.counts.now → BondCells m self.now.options.strands self.now.bonds.strand_bonds.cells.now self.now.bonds.scaffold_bonds.now self.now.bonds.potentials.now → OptionsOf m options → ((i : ℕ) → first ≤ i → options i ≡ options_at m i) → Passed m options first left.now energies.old choices.old.rows → Passed m options (length self.now.options.counts.now) result.now energies.new choices.new.rows }
     {
         let mut best = [0.0; 64];
         // By number: options and scaffold bonds are asked of a position.
@@ -39,7 +39,8 @@ impl<'a> LentModel<'a, '_> {
                 energies: &energies[..],
                 bonds: self.bonds.strand_bonds,
             };
-            best_energies(&entries, friends, &mut best, &mut choices.friends[position]);
+            let row = &mut choices.rows[position];
+            best_energies(&entries, friends, &mut best, row);
             let empty = entries.least_for_empty();
             mfe_next_vector(
                 self.bonds.sites(position),
@@ -49,7 +50,7 @@ impl<'a> LentModel<'a, '_> {
                 energies,
             );
             energies[friends.len()] = empty.energy;
-            choices.empty[position] = empty.strand;
+            row[0] = empty.strand;
             left = options;
         }
         left

@@ -1,5 +1,5 @@
 -- The entries of a position as the search keeps them: its options, the energies beside these, and the left choices.
-use Rattle.std.specs.Prelude.{◌≡◌, Bool, cond, List, [], ◌∷◌, ℕ, zero, suc, ◌+◌, ◌*◌, ◌<◌, eqb, length, get_or, take, Float}
+use Rattle.std.specs.Prelude.{◌≡◌, Bool, cond, List, [], ◌∷◌, ℕ, zero, suc, ◌+◌, ◌*◌, ◌<◌, length, get_or, take, Float}
 use Rattle.std.specs.Float.{binary64, nan}
 use Rattle.std.specs.Float.Ieee.{add, sub, lt}
 use Rattle.doubles.specs.Decimal as Decimal
@@ -73,16 +73,15 @@ settled_of sites potentials best x = sub binary64 (add binary64 (get_or best x n
 abbrev pub Energies : (ℕ → Float) → List ℕ → ℕ → List Float → Type 0
 Energies f strands k energies = (j : ℕ) → j < k → get_or energies j nan ≡ f (get_or strands j 0)
 
--- ---- the left choices of all positions: a friend's by its strand, and the empty entry's beside them
+-- ---- the left choices of all positions, a row for each: an entry's by its strand, the empty one's at 0
 
 -- the left choice of a strand at position i
-abbrev pub choice_in : List (List ℕ) → List ℕ → ℕ → ℕ → ℕ
-choice_in choice empty i strand = cond (eqb strand 0) (get_or empty i 0) (get_or (get_or choice i []) strand 0)
+abbrev pub choice_in : List (List ℕ) → ℕ → ℕ → ℕ
+choice_in choice i strand = get_or (get_or choice i []) strand 0
 
 -- each left choice is a strand number
-pub record LowTable (choice : List (List ℕ)) (empty : List ℕ) : Type 0 where
-  pub friends : (i : ℕ) → Low (get_or choice i [])
-  pub empties : Low empty
+abbrev pub LowTable : List (List ℕ) → Type 0
+LowTable choice = (i : ℕ) → Low (get_or choice i [])
 
 -- the configuration of so many positions that is traced back from its last occupant
 unfoldable pub traced_back : (ℕ → ℕ → ℕ) → ℕ → ℕ → List ℕ

@@ -31,11 +31,11 @@ pub record Left (m : Model) (options : ℕ → List ℕ) (i : ℕ) (strands : Li
 
 -- ---- the left choices of the positions passed
 
-abbrev pub Table : Model → (ℕ → List ℕ) → ℕ → List (List ℕ) → List ℕ → Type 0
-Table m options position choice empty = (i : ℕ) → i < position → (x : ℕ) → Memᴰ x (options i) → choice_in choice empty i x ≡ left_choice m options i x
+abbrev pub Table : Model → (ℕ → List ℕ) → ℕ → List (List ℕ) → Type 0
+Table m options position choice = (i : ℕ) → i < position → (x : ℕ) → Memᴰ x (options i) → choice_in choice i x ≡ left_choice m options i x
 
 -- ---- both
 
-pub record Passed (m : Model) (options : ℕ → List ℕ) (position : ℕ) (left : List ℕ) (energies : List Float) (choice : List (List ℕ)) (empty : List ℕ) : Type 0 where
+pub record Passed (m : Model) (options : ℕ → List ℕ) (position : ℕ) (left : List ℕ) (energies : List Float) (choice : List (List ℕ)) : Type 0 where
   pub entries : Left m options position left energies
-  pub choices : Table m options position choice empty
+  pub choices : Table m options position choice

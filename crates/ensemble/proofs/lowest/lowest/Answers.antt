@@ -15,6 +15,6 @@ returns c = λ m o b e.
     let passed = p.ensures.passed m (options_at m) o b (own-options m) (λ i h. refl) (record { entries = record { are = refl; entries = below_none _ }; choices = λ i h. absurd (not-suc-le-zero h) }) in
     let low = c.lowest_product-lowest in
     let choices = p.new.choices in
-    found choices.friends choices.empty p.result.now p.new.energies c.args.rt.0 low.result c.trace.new.configuration e low.ensures.chosen
+    found choices.rows p.result.now p.new.energies c.args.rt.0 low.result c.trace.new.configuration e low.ensures.chosen
     (length c.args.lent.now.options.counts.now) o.positions passed.entries passed.choices
-    (c.trace.ensures ∙ ap (λ (n : ℕ). traced_back (choice_in choices.friends choices.empty) n low.result.strand) c.requires.configuration_len)
+    (c.trace.ensures ∙ ap (λ (n : ℕ). traced_back (choice_in choices.rows) n low.result.strand) c.requires.configuration_len)

@@ -10,7 +10,7 @@ pub loop-position-init : goal.loop-position-init
 loop-position-init c = record {
   sized = refl;
   known = c.requires.known;
-  rest = rest-first (choice_in c.args.self.now.friends c.args.self.now.empty) (length c.args.configuration.now) c.args.last c.args.configuration.now refl;
+  rest = rest-first (choice_in c.args.self.now.rows) (length c.args.configuration.now) c.args.last c.args.configuration.now refl;
 }
 
 pub loop-position-preserved : goal.loop-position-preserved
@@ -20,6 +20,6 @@ loop-position-preserved c =
     record {
       sized = length-set l.configuration (l.position - 1) l.strand ∙ l.invariant.sized;
       known = c.of-strand.ensures.known;
-      rest = rest_more (choice_in c.args.self.now.friends c.args.self.now.empty) (length c.args.configuration.now) c.args.last l.position l.strand _ l.configuration
+      rest = rest_more (choice_in c.args.self.now.rows) (length c.args.configuration.now) c.args.last l.position l.strand _ l.configuration
           c.loop-position-test.true (omega arith) l.invariant.rest c.of-strand.ensures.value;
     }

@@ -10,5 +10,5 @@ abbrev pub invariant-loop-position : goal.invariant-loop-position
 invariant-loop-position l = record {
   sized : length l.configuration ≡ length l.initial.configuration;
   known : l.strand < 64;
-  rest : Rest (choice_in l.self.friends l.self.empty) (length l.initial.configuration) l.last l.position l.strand l.configuration;
+  rest : Rest (choice_in l.self.rows) (length l.initial.configuration) l.last l.position l.strand l.configuration;
 }

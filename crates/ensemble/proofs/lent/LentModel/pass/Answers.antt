@@ -23,8 +23,8 @@ loop-position-preserved c =
     let next = c.mfe_next_vector.new.energies in
     let sized : length next ≡ 64 = omega arith in
     let in-next : length friends < length next = omega (arith, row.ensures.few, row.ensures.some, length-take (length row.result.now - 1) row.result.now) in
-    let in-choice : i < length l.choices.friends = omega arith in
-    let in-empty : i < length l.choices.empty = omega arith in
+    let in-choice : i < length l.choices.rows = omega arith in
+    let in-row : 0 < length c.best_energies.new.choice = omega arith in
     record {
       few = row.ensures.few;
       known = row.ensures.known;
@@ -39,6 +39,6 @@ loop-position-preserved c =
             entries = left-more they b i in-model friends are (whole i c.loop-position.auto.position) known l.left.now l.energies old.entries c.best_energies.new.best c.best_energies.new.choice attached none.result none.ensures.chosen
                 c.sites.result.now sites next in-next c.mfe_next_vector.ensures row.result.now (length friends) row-is refl;
             choices = table_more they b i in-model friends are (whole i c.loop-position.auto.position) known l.left.now l.energies old.entries c.best_energies.new.best c.best_energies.new.choice attached none.result none.ensures.chosen
-                l.choices.friends l.choices.empty in-choice in-empty old.choices;
+                l.choices.rows in-choice in-row old.choices;
           };
     }

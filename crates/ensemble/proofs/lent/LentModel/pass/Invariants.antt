@@ -16,5 +16,5 @@ invariant-loop-position l = record {
   known : Known l.self.options.strands l.left;
   wide : length l.energies ≡ 64;
   passed : (m : Model) (options : ℕ → List ℕ) → OptionRows m l.self.options.rows.now l.self.options.counts.now → BondCells m l.self.options.strands l.self.bonds.strand_bonds.cells.now l.self.bonds.scaffold_bonds.now l.self.bonds.potentials.now → OptionsOf m options → ((i : ℕ) → l.first ≤ i → options i ≡ options_at m i)
-      → Passed m options l.first l.initial.left l.initial.energies l.initial.choices.friends l.initial.choices.empty → Passed m options l.position l.left l.energies l.choices.friends l.choices.empty;
+      → Passed m options l.first l.initial.left l.initial.energies l.initial.choices.rows → Passed m options l.position l.left l.energies l.choices.rows;
 }

@@ -42,13 +42,13 @@ returns c = λ m o b closing e.
     let p = c.pass-options in
     let passed = p.ensures.passed m (with_first m f) o b (ring-options m f option) (later-options m f) (record {
       entries = left-first m f option b in-model (part lent.options.rows.now c.args.option (c.args.option + 1)) _ (part-one lent.options.rows.now c.args.option inside) c.first_entry.ensures;
-      choices = table-first m f option _ _ (c.new-choices.ensures 0);
+      choices = table-first m f option _ (c.new-choices.ensures 0);
     }) in
     let low = c.lowest_closed-lowest in
     let chosen = rw lent.same_strands at low.ensures.chosen in
     let choices = p.new.choices in
     subst (λ (x : ℕ). FoundFrom m x c.trace.new.configuration low.result.energy) (first-option o in-model h)
     (found_first m f option lent.options.strands lent.bonds.strand_bonds.cells.now closing c.args.rt.0 e
-    choices.friends choices.empty p.result.now p.new.energies low.result c.trace.new.configuration chosen
+    choices.rows p.result.now p.new.energies low.result c.trace.new.configuration chosen
     (length lent.options.counts.now) some o.positions passed.entries passed.choices
-    (c.trace.ensures ∙ ap (λ (n : ℕ). traced_back (choice_in choices.friends choices.empty) n low.result.strand) c.requires.sized))
+    (c.trace.ensures ∙ ap (λ (n : ℕ). traced_back (choice_in choices.rows) n low.result.strand) c.requires.sized))
