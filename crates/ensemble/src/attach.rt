@@ -44,6 +44,7 @@ impl Entries<'_> {
         }
         let mut strand = self.options[0];
         let mut energy = key(strand, self.energies[0]);
+        // By hand: with `zip`, `map` and `reduce` over the two closures, neither that they may be called nor what is kept at the end was proved.
         for (next, given) in self.options[1..].iter().zip(&self.energies[1..]) {
             let next_energy = key(*next, *given);
             if !stays(energy, next_energy) {
