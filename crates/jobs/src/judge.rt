@@ -7,17 +7,17 @@ ghost use Rattle.jobs.specs.inner.Judged.{JudgedRight, judged_reply};
 
 use super::job::Job;
 use design::Design;
-use design::checks::{numbers_reply, tables_reply};
-use design::passed::TabledDesign;
+use design::passed::{AdmittedDesign, tabled};
 use ensemble::states::MOST_STATES;
 use prepared::options::{Counted, count_options};
 use reply::{ANSWERED, Refusal, refused_if};
 
-// What a design whose tables pass is judged for: its options and how many states these give, and the reply of the checks of its ambient and potentials.
+// What a design whose tables pass is judged for: its options and how many states these give, and itself as an admitted design,
+// or why its ambient or its potentials are refused.
 #[derive(Clone, Copy)]
 pub(crate) struct Judged<'a> {
     pub counted: Counted<'a>,
-    pub numbers: Result<(), Refusal>,
+    pub admitted: Result<AdmittedDesign<'a>, Refusal>,
 }
 
 // What a job replies.
@@ -25,7 +25,7 @@ fn job_reply(asked: Option<Job>, judged: &Result<Judged, Refusal>) -> Result<(),
     ensures { result ≡ judged_reply judged.now asked }
 {
     let job = asked.ok_or(Refusal::NotAJob)?;
-    let Judged { counted, numbers } = (*judged)?;
+    let Judged { counted, admitted } = (*judged)?;
     let states = counted.states;
     match job {
         Job::EnergyAt(rank) => {
@@ -35,7 +35,8 @@ fn job_reply(asked: Option<Job>, judged: &Result<Judged, Refusal>) -> Result<(),
         Job::Search => {}
         Job::Count => refused_if(Refusal::TooManyStates, MOST_STATES < states)?,
     }
-    numbers
+    admitted?;
+    Ok(())
 }
 
 // The number of a job.
@@ -50,7 +51,7 @@ pub(crate) fn job_number(asked: Option<Job>, judged: &Result<Judged, Refusal>) -
 
 // Judges a design: a job's reply has no place.
 pub(crate) fn judge<'a>(
-    design: &Design,
+    design: &'a Design<'a>,
     rows: &'a mut [u8],
     counts: &'a mut [u8],
 ) -> Result<Judged<'a>, Refusal>
@@ -59,9 +60,9 @@ pub(crate) fn judge<'a>(
     ensures judged_right { JudgedRight design.now result }
     ensures options { IfOk result (λ judged. OptionRows (model_of design.now) judged.counted.options.rows.now judged.counted.options.counts.now × (judged.counted.options.strands ≡ strands design.now)) }
 {
-    tables_reply(false, design).map_err(|refused| refused.refusal)?;
+    let tabled = tabled(false, design).map_err(|refused| refused.refusal)?;
     let counts = &mut counts[..design.positions()];
-    let counted = count_options(&TabledDesign { design }, rows, counts);
-    let numbers = numbers_reply(design).map_err(|refused| refused.refusal);
-    Ok(Judged { counted, numbers })
+    let counted = count_options(&tabled, rows, counts);
+    let admitted = tabled.admitted().map_err(|refused| refused.refusal);
+    Ok(Judged { counted, admitted })
 }

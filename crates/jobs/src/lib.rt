@@ -130,10 +130,9 @@ pub fn job_sheet(
         Ok(
             Judged {
                 counted,
-                numbers: Ok(()),
+                admitted: Ok(admitted),
             },
         ) => {
-            let admitted = AdmittedDesign { design };
             answer_jobs(&admitted, &counted, jobs, energies, counts, stretches);
         }
         _ => {

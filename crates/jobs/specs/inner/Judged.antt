@@ -30,7 +30,7 @@ states_of (Ok judged) = judged.counted.states
 states_of (Err refusal) = 0
 
 abbrev pub numbers_of : Result Judged Refusal → Result Unit Refusal
-numbers_of (Ok judged) = judged.numbers
+numbers_of (Ok judged) = reply_of judged.admitted
 numbers_of (Err refusal) = Ok tt
 
 -- what a job replies by what its design was judged for
