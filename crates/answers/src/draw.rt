@@ -100,6 +100,7 @@ impl<W: Write> Printer<'_, W> {
     // All stretches in turn.
     pub(crate) fn draw(&mut self, design: &SettledDesign) -> io::Result<()> {
         let mut from = 0;
+        // Where a stretch begins, the one before it tells when it is printed: an iterator would lay each out twice, or hold the printer.
         while from < design.configuration.len() {
             from = self.print_stretch(design, from)?;
         }

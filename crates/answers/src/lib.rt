@@ -40,7 +40,7 @@ impl Spot {
         ensures line { result.line ≡ line }
         ensures word { result.word ≡ cond (eqb word.size 0) None (Some word) }
     {
-        let word = if word.size == 0 { None } else { Some(word) };
+        let word = (word.size != 0).then_some(word);
         Spot { line, word }
     }
 }
@@ -60,10 +60,7 @@ impl Found {
         ensures why { result.why ≡ why }
     {
         Found {
-            spot: Spot {
-                line: None,
-                word: None,
-            },
+            spot: Spot::default(),
             why,
         }
     }

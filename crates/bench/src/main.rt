@@ -1,13 +1,15 @@
 // Document 01's bench table, the lines that are run rather than proved, and the worked examples of the paper and of rgrow's
-// documentation. Each answer is compared bit for bit with the sum that the line gives; the file stdout holds what must be written.
+// documentation. Each answer is compared bit for bit with the sum that the line gives; the file stdout holds what must be written. What a line
+// expects is the line's own number, also where the code has a constant for it.
 #![tactic(auto)]
 
 use design::Design;
+use reply::limits::{CELLS, GLUES, SIDES};
 use reply::{Refusal, Refused};
-use sdc1d_params::{Build, Copies, LentParameters, Penalty};
+use sdc1d_params::{Build, Copies, LentParameters};
 use std::io;
 use std::io::Write;
-use units::{Ambient, KcalPerMol, KcalPerMolKelvin, Kelvin};
+use units::{Ambient, KcalPerMol, Kelvin};
 use utils::DgDs;
 
 // A line of the table, and whether it holds.
@@ -19,6 +21,9 @@ fn say<W: Write>(out: &mut W, line: &[u8], holds: bool) -> io::Result<()> {
         out.write_all(b": NOT SO\n")
     }
 }
+
+// 2^-30, in kcal/mol.
+const NEAR: f64 = 0.0000000009313225746154785;
 
 // The same bits.
 fn same(x: f64, y: f64) -> bool {
@@ -37,12 +42,13 @@ fn is_dg(answer: Result<KcalPerMol, Refusal>, dg: f64) -> bool {
 
 // Whether an energy lies within 2^-30 of this.
 fn is_near(answer: Result<KcalPerMol, Refusal>, dg: f64) -> bool {
-    answer.is_ok_and(|given| {
-        given.0 - dg <= 0.0000000009313225746154785 && dg - given.0 <= 0.0000000009313225746154785
-    })
+    answer.is_ok_and(|given| given.0 - dg <= NEAR && dg - given.0 <= NEAR)
 }
 
-// The reply to a build of eleven strands, with 33 glues: 31 of as many names, the letter a once, twice and so on; then that letter 32 times
+// The strands that are named; a build adds strand 0, the quencher's and the reporter's.
+const USERS: usize = 11;
+
+// The reply to a build of these eleven strands, with 33 glues: 31 of as many names, the letter a once, twice and so on; then that letter 32 times
 // by a mark, and none. No scaffold, no entries.
 fn named(mark: usize) -> Result<(), Refusal> {
     let strands = [
@@ -51,28 +57,24 @@ fn named(mark: usize) -> Result<(), Refusal> {
         19, 1, 0, 20, 1, 0, 21, 1, 0, 22, 1, 0, 23, 1, 0, 24, 1, 0, 25, 1, 0, 26, 1, 0, 27, 1, 0,
         28, 1, 0, 29, 1, 0, 30, 1, 0, 31, mark, 0, 32, 0, 0, 0,
     ];
-    let penalty = Penalty {
-        dg: KcalPerMol(0.0),
-        ds: KcalPerMolKelvin(0.0),
-    };
     let copies = Copies {
         quencher: None,
         reporter: None,
     };
     let parameters = LentParameters {
         text: b"aaaaaaaaaaaaaaaaaaaaaaaaaaaaaaaa",
-        users: 11,
+        users: USERS,
         strands: &strands,
         scaffold: &[],
         entries: &[],
         energies: &[],
-        penalty,
+        penalty: DgDs::default(),
         copies,
     };
-    let mut strand_glues = [0u8; 42];
+    let mut strand_glues = [0u8; SIDES * (USERS + 3)];
     let mut scaffold = [0u8; 1];
-    let mut dg = [0.0; 4096];
-    let mut ds = [0.0; 4096];
+    let mut dg = [0.0; CELLS];
+    let mut ds = [0.0; CELLS];
     sdc1d_params::from_params(
         Build::Ordinary,
         &parameters,
@@ -86,15 +88,11 @@ fn named(mark: usize) -> Result<(), Refusal> {
 // The states of a scaffold whose every open position has strand 1 as its one friend.
 fn states_of(scaffold: &[u8], marks: &[u8]) -> Result<u64, Refused> {
     let glues = [0u8, 0, 0, 0, 1, 0];
-    let mut dg = [0.0; 4096];
-    dg[65] = -2.0;
-    let ds = [0.0; 4096];
+    let mut dg = [0.0; CELLS];
+    dg[GLUES + 1] = -2.0;
+    let ds = [0.0; CELLS];
     let potentials = [0.0, -1.0];
-    let ambient = Ambient {
-        rt: KcalPerMol(0.5),
-        strand_excess: Kelvin(0.0),
-        scaffold_excess: Kelvin(0.0),
-    };
+    let ambient = Ambient::new(0.5, 0.0, 0.0);
     let design = Design::new(scaffold, marks, &glues, &dg, &ds, &potentials, ambient);
     sdc1d::number_of_states(&design)
 }

@@ -3,7 +3,8 @@
 use mathlib.Core.Path.{◌≡◌, refl, sym, ap, ◌∙◌}
 use mathlib.Core.Bool.{Bool, false, not}
 use mathlib.Core.List.{List, []}
-use Prim.Native.Nat.{ℕ, ◌<◌}
+use mathlib.Core.Logic.{inl, inr}
+use Prim.Native.Nat.{ℕ, suc, ◌<◌}
 use lib.Dec.{lit≤, eqb}
 use lib.ListN.{length}
 use lib.Ieee.{Float}
@@ -12,10 +13,12 @@ use Rattle.doubles.specs.Decimal.{zero}
 use Rattle.reply.specs.First.{Check, first_of}
 use Rattle.reply.specs.Figures.{figures_of, entries_of}
 use Rattle.reply.proofs.Figures.{same-figures, number-admitted}
-use Rattle.model.specs.Model.{Model, Friend, State}
+use Rattle.model.specs.Model.{Model, Friend}
 use Rattle.model.specs.States.{count, state_at}
 use Rattle.model.specs.Energy.{state_energy}
 use Rattle.model.specs.Search.{SearchResult, search}
+use Rattle.model.specs.Read.{Alike}
+use Rattle.model.proofs.Read.{Held, alike-with}
 use Rattle.design.specs.Design.{Design, positions, strands, strand_bond_in, scaffold_bond_in, model_of}
 use Rattle.design.specs.Checks.{beyond, Admitted, design_checks, own_count_checks, own_rank_checks, own_energy_checks, energy_checks}
 use Rattle.design.specs.Laws.{Doubles}
@@ -32,7 +35,6 @@ use Rattle.bond_tables.proofs.Range.{not-out}
 use Rattle.bond_tables.proofs.Table.{length-table, table_at, none-in-table}
 use Rattle.bond_tables.proofs.Over.{same-checks}
 use Rattle.reply.specs.Number.{Reply}
-use Rattle.bond_tables.proofs.Bonds.{state-same, search-same}
 
 -- states do not hang on bonds
 pub same_count : (d : Design) (t u : List Float) → count (model_over d t u) ≡ count (model_of d)
@@ -64,26 +66,24 @@ module _ (d : Design) (doubles : Doubles d) (a : Admitted d) where
   unfolding model_of
   site-same i x f = let w = friend-tested d i x f in sym (table_at (positions d) (strands d) (scaffold_bond_in d) zero i x w.0 w.1)
 
-  pair_same : (x y : ℕ) → x < strands d → y < strands d → (model_of d).pair x y ≡ bond_cell (strands d) (strand_table d) x y
+  low : (i x : ℕ) → Held (model_of d) i x → x < strands d
+  low i x (inl e) = rw e (sized d a.sizes).null
+  low i x (inr f) = (friend-tested d i x f).1
+
+  pair_same : (i x y : ℕ) → Held (model_of d) i x → Held (model_of d) (suc i) y → (model_of d).pair x y ≡ bond_cell (strands d) (strand_table d) x y
   unfolding model_of
-  pair_same x y h k = sym (table_at (strands d) (strands d) (strand_bond_in d) zero x y h k)
+  pair_same i x y h k = sym (table_at (strands d) (strands d) (strand_bond_in d) zero x y (low i x h) (low (suc i) y k))
 
-  energy-same : (s : List ℕ) → State (model_of d) s → state_energy (model_of d) s ≡ state_energy over s
+  read : Alike (model_of d) over
   unfolding model_over
-  energy-same s w =
-      state-same (model_of d) (strands d) (bond_cell (strands d) (scaffold_table d)) (bond_cell (strands d) (strand_table d)) (sized d a.sizes).null (λ i x f. (friend-tested d i x f).1) site-same pair_same s w
-
-  searched-same : search (model_of d) ≡ search over
-  unfolding model_over
-  searched-same =
-      search-same (model_of d) (strands d) (bond_cell (strands d) (scaffold_table d)) (bond_cell (strands d) (strand_table d)) (sized d a.sizes).null (λ i x f. (friend-tested d i x f).1) site-same pair_same
+  read = alike-with (model_of d) (bond_cell (strands d) (scaffold_table d)) (bond_cell (strands d) (strand_table d)) (model_of d).potential site-same pair_same (λ i x f. refl)
 
   alike : OverAlike d (strand_table d) (scaffold_table d)
   alike = record {
     in_range = cells_right;
     state_energies = λ s.
         ap (λ (r : Reply). figures_of r zero (state_energy over s)) (same-reply (not (eqb (length s) (positions d))) (own_energy_checks d s))
-        ∙ same-figures (first_of (energy_checks d s)) zero (state_energy over s) (state_energy (model_of d) s) (λ e. sym (energy-same s (taken d s e).state));
+        ∙ same-figures (first_of (energy_checks d s)) zero (state_energy over s) (state_energy (model_of d) s) (λ e. sym (read.state_energies s (taken d s e).state));
     counts =
         ap (λ (r : Reply). figures_of r 0 (count over)) (same-reply false (own_count_checks d))
         ∙ ap (λ (n : ℕ). figures_of (first_of (design_checks false d (own_count_checks d) [])) 0 n) (same_count d (strand_table d) (scaffold_table d));
@@ -93,10 +93,10 @@ module _ (d : Design) (doubles : Doubles d) (a : Admitted d) where
         ∙ ap (λ (s : List ℕ). entries_of (first_of (design_checks (not (eqb (length entries) (positions d))) d (own_rank_checks d rank) [])) entries s) (same-state d (strand_table d) (scaffold_table d) rank);
     searches = λ entries.
         ap (λ (r : Reply). figures_of r zero (search over).energy) (same-reply (not (eqb (length entries) (positions d))) [])
-        ∙ ap (λ (found : SearchResult). figures_of (first_of (search_checks d entries)) zero found.energy) (sym searched-same);
+        ∙ ap (λ (found : SearchResult). figures_of (first_of (search_checks d entries)) zero found.energy) (sym read.searched);
     searched_entries = λ entries.
         ap (λ (r : Reply). entries_of r entries (search over).configuration) (same-reply (not (eqb (length entries) (positions d))) [])
-        ∙ ap (λ (found : SearchResult). entries_of (first_of (search_checks d entries)) entries found.configuration) (sym searched-same);
+        ∙ ap (λ (found : SearchResult). entries_of (first_of (search_checks d entries)) entries found.configuration) (sym read.searched);
   }
 
 pub filled-tables : FilledTables

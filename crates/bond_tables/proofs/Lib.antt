@@ -1,7 +1,6 @@
 pub mod Table
 pub mod Range
 pub mod Over
-pub mod Bonds
 pub mod Bounded
 pub mod Filled
 pub mod Replies

@@ -29,18 +29,15 @@ pub(crate) fn wrong_tables(design: &Design, strand_cells: usize, scaffold_cells:
         || scaffold_cells != positions * strands
 }
 
-// Whether a cell is beyond the most that a bond may be. All are counted, since a turn then has no way out to look at: by `any` the cells of both tables
-// of a largest design take 10.0 µs and not 7.5.
+// Whether a cell is beyond the most that a bond may be. All are looked at, since a turn then has no way out to test: by `any` the cells of both tables of
+// a largest design take 10.0 µs and not 7.5.
 fn cells_beyond(cells: &[f64]) -> bool
     ensures { result ≡ any (beyond 80000) cells.now }
 {
-    let mut out: usize = 0;
-    for cell in cells {
-        if !doubles::in_range(-BOND, BOND, *cell) {
-            out += 1;
-        }
-    }
-    0 < out
+    cells.iter().fold(
+        false,
+        |out, cell| out | !doubles::in_range(-BOND, BOND, *cell),
+    )
 }
 
 // What is refused on account of the tables: before the reply of the same call over the design, it is the reply over the tables.
@@ -52,8 +49,8 @@ pub(crate) fn bonds_reply(
     ensures value { (own : List Check) → result or_else first_of (design_checks own_size design.now own []) ≡ first_of (over_checks own_size design.now tables.now.strand_bonds.now tables.now.scaffold_bonds.now own) }
     ensures tables { OnOk result (Tables.wrong_tables design.now tables.now.strand_bonds.now tables.now.scaffold_bonds.now ≡ false) }
     ensures cells { OnOk result (bonds_out tables.now.strand_bonds.now tables.now.scaffold_bonds.now ≡ false) }
-    ensures pairs_len { OnOk result (length tables.now.strand_bonds.now ≡ strands design.now * strands design.now) }
-    ensures sites_len { OnOk result (length tables.now.scaffold_bonds.now ≡ positions design.now * strands design.now) }
+    ensures strand_bonds_len { OnOk result (length tables.now.strand_bonds.now ≡ strands design.now * strands design.now) }
+    ensures scaffold_bonds_len { OnOk result (length tables.now.scaffold_bonds.now ≡ positions design.now * strands design.now) }
     ensures few { OnOk result (strands design.now ≤ 64) }
 {
     let wrong = wrong_tables(

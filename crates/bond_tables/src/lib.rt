@@ -17,19 +17,18 @@ ghost use Rattle.bond_tables.specs.Answers.{fill_answer, filled_strands, filled_
 
 use checks::{bonds_reply, wrong_tables};
 use design::Design;
-use design::checks::design_reply;
 use design::options::options_of;
-use design::passed::AdmittedDesign;
+use design::passed::{AdmittedDesign, admitted};
 use design::tables::{fill_scaffold_bonds, fill_strand_bonds};
 use ensemble::bonds::Bonds;
-use ensemble::energies::{Places, Terms};
+use ensemble::energies::Places;
 use ensemble::lent::LentModel;
 use ensemble::lowest::lowest;
 use ensemble::options::OPTIONS;
 use reply::Refused;
 use reply::limits::POSITIONS;
 use sdc1d::{energy_reply, number_of_states, state_at_rank};
-use terms::fill_terms_over;
+use terms::terms_over;
 use units::KcalPerMol;
 
 // Tables of bonds that are lent beside a design.
@@ -50,7 +49,7 @@ pub fn fill_bond_tables(
     ensures scaffold_bonds_after { scaffold_bonds.new ≡ filled_scaffold design.now strand_bonds.old scaffold_bonds.old }
 {
     let own_size = wrong_tables(design, strand_bonds.len(), scaffold_bonds.len());
-    design_reply(own_size, design)?;
+    admitted(own_size, design)?;
     fill_strand_bonds(design, strand_bonds);
     fill_scaffold_bonds(design, scaffold_bonds);
     Ok(())
@@ -66,8 +65,7 @@ pub fn state_energy_over(
 {
     bonds_reply(configuration.len() != design.positions(), design, tables)?;
     energy_reply(design, configuration)?;
-    let mut terms = [Terms::default(); POSITIONS];
-    fill_terms_over(design, tables, configuration, &mut terms);
+    let terms = terms_over(design, tables, configuration);
     let places = Places {
         configuration,
         terms: &terms,
@@ -144,9 +142,9 @@ pub fn search_over(
 {
     let own_size = configuration.len() != design.positions();
     bonds_reply(own_size, design, tables)?;
-    design_reply(own_size, design)?;
+    let admitted = admitted(own_size, design)?;
     design.hold_doubles();
     hold_doubles(tables.strand_bonds);
     hold_doubles(tables.scaffold_bonds);
-    Ok(lowest_over(&AdmittedDesign { design }, tables, configuration))
+    Ok(lowest_over(&admitted, tables, configuration))
 }

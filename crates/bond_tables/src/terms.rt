@@ -9,6 +9,7 @@ use super::BondTables;
 use design::Design;
 use design::reads::{byte_at, number_at};
 use ensemble::energies::Terms;
+use reply::limits::POSITIONS;
 
 // The cell [row][column] of a table as wide as there are strands.
 fn bond_cell(strands: usize, cells: &[f64], row: usize, column: u8) -> f64
@@ -16,28 +17,28 @@ fn bond_cell(strands: usize, cells: &[f64], row: usize, column: u8) -> f64
     requires row_bound { row ≤ 255 }
     ensures { result ≡ bond_cell strands cells.now row column }
 {
-    number_at(cells, row * strands + column as usize)
+    number_at(cells, row * strands + usize::from(column))
 }
 
 // The terms of each place of a configuration.
-pub(crate) fn fill_terms_over(
+pub(crate) fn terms_over(
     design: &Design,
     tables: &BondTables,
     configuration: &[u8],
-    terms: &mut [Terms],
-)
+) -> [Terms; POSITIONS]
     requires strands_bound { strands design.now ≤ 64 }
     requires configuration_len_bound { length configuration.now ≤ 128 }
-    requires configuration_in_bounds { length configuration.now ≤ length terms.old }
-    ensures { PlaceTerms (model_over design.now tables.now.strand_bonds.now tables.now.scaffold_bonds.now) configuration.now terms.new }
+    ensures { PlaceTerms (model_over design.now tables.now.strand_bonds.now tables.now.scaffold_bonds.now) configuration.now result }
 {
     let strands = design.strands();
+    let mut terms = [Terms::default(); POSITIONS];
     for (position, &strand) in configuration.iter().enumerate() {
         let right = byte_at(configuration, position + 1);
         terms[position] = Terms {
             site: bond_cell(strands, tables.scaffold_bonds, position, strand),
-            pair: bond_cell(strands, tables.strand_bonds, strand as usize, right),
+            pair: bond_cell(strands, tables.strand_bonds, usize::from(strand), right),
             potential: design.potential_of(strand),
         };
     }
+    terms
 }

@@ -21,11 +21,11 @@ use Rattle.built.specs.Bench.{one_strand, lent}
 
 -- an entry for the one name `a`, of the text `a**`, with dG 0.0
 abbrev pub for_name : Entry
-for_name = record { first_start = 0; first_size = 1; second = record { mark = 0; start = 0; size = 0 }; form = 0; start = 0; size = 0; dg = zero; ds = zero }
+for_name = record { first = record { start = 0; size = 1 }; second = record { mark = 0; part = record { start = 0; size = 0 } }; form = 0; sequence = record { start = 0; size = 0 }; dg = zero; ds = zero }
 
 -- and one for the pair of `a*` and `a`, which are its base* and its base, with dG −1
 abbrev pub for_pair : Entry
-for_pair = record { first_start = 0; first_size = 2; second = record { mark = 1; start = 0; size = 1 }; form = 0; start = 0; size = 0; dg = nearest (minus 1 0); ds = zero }
+for_pair = record { first = record { start = 0; size = 2 }; second = record { mark = 1; part = record { start = 0; size = 1 } }; form = 0; sequence = record { start = 0; size = 0 }; dg = nearest (minus 1 0); ds = zero }
 
 -- what stands at [1][2], the cell of `a` and `a*`, after both
 abbrev pub after_both : Entry → Entry → Float

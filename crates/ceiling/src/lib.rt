@@ -11,8 +11,8 @@ ghost use Rattle.ceiling.specs.Answers.{counted_answer, counted_entries, ceiling
 ghost use Rattle.ceiling.specs.inner.Found.{FoundUnder};
 
 use design::Design;
-use design::checks::{numbers_reply, ranged_reply};
-use design::passed::{AdmittedDesign, TabledDesign};
+use design::options::OptionedDesign;
+use design::passed::{AdmittedDesign, TabledDesign, ranged};
 use ensemble::bonds::{Bonds, SCAFFOLD_BONDS, STRAND_BONDS};
 use ensemble::lent::LentModel;
 use ensemble::options::{OPTIONS, Options};
@@ -25,7 +25,8 @@ use reply::{Refusal, Refused, refused_if};
 use under::{Limit, under_from};
 use units::KcalPerMol;
 
-// The bonds of an admitted design, and the first state under the ceiling over these: its energy, where there is one.
+// The bonds of an admitted design, and the first state under the ceiling over these: its energy, where there is one. The options come beside the design:
+// an `OptionedDesign` is not known to be admitted.
 fn search_states(
     admitted: &AdmittedDesign,
     options: &Options,
@@ -39,9 +40,10 @@ fn search_states(
     let design = admitted.design;
     let mut strand_bonds = [0.0; STRAND_BONDS];
     let mut scaffold_bonds = [0.0; SCAFFOLD_BONDS];
-    fill_bonds(design, options, &mut strand_bonds, &mut scaffold_bonds);
-    let bonds = Bonds::new(&strand_bonds, &scaffold_bonds, design.potentials());
     let options = *options;
+    let optioned = OptionedDesign { design, options };
+    fill_bonds(&optioned, &mut strand_bonds, &mut scaffold_bonds);
+    let bonds = Bonds::new(&strand_bonds, &scaffold_bonds, design.potentials());
     let lent = LentModel { options, bonds };
     let limit = Limit {
         rt: design.rt().0,
@@ -67,8 +69,8 @@ fn counted(
     let counts = &mut counts[..design.positions()];
     let Counted { options, states } = count_options(tabled, &mut rows, counts);
     refused_if(Refusal::TooManyStates, MOST_STATES < states)?;
-    numbers_reply(design)?;
-    let found = search_states(&AdmittedDesign { design }, &options, ceiling, entries);
+    let admitted = tabled.admitted()?;
+    let found = search_states(&admitted, &options, ceiling, entries);
     Ok(KcalPerMol(found.ok_or(Refusal::NoneUnder)?))
 }
 
@@ -82,6 +84,6 @@ pub fn first_state_under(
     ensures entries_after { entries.new ≡ ceiling_entries design.now ceiling.0 entries.old }
 {
     let own_size = entries.len() != design.positions();
-    ranged_reply(own_size, !ceiling.0.is_finite(), design)?;
-    counted(&TabledDesign { design }, ceiling, entries)
+    let tabled = ranged(own_size, !ceiling.0.is_finite(), design)?;
+    counted(&tabled, ceiling, entries)
 }

@@ -3,7 +3,7 @@
 ghost use Rattle.std.specs.Prelude.{◌≡◌, ℕ, ◌<◌, ◌≤◌, length};
 ghost use Rattle.model.specs.Model.{Model};
 ghost use Rattle.ensemble.specs.Layout.{OptionRows};
-ghost use Rattle.prepared.specs.Layout.{StateCells};
+ghost use Rattle.prepared.specs.Layout.{StateBonds};
 ghost use Rattle.prepared.specs.inner.Sums.{Beside};
 ghost use Rattle.ceiling.specs.inner.Passing.{UnderFrom};
 
@@ -29,7 +29,7 @@ pub(crate) fn under_from(
     requires entries_len { length entries.old ≡ length lent.now.options.counts.now }
     requires position_in_bounds { position ≤ length lent.now.options.counts.now }
     requires strand_in_bounds { begun.strand < lent.now.options.strands }
-    ensures { (m : Model) → OptionRows m lent.now.options.rows.now lent.now.options.counts.now → StateCells m lent.now.options.strands lent.now.bonds.strand_bonds.cells.now lent.now.bonds.scaffold_bonds.now lent.now.bonds.potentials.now → limit.rt ≡ m.rt → Beside m position begun.strand → UnderFrom m limit.ceiling position begun.strand begun.sum entries.old entries.new result }
+    ensures { (m : Model) → OptionRows m lent.now.options.rows.now lent.now.options.counts.now → StateBonds m lent.now.bonds → limit.rt ≡ m.rt → Beside m position begun.strand → UnderFrom m limit.ceiling position begun.strand begun.sum entries.old entries.new result }
 {
     if position == lent.options.counts.len() {
         let energy = ended(begun, lent.bonds.potentials) * limit.rt;

@@ -1,14 +1,17 @@
 -- What it is for words to follow one another, word by word and neighbour by neighbour, in any form. Assumes nothing.
 use mathlib.Core.Path.{◌≡◌, refl, sym, ap, ◌∙◌}
-use mathlib.Core.Bool.{true, false, ◌&&◌, and-false}
+use mathlib.Core.Bool.{true, false, ◌&&◌, and-false, false≢true}
 use mathlib.Core.List.{List, [], ◌∷◌, ◌++◌, map, append_assoc}
 use Prim.Native.Nat.{ℕ, ◌≤◌}
-use borrow.Author.Tests.{leb-true, le-leb}
+use lib.Dec.{eqb}
+use borrow.Author.Tests.{leb-true, le-leb, eq-eqb}
 use Rattle.lists.proofs.Tests.{both, and_both}
 use Rattle.deck.specs.Form.{Form, nothing, something, same_run, may_follow}
-use Rattle.deck.specs.Deck.{follow}
+use Rattle.deck.specs.Word.{kind_of, payload_of}
+use Rattle.deck.specs.Deck.{follow, positions, is_deck}
 use Rattle.deck.specs.declared.form.Stretch.{Stretch}
 use Rattle.deck.proofs.Stretches.{may, may-apart}
+use Rattle.deck.proofs.Decks.{deck-parts, parts-fit}
 
 -- the right one of two neighbours is a word too
 pub right-one : {words : List ℕ} (front back : List ℕ) (left right : ℕ) → words ≡ front ++ left ∷ right ∷ back → words ≡ (front ++ left ∷ []) ++ right ∷ back
@@ -69,3 +72,27 @@ module _ (form : Form) where
 
   pub neighbours-follow : (words : List ℕ) → Neighbours words → follow form nothing (map form.stretch_of words) ≡ true
   neighbours-follow words n = from-neighbours nothing words n (λ word rest e. refl)
+
+  -- a valid deck: its first word, and the words after it
+  pub record Divided (words : List ℕ) : Type 0 where
+    pub first : ℕ
+    pub rest : List ℕ
+    pub split : words ≡ first ∷ rest
+    pub kind : kind_of first ≡ 1
+    pub most : payload_of first ≤ 128
+    pub neighbours : Neighbours rest
+    pub sum : positions (map form.stretch_of rest) ≡ payload_of first
+
+  pub divided : (words : List ℕ) → is_deck form words ≡ true → Divided words
+  unfolding is_deck
+  divided [] d = absurd (false≢true d)
+  divided (first ∷ rest) d =
+      let p = deck-parts form first rest d in
+      record { first = first; rest = rest; split = refl; kind = p.0.kind; most = p.0.few; neighbours = follow-neighbours rest p.0.follows; sum = p.1 }
+
+  pub deck-of-divided : (words : List ℕ) → Divided words → is_deck form words ≡ true
+  unfolding is_deck
+  deck-of-divided words w =
+      rw w.split
+      (parts-fit form eqb w.first w.rest
+      (record { kind = w.kind; few = w.most; follows = neighbours-follow w.rest w.neighbours; sum = eq-eqb (positions (map form.stretch_of w.rest)) (payload_of w.first) w.sum }))

@@ -1,6 +1,6 @@
 -- `is_deck` of document 01's form is the test for the document's rules, taken one by one. Assumes nothing.
 use mathlib.Core.Path.{◌≡◌, refl, sym, ap, ◌∙◌}
-use mathlib.Core.Bool.{Bool, true, false, ◌&&◌, true≢false, false≢true}
+use mathlib.Core.Bool.{Bool, true, false, ◌&&◌, true≢false}
 use mathlib.Core.List.{List, [], ◌∷◌, ◌++◌, map}
 use mathlib.Core.Logic.{◌↔◌}
 use Prim.Native.Nat.{ℕ, ◌≤◌, ◌<◌, ◌^◌}
@@ -15,8 +15,7 @@ use Rattle.deck.specs.Valid.{StrandOrEmpties, strand, empties, positions_of, tot
 use Rattle.deck.specs.declared.form.Stretch.{Stretch}
 use Rattle.deck.proofs.Split.{kind-word, payload-word}
 use Rattle.deck.proofs.Singles.{word-cases, same-run-empties}
-use Rattle.deck.proofs.Decks.{deck-parts, parts-fit}
-use Rattle.deck.proofs.Neighbours.{Neighbours, right-one, follow-neighbours, neighbours-follow}
+use Rattle.deck.proofs.Neighbours.{Neighbours, right-one, divided, deck-of-divided}
 
 -- what the rules say of a word, and what the form does
 record Same (word : ℕ) (s : Stretch) : Type 0 where
@@ -55,22 +54,20 @@ total-positions (w ∷ ws) each =
 -- ---- from the test to the rules
 
 to-rules : (words : List ℕ) → is_deck singles words ≡ true → ValidDeck words
-unfolding is_deck
-to-rules [] d = absurd (false≢true d)
-to-rules (first ∷ rest) d =
-    let p = deck-parts singles first rest d in
-    let n = follow-neighbours singles rest p.0.follows in
+to-rules words d =
+    let w = divided singles words d in
+    let n = w.neighbours in
     record {
-      first = first;
-      rest = rest;
-      split = refl;
-      kind = p.0.kind;
-      most = p.0.few;
+      first = w.first;
+      rest = w.rest;
+      split = w.split;
+      kind = w.kind;
+      most = w.most;
       each = λ front back word e. (same word (n.each front back word e)).rule;
       apart = λ front back left right e k l.
           let t = same-run-words (same left (n.each front (right ∷ back) left e)) (same right (n.each (front ++ left ∷ []) back right (right-one front back left right e))) in
           true≢false (sym (and_both (eq-eqb (kind_of left) 3 k) (eq-eqb (kind_of right) 3 l)) ∙ sym t ∙ n.apart front back left right e);
-      sum = total-positions rest n.each ∙ p.1;
+      sum = total-positions w.rest n.each ∙ w.sum;
     }
 
 -- ---- from the rules to the test
@@ -91,14 +88,9 @@ rules-neighbours words v =
     }
 
 to-test : (words : List ℕ) → ValidDeck words → is_deck singles words ≡ true
-unfolding is_deck
 to-test words v =
-    let ss = map singles.stretch_of v.rest in
     let n = rules-neighbours words v in
-    let sum : positions ss ≡ payload_of v.first = sym (total-positions v.rest n.each) ∙ v.sum in
-    rw v.split
-    (parts-fit singles eqb v.first v.rest
-    (record { kind = v.kind; few = v.most; follows = neighbours-follow singles v.rest n; sum = eq-eqb (positions ss) (payload_of v.first) sum }))
+    deck-of-divided singles words (record { first = v.first; rest = v.rest; split = v.split; kind = v.kind; most = v.most; neighbours = n; sum = sym (total-positions v.rest n.each) ∙ v.sum })
 
 pub valid-right : (words : List ℕ) → (is_deck singles words ≡ true) ↔ ValidDeck words
 valid-right words = (to-rules words, to-test words)

@@ -1,11 +1,10 @@
 -- `is_deck` of the form with runs is the test for document 02's rules, taken one by one. Assumes nothing.
 use mathlib.Core.Path.{◌≡◌, refl, sym, ap, subst, ◌∙◌}
-use mathlib.Core.Bool.{true, false, true≢false, false≢true}
+use mathlib.Core.Bool.{true, false, true≢false}
 use mathlib.Core.List.{List, [], ◌∷◌, ◌++◌, map}
 use mathlib.Core.Logic.{◌↔◌}
 use Prim.Native.Nat.{ℕ, ◌+◌, ◌-◌, ◌*◌, ◌/◌, ◌%◌, ◌≤◌}
 use native.Mathlib.Omega.{arith}
-use lib.Dec.{eqb}
 use borrow.Author.Tests.{eq-eqb, ne_eqb}
 use Rattle.deck.specs.Word.{kind_of, payload_of}
 use Rattle.deck.specs.Form.{runs, stretch, same_run}
@@ -14,8 +13,7 @@ use Rattle.deck.specs.ValidRuns.{StrandRun, EmptyRun, Total, none, strands, empt
 use Rattle.deck.specs.declared.form.Stretch.{Stretch}
 use Rattle.deck.proofs.Split.{kind-word, payload-word}
 use Rattle.deck.proofs.Runs.{word-cases}
-use Rattle.deck.proofs.Decks.{deck-parts, parts-fit}
-use Rattle.deck.proofs.Neighbours.{Neighbours, right-one, follow-neighbours, neighbours-follow}
+use Rattle.deck.proofs.Neighbours.{Neighbours, right-one, divided, deck-of-divided}
 
 -- ---- a word by the rules, and in the form
 
@@ -63,18 +61,16 @@ same-occupant : (left right : ℕ) → (runs.stretch_of left).occupant ≡ (runs
 same-occupant left right e f = true≢false (sym (rw (eq-eqb (runs.stretch_of left).occupant (runs.stretch_of right).occupant e)) ∙ f)
 
 to-rules : (words : List ℕ) → is_deck runs words ≡ true → ValidRuns words
-unfolding is_deck
-to-rules [] d = absurd (false≢true d)
-to-rules (first ∷ rest) d =
-    let p = deck-parts runs first rest d in
-    let n = follow-neighbours runs rest p.0.follows in
+to-rules words d =
+    let w = divided runs words d in
+    let n = w.neighbours in
     record {
-      first = first;
-      rest = rest;
-      split = refl;
-      kind = p.0.kind;
-      most = p.0.few;
-      sum = subst (Total rest) p.1 (to-total rest n.each);
+      first = w.first;
+      rest = w.rest;
+      split = w.split;
+      kind = w.kind;
+      most = w.most;
+      sum = subst (Total w.rest) w.sum (to-total w.rest n.each);
       differ = λ front back left right strand r s e l m.
           same-occupant left right (ap (λ (t : Stretch). t.occupant) (strand-stretch l) ∙ sym (ap (λ (t : Stretch). t.occupant) (strand-stretch m))) (n.apart front back left right e);
       apart = λ front back left right e k l. same-occupant left right (empty-occupant left k ∙ sym (empty-occupant right l)) (n.apart front back left right e);
@@ -113,9 +109,7 @@ not_same left right l r differ apart = rw (ne_eqb (runs.stretch_of left).occupan
     same (of-empties l y) (of-empties r z) e = apart l.kind r.kind
 
 to-test : (words : List ℕ) → ValidRuns words → is_deck runs words ≡ true
-unfolding is_deck
 to-test words v =
-    let ss = map runs.stretch_of v.rest in
     let each : (front back : List ℕ) (word : ℕ) → v.rest ≡ front ++ word ∷ back → Rule word (runs.stretch_of word) =
     λ front back word e. from-total front back word (rw e at v.sum) in
     let n : Neighbours runs v.rest =
@@ -126,9 +120,7 @@ to-test words v =
           (λ strand l r. v.differ front back left right strand l r e)
           (v.apart front back left right e);
     } in
-    rw v.split
-    (parts-fit runs eqb v.first v.rest
-    (record { kind = v.kind; few = v.most; follows = neighbours-follow runs v.rest n; sum = eq-eqb (positions ss) (payload_of v.first) (total-positions v.sum) }))
+    deck-of-divided runs words (record { first = v.first; rest = v.rest; split = v.split; kind = v.kind; most = v.most; neighbours = n; sum = total-positions v.sum })
 
 pub valid-runs-right : (words : List ℕ) → (is_deck runs words ≡ true) ↔ ValidRuns words
 valid-runs-right words = (to-rules words, to-test words)

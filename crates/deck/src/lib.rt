@@ -6,13 +6,13 @@ mod reading;
 pub mod word;
 mod writing;
 
-ghost use Rattle.std.specs.Prelude.{◌≡◌, take, Some};
+ghost use Rattle.std.specs.Prelude.{◌≡◌, take};
 ghost use Rattle.reply.specs.Number.{answered};
-ghost use Rattle.reply.specs.declared.Refusal.TheVariants.{BadDeck};
 ghost use Rattle.deck.specs.Forms.{form_of, other_form};
 ghost use Rattle.deck.specs.Reading.{read_figures_of, read_figures, read_entries};
 ghost use Rattle.deck.specs.Writing.{wrong_lengths, write_figures_of, write_figures, write_words};
 ghost use Rattle.deck.specs.Moving.{move_figures_of, move_figures, move_words, MovesTo};
+ghost use Rattle.deck.specs.inner.Fault.{fault_reply};
 
 use reply::limits::POSITIONS;
 use reply::{Refusal, Refused, refused_if};
@@ -51,13 +51,16 @@ impl DeckForm {
     }
 }
 
-// A fault in a deck's words, and its place.
-fn bad_deck(place: usize) -> Refused
-    ensures { result ≡ record { refusal = BadDeck; place = Some place } }
+// Refuses a fault in a deck's words, at its place.
+fn checked(form: DeckForm, words: &[u32]) -> Result<(), Refused>
+    ensures { result ≡ fault_reply (form_of form) words.now }
 {
-    Refused {
-        refusal: Refusal::BadDeck,
-        place: Some(place),
+    match reading::fault(form, words) {
+        Some(place) => Err(Refused {
+            refusal: Refusal::BadDeck,
+            place: Some(place),
+        }),
+        None => Ok(()),
     }
 }
 
@@ -66,10 +69,8 @@ pub fn read(form: DeckForm, words: &[u32], entries: &mut [u8]) -> Result<usize, 
     ensures { (read_figures_of result ≡ read_figures (form_of form) words.now entries.old) × (entries.new ≡ read_entries (form_of form) words.now entries.old) }
 {
     refused_if(Refusal::WrongSize, entries.len() != POSITIONS)?;
-    match reading::fault(form, words) {
-        Some(place) => Err(bad_deck(place)),
-        None => Ok(reading::unpack(form, words, entries)),
-    }
+    checked(form, words)?;
+    Ok(reading::unpack(form, words, entries))
 }
 
 // Whether there are too many positions, or other than 129 words are lent.
@@ -95,9 +96,7 @@ pub fn move_deck(from: DeckForm, words: &[u32], moved: &mut [u32]) -> Result<usi
     ensures moves_to { (move_figures_of result).number ≡ answered → MovesTo (form_of from) (form_of (other_form from)) words.now (take (move_figures_of result).count moved.new) }
 {
     refused_if(Refusal::WrongSize, moved.len() != WORDS)?;
-    if let Some(place) = reading::fault(from, words) {
-        return Err(bad_deck(place));
-    }
+    checked(from, words)?;
     let mut entries = [0; POSITIONS];
     let count = reading::unpack(from, words, &mut entries);
     Ok(writing::pack(from.other(), &entries[..count], moved))

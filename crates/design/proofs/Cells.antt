@@ -30,7 +30,7 @@ place_of {x} {xs = y ∷ ys} m = go (Memᴰ.cases_cons m) (λ l. place_of l)
     go (inr l) rest = let w = rest l in (suc w.0, omega (arith, w.1), w.2)
 
 module _ {m : Model} {rows counts : List ℕ} (o : OptionRows m rows counts) (i : ℕ) (h : i < Model.positions m) where
-  option-place : {x : ℕ} → Memᴰ x (options_at m i) → (j : ℕ) × (j < get_or counts i 0) × (option_in rows i j ≡ x)
+  pub option-place : {x : ℕ} → Memᴰ x (options_at m i) → (j : ℕ) × (j < get_or counts i 0) × (option_in rows i j ≡ x)
   option-place member =
       let w = place_of member in
       let inside : w.0 < get_or counts i 0 = rw (count-is o i h) w.1 in

@@ -8,7 +8,6 @@ use lib.ListN.{length, get_or, take, drop, set, length-set, length-take, length-
 use lib.Seq.{get_or-set_same, get_or-set_other, get_or-take, get_or-drop}
 use lib.Ieee.{Float, nan}
 use borrow.Author.Count.{below_more}
-use Rattle.lists.specs.Grid.{Grid}
 use Rattle.lists.proofs.Grid.{row-end}
 use Rattle.ensemble.specs.Layout.{Searchable, option_in}
 use Rattle.design.specs.Filling.{Among, Holds, Kept, HeldAt, PairsHeld, ClosingHeld, SitesHeld}
@@ -70,13 +69,6 @@ module _ {strands : ℕ} {rows counts : List ℕ} (w : Searchable strands rows c
 
 -- ---- what a search reads
 module _ (bond : ℕ → ℕ → Float) {strands : ℕ} {rows counts : List ℕ} (w : Searchable strands rows counts) where
-  -- of a whole table
-  pub table-pairs : {size : ℕ} {cells : List Float} → Grid bond nan strands size strands 0 cells → PairsHeld bond strands cells rows counts (length counts - 1)
-  table-pairs g i j k h l m =
-      let here : i < length counts = omega arith in
-      let next : i + 1 < length counts = omega arith in
-      g.above (option_in rows i j) (option_in rows (i + 1) k) (w.known i j here l) (w.known (i + 1) k next (omega arith))
-
   -- from the last position to the first
   pub closing-held : (cells : List Float) → 0 < length counts → (n m : ℕ) → n ≡ get_or counts (length counts - 1) 0 → m + 1 ≡ get_or counts 0 0
       → ((j : ℕ) → j < length (take n (drop (64 * (length counts - 1)) rows)) → HeldAt bond strands cells (get_or (take n (drop (64 * (length counts - 1)) rows)) j 0) (take m (drop (64 * 0) rows)) (length (take m (drop (64 * 0) rows))))

@@ -3,19 +3,19 @@ use mathlib.Core.Path.{◌≡◌, sym, ap, ◌∙◌}
 use mathlib.Core.List.{List, ◌++◌}
 use Prim.Native.Nat.{ℕ, ◌+◌, ◌*◌, ◌<◌, ◌≤◌}
 use native.Mathlib.Omega.{arith}
-use lib.ListN.{length, get_or, take, drop, length-append, length-take, length-drop, get_or-append}
-use lib.Seq.{length-take-le, take_at, drop_at, get_or-append-add, get_or-take, get_or-drop, ext_get_or}
+use lib.ListN.{length, get_or, set, take, drop, length-append, length-take, length-drop, get_or-append}
+use lib.Seq.{length-take-le, take_at, drop_at, get_or-append-add, get_or-take, get_or-drop, get_or-set_same, get_or-set_other, ext_get_or}
 use borrow.Author.Count.{below_more}
 use Rattle.lists.specs.Build.{tabulate}
 use Rattle.lists.specs.Grid.{Grid}
 use Rattle.lists.proofs.Build.{length-tabulate, get_or-tabulate}
-use Rattle.lists.proofs.Counted.{stored}
 use Rattle.lists.proofs.Grid.{row-end}
 
 module _ {A : Type 0} where
-  -- what a loop has stored from the front
-  pub stored_at : (f : ℕ → A) (i : ℕ) (xs : List A) (d : A) (k : ℕ) → k < i → get_or (stored f i xs) k d ≡ f k
-  stored_at f i xs d k h = get_or-append (tabulate i f) (drop i xs) d k (rw (length-tabulate i f) h) ∙ get_or-tabulate i f d k h
+  -- one place more that holds what it should
+  pub places_more : (f : ℕ → A) (xs : List A) (d : A) (i : ℕ) {v : A} → i < length xs → v ≡ f i → ((k : ℕ) → k < i → get_or xs k d ≡ f k) → (k : ℕ) → k < i + 1 → get_or (set xs i v) k d ≡ f k
+  places_more f xs d i {v} h e before =
+      below_more (λ (k : ℕ). get_or (set xs i v) k d ≡ f k) i (λ k l. get_or-set_other xs i k v d (λ same. omega arith) ∙ before k l) (get_or-set_same xs i v d h ∙ e)
 
   -- a list whose elements from `start` on, `size` of them, are those of a part that was lent
   abbrev pub with_part : List A → ℕ → ℕ → List A → List A

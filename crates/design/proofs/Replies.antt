@@ -10,7 +10,7 @@ use Rattle.reply.specs.declared.Refused.{Refused}
 use Rattle.reply.proofs.Figures.{no-admission}
 use Rattle.reply.proofs.First.{none-holds, both-pass, reply-append, joined}
 use Rattle.design.specs.Design.{Design}
-use Rattle.std.specs.Prelude.{ℕ, Option, None, Result, Ok, Err, OnOk}
+use Rattle.std.specs.Prelude.{ℕ, Option, None, Result, Ok, Err}
 use Rattle.design.specs.Checks.{sizes_out, table_checks, number_checks, design_checks, TablesPass, Admitted}
 
 -- a check that refuses holds, and one that lets the call pass doesn't
@@ -32,11 +32,6 @@ told-false holds refusal place = go holds
 pub bare-false : (holds : Bool) (refusal : Refusal) → ◌≡◌ {A = Result Unit Refusal} (Ok tt) (bare (refused_if holds refusal None (Ok tt))) → holds ≡ false
 bare-false true refusal told = cc
 bare-false false refusal told = refl
-
--- what follows from an admission
-pub on-ok : (r : Reply) {P : Type 0} → (r ≡ Ok tt → P) → OnOk r P
-on-ok (Ok u) h = h refl
-on-ok (Err e) h = tt
 
 -- a call that is admitted found nothing wrong with a size of its own, nor with the design, nor by its own checks
 pub record Passed (own_size : Bool) (d : Design) (between after : List Check) : Type 0 where

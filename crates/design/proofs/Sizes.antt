@@ -1,12 +1,10 @@
 -- What a design whose sizes are not wrong is. Assumes nothing.
 use mathlib.Core.Path.{◌≡◌}
 use mathlib.Core.Bool.{false, not, ◌||◌}
-use mathlib.Core.List.{List}
 use Prim.Native.Nat.{ℕ, ◌*◌, ◌<◌, ◌≤◌}
 use native.Mathlib.Omega.{arith}
 use lib.Dec.{ltb, eqb}
 use lib.ListN.{length, get_or}
-use lib.Ieee.{Float}
 use borrow.Author.Tests.{ltb-false, eqb-true, not-false}
 use Rattle.lists.specs.Find.{any}
 use Rattle.lists.proofs.Tests.{neither}
@@ -49,13 +47,3 @@ sized d e =
       scaffold-low = λ i h. omega (arith, ltb-false 63 (get_or d.scaffold i 0) (none_passes high_glue 0 d.scaffold glues.0 i h));
       glues-low = λ k h. omega (arith, ltb-false 63 (get_or d.glues k 0) (none_passes high_glue 0 d.glues glues.1 k (rw three h)));
     }
-
--- the tables alone, whatever the ambient
-pub tables-sized : (scaffold marks glues : List ℕ) (dg ds potentials : List Float) → wrong_sizes scaffold marks glues dg ds potentials ≡ false → (length dg ≡ 4096) × (length ds ≡ 4096)
-unfolding wrong_sizes
-tables-sized scaffold marks glues dg ds potentials e =
-    let lengths = (neither (wrong_counts scaffold potentials) (wrong_lengths glues dg ds potentials || (wrong_marks scaffold marks || (any high_glue scaffold || any high_glue glues))) e).1 in
-    let l = (neither (wrong_lengths glues dg ds potentials) (wrong_marks scaffold marks || (any high_glue scaffold || any high_glue glues)) lengths).0 in
-    let t = (neither (not (eqb (length glues) (3 * length potentials))) (not (eqb (length dg) 4096) || not (eqb (length ds) 4096)) l).1 in
-    let each = neither (not (eqb (length dg) 4096)) (not (eqb (length ds) 4096)) t in
-    (eqb-true _ _ (not-false _ each.0), eqb-true _ _ (not-false _ each.1))

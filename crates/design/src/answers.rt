@@ -2,7 +2,7 @@
 use units::KcalPerMol;
 
 // The chain energy.
-#[derive(Clone, Copy)]
+#[derive(Clone, Copy, Default)]
 pub struct ChainEnergy {
     // The sum as it is, a plain number.
     pub bare: f64,

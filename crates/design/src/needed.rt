@@ -5,8 +5,8 @@ ghost use Rattle.design.specs.Design.{strands, strand_bond_in, scaffold_bond_in}
 ghost use Rattle.design.specs.Filling.{Among, GivesAt, Kept, HeldAt, PairsHeld, ClosingHeld, SitesHeld};
 
 use super::Design;
+use super::options::OptionedDesign;
 use super::tables::fill_strand_bonds;
-use ensemble::options::Options;
 
 // The bonds of a row with each of the strands that are listed.
 fn fill_cells<F: Fn(u8) -> f64>(
@@ -49,21 +49,9 @@ fn fill_neighbours(design: &Design, left: &[u8], friends: &[u8], cells: &mut [f6
     }
 }
 
-// The strand bonds that a search over these options reads.
-pub fn fill_needed_strand_bonds(design: &Design, options: &Options, cells: &mut [f64])
-    requires same_strands { options.now.strands ≡ strands design.now }
-    requires strands_in_bounds { strands design.now * strands design.now ≤ length cells.old }
-    ensures { PairsHeld (strand_bond_in design.now) (strands design.now) cells.new options.now.rows.now options.now.counts.now (length options.now.counts.now - 1) }
-{
-    // By number, as of the scaffold bonds below: options are asked of a position.
-    for right in 1..options.counts.len() {
-        fill_neighbours(design, options.of(right - 1), options.friends(right), cells);
-    }
-}
-
 // How many strand bonds a search over these options reads, about: empty is counted as a friend. It decides on speed alone, so no more is proved of
 // it than that it is small.
-fn pairs_read(counts: &[u8]) -> usize
+fn strand_bonds_read(counts: &[u8]) -> usize
     requires { length counts.now ≤ 128 }
     ensures { result ≤ 65025 * 128 }
 {
@@ -74,47 +62,67 @@ fn pairs_read(counts: &[u8]) -> usize
     read
 }
 
-// The same bonds, by the whole table where a search reads more than half as many as that has.
-pub fn fill_read_strand_bonds(design: &Design, options: &Options, cells: &mut [f64])
-    requires same_strands { options.now.strands ≡ strands design.now }
-    requires strands_in_bounds { strands design.now * strands design.now ≤ length cells.old }
-    ensures { PairsHeld (strand_bond_in design.now) (strands design.now) cells.new options.now.rows.now options.now.counts.now (length options.now.counts.now - 1) }
-{
-    let strands = design.strands();
-    if strands * strands < 2 * pairs_read(options.counts) {
-        fill_strand_bonds(design, cells);
-    } else {
-        fill_needed_strand_bonds(design, options, cells);
+impl OptionedDesign<'_, '_> {
+    // The strand bonds that a search over these options reads.
+    pub fn fill_needed_strand_bonds(&self, cells: &mut [f64])
+        requires strands_in_bounds { strands self.now.design.now * strands self.now.design.now ≤ length cells.old }
+        ensures { PairsHeld (strand_bond_in self.now.design.now) (strands self.now.design.now) cells.new self.now.options.rows.now self.now.options.counts.now (length self.now.options.counts.now - 1) }
+    {
+        // By number, as of the scaffold bonds below: options are asked of a position.
+        for right in 1..self.options.counts.len() {
+            fill_neighbours(
+                self.design,
+                self.options.of(right - 1),
+                self.options.friends(right),
+                cells,
+            );
+        }
     }
-}
 
-// The strand bonds by which a ring over these options is closed: from the last position to the first. What was filled stays.
-pub fn fill_closing_bonds(design: &Design, options: &Options, cells: &mut [f64])
-    requires same_strands { options.now.strands ≡ strands design.now }
-    requires counts_nonzero { 0 < length options.now.counts.now }
-    requires strands_in_bounds { strands design.now * strands design.now ≤ length cells.old }
-    ensures kept { Kept (strand_bond_in design.now) (strands design.now) cells.old cells.new }
-    ensures closing_held { ClosingHeld (strand_bond_in design.now) (strands design.now) cells.new options.now.rows.now options.now.counts.now }
-{
-    let last = options.counts.len() - 1;
-    fill_neighbours(design, options.of(last), options.friends(0), cells);
-}
+    // The same bonds, by the whole table where a search reads more than half as many as that has.
+    pub fn fill_read_strand_bonds(&self, cells: &mut [f64])
+        requires strands_in_bounds { strands self.now.design.now * strands self.now.design.now ≤ length cells.old }
+        ensures { PairsHeld (strand_bond_in self.now.design.now) (strands self.now.design.now) cells.new self.now.options.rows.now self.now.options.counts.now (length self.now.options.counts.now - 1) }
+    {
+        let strands = self.design.strands();
+        if strands * strands < 2 * strand_bonds_read(self.options.counts) {
+            fill_strand_bonds(self.design, cells);
+        } else {
+            self.fill_needed_strand_bonds(cells);
+        }
+    }
 
-// The scaffold bonds that a search over these options reads.
-pub fn fill_needed_scaffold_bonds(design: &Design, options: &Options, cells: &mut [f64])
-    requires same_strands { options.now.strands ≡ strands design.now }
-    requires strands_in_bounds { length options.now.counts.now * strands design.now ≤ length cells.old }
-    ensures { SitesHeld (scaffold_bond_in design.now) (strands design.now) cells.new options.now.rows.now options.now.counts.now (length options.now.counts.now) }
-{
-    let strands = design.strands();
-    for position in 0..options.counts.len() {
-        let scaffold_glue = design.scaffold_glue(position);
-        fill_cells(
-            |strand| design.scaffold_bond(scaffold_glue, strand),
-            position,
-            strands,
-            options.friends(position),
+    // The strand bonds by which a ring over these options is closed: from the last position to the first. What was filled stays.
+    pub fn fill_closing_bonds(&self, cells: &mut [f64])
+        requires counts_nonzero { 0 < length self.now.options.counts.now }
+        requires strands_in_bounds { strands self.now.design.now * strands self.now.design.now ≤ length cells.old }
+        ensures kept { Kept (strand_bond_in self.now.design.now) (strands self.now.design.now) cells.old cells.new }
+        ensures closing_held { ClosingHeld (strand_bond_in self.now.design.now) (strands self.now.design.now) cells.new self.now.options.rows.now self.now.options.counts.now }
+    {
+        let last = self.options.counts.len() - 1;
+        fill_neighbours(
+            self.design,
+            self.options.of(last),
+            self.options.friends(0),
             cells,
         );
+    }
+
+    // The scaffold bonds that a search over these options reads.
+    pub fn fill_needed_scaffold_bonds(&self, cells: &mut [f64])
+        requires strands_in_bounds { length self.now.options.counts.now * strands self.now.design.now ≤ length cells.old }
+        ensures { SitesHeld (scaffold_bond_in self.now.design.now) (strands self.now.design.now) cells.new self.now.options.rows.now self.now.options.counts.now (length self.now.options.counts.now) }
+    {
+        let strands = self.design.strands();
+        for position in 0..self.options.counts.len() {
+            let scaffold_glue = self.design.scaffold_glue(position);
+            fill_cells(
+                |strand| self.design.scaffold_bond(scaffold_glue, strand),
+                position,
+                strands,
+                self.options.friends(position),
+                cells,
+            );
+        }
     }
 }

@@ -7,7 +7,16 @@ ghost use Rattle.design.specs.Filling.{NullNowhere, Optioned};
 
 use super::Design;
 use super::passed::TabledDesign;
-use ensemble::options::Options;
+use ensemble::options::{Options, ROW};
+
+// A design and options of as many strands as it has, which the fillers of bonds go by. That the options are the design's own is no fact of it: bonds are
+// filled too over options of other marks.
+#[derive(Clone, Copy)]
+pub struct OptionedDesign<'a, 'b> {
+    pub design: &'a Design<'a>,
+    pub options: Options<'b>,
+    ghost same_strands: { options.strands ≡ strands design.now },
+}
 
 // Writes the friends into the first entries, and says how many there are.
 pub fn write_friends(design: &Design, scaffold_glue: u8, entries: &mut [u8]) -> usize
@@ -16,7 +25,7 @@ pub fn write_friends(design: &Design, scaffold_glue: u8, entries: &mut [u8]) -> 
     ensures value { result ≡ length (friends_to scaffold_glue design.now.glues design.now.dg design.now.ds (strands design.now)) }
     ensures entries_after { entries.new ≡ friends_to scaffold_glue design.now.glues design.now.dg design.now.ds (strands design.now) ++ drop (length (friends_to scaffold_glue design.now.glues design.now.dg design.now.ds (strands design.now))) entries.old }
 {
-    // By number, which is what is written: a strand is a number, and there is no slice of strands.
+    // By number: a strand is one. The friends can't be collected into a slice, and of what is written through an adapter of `iter_mut` nothing is known.
     let mut count = 0;
     for strand in 0..design.strands() as u8 {
         if design.is_friend(scaffold_glue, strand) {
@@ -59,12 +68,13 @@ pub fn fill_options(design: &Design, rows: &mut [u8], counts: &mut [u8])
 {
     // By number: a position's glue and mark are the design's to tell, and a row is a part of one slice.
     for position in 0..design.positions() {
-        let row = 64 * position;
-        counts[position] = fill_row(design, position, &mut rows[row..row + 64]);
+        let row = ROW * position;
+        counts[position] = fill_row(design, position, &mut rows[row..row + ROW]);
     }
 }
 
-// The same of a design whose tables pass, handed back as they are lent to a search.
+// The same of a design whose tables pass, handed back as they are lent to a search. Rows and counts come as two slices: a struct of both has room for
+// all positions that there may be, and this asks for room for a design's own.
 pub fn options_of<'a>(
     tabled: &TabledDesign,
     rows: &'a mut [u8],

@@ -1,7 +1,12 @@
 // Designs that have passed checks, so that no function that follows these asks for it. A clause sees the design itself.
-ghost use Rattle.std.specs.Prelude.{◌≡◌};
+ghost use Rattle.std.specs.Prelude.{◌≡◌, [], false, OnOk, IfOk};
+ghost use Rattle.reply.specs.First.{first_of};
+ghost use Rattle.design.specs.Checks.{ranged_checks, table_checks, number_checks, design_checks};
+ghost use Rattle.design.specs.Passed.{TablesPassed, ChecksPassed, reply_of};
 
 use super::Design;
+use super::checks::{numbers_reply, ranged_reply};
+use reply::Refused;
 use std::marker::Model;
 
 // A design whose tables pass.
@@ -14,6 +19,56 @@ pub struct TabledDesign<'a> {
 #[derive(Drop)]
 pub struct AdmittedDesign<'a> {
     pub design: &'a Design<'a>,
+}
+
+// The design as one whose tables pass; or the first of the checks of its tables that holds, among them what the call itself finds wrong with a size or
+// out of range. Both are flags: a call's own size is one check with those of the design, and its own range follows the cells, so that the reply is the
+// first of one list.
+pub fn ranged<'a>(
+    own_size: bool,
+    own_range: bool,
+    design: &'a Design<'a>,
+) -> Result<TabledDesign<'a>, Refused>
+    ensures value { reply_of result ≡ first_of (ranged_checks own_size own_range design.now.scaffold design.now.marks design.now.glues design.now.dg design.now.ds design.now.potentials) }
+    ensures own { OnOk result (own_size ≡ false) }
+    ensures tables { OnOk result (TablesPassed design.now) }
+    ensures same { IfOk result (λ tabled. tabled ≡ design.now) }
+{
+    ranged_reply(own_size, own_range, design)?;
+    Ok(TabledDesign { design })
+}
+
+// The same of a call that finds nothing else out of range.
+pub fn tabled<'a>(own_size: bool, design: &'a Design<'a>) -> Result<TabledDesign<'a>, Refused>
+    ensures value { reply_of result ≡ first_of (table_checks own_size design.now.scaffold design.now.marks design.now.glues design.now.dg design.now.ds design.now.potentials) }
+    ensures own { OnOk result (own_size ≡ false) }
+    ensures tables { OnOk result (TablesPassed design.now) }
+    ensures same { IfOk result (λ tabled. tabled ≡ design.now) }
+{
+    ranged(own_size, false, design)
+}
+
+// The design as an admitted one, of a call that has no check of its own but of a size; or the first check that holds.
+pub fn admitted<'a>(own_size: bool, design: &'a Design<'a>) -> Result<AdmittedDesign<'a>, Refused>
+    ensures value { reply_of result ≡ first_of (design_checks own_size design.now [] []) }
+    ensures own { OnOk result (own_size ≡ false) }
+    ensures checks { OnOk result (ChecksPassed design.now) }
+    ensures same { IfOk result (λ admitted. admitted ≡ design.now) }
+{
+    tabled(own_size, design)?.admitted()
+}
+
+impl<'a> TabledDesign<'a> {
+    // The design as an admitted one; or the first of the checks of its numbers that holds.
+    pub fn admitted(&self) -> Result<AdmittedDesign<'a>, Refused>
+        ensures value { reply_of result ≡ first_of (number_checks self.now) }
+        ensures checks { OnOk result (ChecksPassed self.now) }
+        ensures same { IfOk result (λ admitted. admitted ≡ self.now) }
+    {
+        let design = self.design;
+        numbers_reply(design)?;
+        Ok(AdmittedDesign { design })
+    }
 }
 
 impl<'a> AdmittedDesign<'a> {

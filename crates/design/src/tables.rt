@@ -8,7 +8,8 @@ ghost use Rattle.design.specs.Filling.{GivesAt, Gives};
 
 use super::Design;
 
-// The bonds of a row with each strand.
+// The bonds of a row with each strand. A filler of any cells, by their number or by a job's word, would have to be public and of a crate below both: it
+// is no longer than what calls it.
 fn fill_row<F: Fn(u8) -> f64>(bond: F, row: &mut [f64])
     requires callable { F.IsAlwaysCallable bond }
     requires row_bound { length row.old ≤ 64 }

@@ -6,6 +6,7 @@ ghost use Rattle.design.specs.Design.{remarked, model_of};
 use super::Design;
 use super::reads::byte_at;
 use ensemble::energies::Terms;
+use reply::limits::POSITIONS;
 
 // The terms of each place of a configuration; marks are not read.
 #[tactic(auto, unfolding(crate::specs::Design::model_of))]
@@ -21,4 +22,14 @@ pub fn fill_terms(design: &Design, configuration: &[u8], terms: &mut [Terms])
             potential: design.potential_of(strand),
         };
     }
+}
+
+// The same in an array of their own.
+pub fn terms_of(design: &Design, configuration: &[u8]) -> [Terms; POSITIONS]
+    requires configuration_in_bounds { length configuration.now ≤ 128 }
+    ensures { (marks : List ℕ) → PlaceTerms (model_of (remarked design.now marks)) configuration.now result }
+{
+    let mut terms = [Terms::default(); POSITIONS];
+    fill_terms(design, configuration, &mut terms);
+    terms
 }

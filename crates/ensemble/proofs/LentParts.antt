@@ -5,22 +5,15 @@ use mathlib.Core.List.{List, []}
 use Prim.Native.Nat.{ℕ, zero, suc, ◌+◌, ◌*◌, ◌-◌, ◌<◌, ◌≤◌}
 use native.Mathlib.Omega.{arith}
 use lib.Dec.{eqb}
-use lib.ListN.{length, get_or, take, drop, replicate, length-take}
-use lib.Seq.{get_or-take}
+use lib.ListN.{length, get_or, take, drop, replicate}
 use Rattle.ensemble.specs.Layout.{Searchable}
-use Rattle.ensemble.specs.inner.Entries.{Known, Low, LowTable, choice_in}
+use Rattle.ensemble.specs.inner.Entries.{Low, LowTable, choice_in}
 
 -- the part of a list from a place to another
 abbrev pub part : {A : Type 0} → List A → ℕ → ℕ → List A
 part xs start end = take (end - start) (drop start xs)
 
 -- ---- options
-
--- the beginning of a row of strands
-pub known-part : (strands : ℕ) (row : List ℕ) (n : ℕ) → Known strands row → Known strands (take n row)
-known-part strands row n known k l =
-    let inside : k < n = omega (arith, length-take n row) in
-    rw (get_or-take n row k 0 inside) (known k (omega (arith, length-take n row)))
 
 -- what can be read of the row of a position
 pub record Bounds (rows counts : List ℕ) (i : ℕ) : Type 0 where

@@ -53,12 +53,6 @@ module _ {m : Model} {rows counts : List ℕ} (w : OptionRows m rows counts) whe
       let less : get_or counts i 0 - 1 ≤ get_or counts i 0 = omega arith in
       sym (take-take (get_or counts i 0 - 1) (get_or counts i 0) (drop (64 * i) rows) less) ∙ ap (take (get_or counts i 0 - 1)) (options-are i h) ∙ take_at friends (0 ∷ []) (get_or counts i 0 - 1) (sym fewer)
 
-  -- a row without its last option
-  pub friends-of : (i : ℕ) {options : List ℕ} → options ≡ options_at m i → take (length options - 1) options ≡ friends_at m i
-  friends-of i e =
-      let friends = friends_at m i in
-      rw e (take_at friends (0 ∷ []) (length (options_at m i) - 1) (omega (arith, length-append friends (0 ∷ []))))
-
   counts-are : counts ≡ map length (options m)
   counts-are =
       ext_get_or 0 counts (map length (options m)) (w.positions ∙ sym (length-map (options m) length ∙ length-map m.friends options_of))

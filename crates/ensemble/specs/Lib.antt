@@ -1,3 +1,4 @@
 pub mod Layout
+pub mod Lends
 pub mod Ring
 pub mod inner

@@ -5,6 +5,7 @@ ghost use Rattle.doubles.specs.Least.{pick, last_least};
 ghost use Rattle.ensemble.specs.inner.Entries.{Chosen, KeyedBy, DecidedBy, Known, table_bond, Keys, Attachments, Low};
 
 use super::bonds::StrandBonds;
+use reply::limits::STRANDS;
 
 // One of several entries, and the energy that it was compared with.
 #[derive(Clone, Copy)]
@@ -44,6 +45,7 @@ impl Entries<'_> {
         }
         let mut strand = self.options[0];
         let mut energy = key(strand, self.energies[0]);
+        // By hand: with `zip`, `map` and `reduce` over the two closures, neither that they may be called nor what is kept at the end was proved.
         for (next, given) in self.options[1..].iter().zip(&self.energies[1..]) {
             let next_energy = key(*next, *given);
             if !stays(energy, next_energy) {
@@ -79,8 +81,8 @@ impl Entries<'_> {
 pub(crate) fn attach_each(
     left: &Entries,
     friends: &[u8],
-    best: &mut [f64; 64],
-    choice: &mut [u8; 64],
+    best: &mut [f64; STRANDS],
+    choice: &mut [u8; STRANDS],
 )
     requires known { Known left.now.bonds.strands friends.now }
     requires low { Low choice.old }

@@ -3,11 +3,24 @@ ghost use Rattle.std.specs.Prelude.{◌≡◌, ℕ, ◌+◌, ◌*◌, ◌<◌, �
 ghost use Rattle.std.specs.Float.{nan};
 ghost use Rattle.ensemble.specs.inner.Entries.{table_bond};
 
-// The strand bonds of as many strands as there may be: 64 rows of 64.
-pub const STRAND_BONDS: usize = 4096;
+use reply::limits::{POSITIONS, STRANDS};
 
-// The scaffold bonds of as many positions and strands as there may be: 128 rows of 64.
-pub const SCAFFOLD_BONDS: usize = 8192;
+// The strand bonds of as many strands as there may be.
+pub const STRAND_BONDS: usize = STRANDS * STRANDS;
+
+// The scaffold bonds of as many positions and strands as there may be.
+pub const SCAFFOLD_BONDS: usize = POSITIONS * STRANDS;
+
+// A row of a table of so many columns, row first, as a part of its cells.
+pub fn row_of<T>(cells: &[T], width: usize, row: usize) -> &[T]
+    requires { row * width + width ≤ length cells.now }
+    ensures sized { length result.now ≡ width }
+    ensures cells { (x : ℕ) (other : T) → x < width → get_or result.now x other ≡ get_or cells.now (row * width + x) other }
+{
+    let start = row * width;
+    let end = start + width;
+    &cells[start..end]
+}
 
 // A table of strand bonds.
 #[derive(Clone, Copy)]
@@ -34,9 +47,7 @@ impl<'a> StrandBonds<'a> {
         ensures sized { length result.now ≡ self.now.strands }
         ensures bonds { (right : ℕ) → right < self.now.strands → get_or result.now right nan ≡ table_bond self.now.strands self.now.cells.now left right }
     {
-        let start = usize::from(left) * self.strands;
-        let end = start + self.strands;
-        &self.cells[start..end]
+        row_of(self.cells, self.strands, usize::from(left))
     }
 }
 
@@ -71,13 +82,11 @@ impl<'a> Bonds<'a> {
     }
 
     // The scaffold bonds of a position, by strand.
-    pub(crate) fn sites(&self, position: usize) -> &'a [f64]
+    pub(crate) fn scaffold_bonds_at(&self, position: usize) -> &'a [f64]
         requires { position * self.now.strand_bonds.strands + self.now.strand_bonds.strands ≤ length self.now.scaffold_bonds.now }
         ensures sized { length result.now ≡ self.now.strand_bonds.strands }
         ensures cells { (x : ℕ) → x < self.now.strand_bonds.strands → get_or result.now x nan ≡ get_or self.now.scaffold_bonds.now (position * self.now.strand_bonds.strands + x) nan }
     {
-        let start = position * self.strand_bonds.strands;
-        let end = start + self.strand_bonds.strands;
-        &self.scaffold_bonds[start..end]
+        row_of(self.scaffold_bonds, self.strand_bonds.strands, position)
     }
 }

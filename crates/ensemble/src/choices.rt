@@ -2,11 +2,13 @@
 ghost use Rattle.std.specs.Prelude.{◌≡◌, ℕ, ◌<◌, ◌≤◌, length};
 ghost use Rattle.ensemble.specs.inner.Entries.{choice_in, LowTable, traced_back};
 
-// A friend's left choice by its strand, and the empty entry's beside them.
+use reply::limits::{POSITIONS, STRANDS};
+
+// A friend's left choice by its strand, and the empty entry's beside them: document 01 keeps the two apart, though strand 0 is nowhere a friend.
 #[derive(Drop)]
 pub(crate) struct Choices {
-    pub friends: [[u8; 64]; 128],
-    pub empty: [u8; 128],
+    pub friends: [[u8; STRANDS]; POSITIONS],
+    pub empty: [u8; POSITIONS],
     ghost low: { LowTable friends empty },
 }
 
@@ -16,8 +18,8 @@ impl Choices {
         ensures { (i strand : ℕ) → choice_in result.friends result.empty i strand ≡ 0 }
     {
         Choices {
-            friends: [[0; 64]; 128],
-            empty: [0; 128],
+            friends: [[0; STRANDS]; POSITIONS],
+            empty: [0; POSITIONS],
         }
     }
 

@@ -78,7 +78,8 @@ impl Places<'_> {
         sum
     }
 
-    // The chain sum over all places, before the product with RT.
+    // The chain sum over all places, before the product with RT. No twin of the state sum: they round in different orders, and each is the sum of terms of
+    // its own definition, `state_terms` and `chain_energy`.
     pub fn chain_sum(&self) -> f64
         ensures { (m : Model) → PlaceTerms m self.now.configuration.now self.now.terms.now → result ≡ chain_energy m self.now.configuration.now }
     {

@@ -5,12 +5,14 @@ ghost use Rattle.std.specs.Float.Ieee as Ieee;
 ghost use Rattle.std.specs.Float.{binary64, nan};
 ghost use Rattle.doubles.specs.Least.{first_least};
 ghost use Rattle.model.specs.Model.{Model};
-ghost use Rattle.ensemble.specs.Layout.{OptionRows, BondCells, Found};
+ghost use Rattle.ensemble.specs.Layout.{Found};
+ghost use Rattle.ensemble.specs.Lends.{Lends};
 ghost use Rattle.ensemble.specs.inner.Entries.{Chosen};
 
 use super::attach::{Attached, Entries};
 use super::choices::Choices;
 use super::lent::LentModel;
+use reply::limits::STRANDS;
 use units::KcalPerMol;
 
 // The entry of the last position with the smallest product, the first of several.
@@ -24,9 +26,9 @@ fn lowest_product(last: &Entries, rt: KcalPerMol) -> Attached
 // Writes the lowest configuration, one occupant for each position, and gives its energy.
 pub fn lowest(lent: &LentModel, rt: KcalPerMol, configuration: &mut [u8]) -> KcalPerMol
     requires configuration_len { length configuration.old ≡ length lent.now.options.counts.now }
-    ensures { (m : Model) → OptionRows m lent.now.options.rows.now lent.now.options.counts.now → BondCells m lent.now.options.strands lent.now.bonds.strand_bonds.cells.now lent.now.bonds.scaffold_bonds.now lent.now.bonds.potentials.now → rt.0 ≡ m.rt → Found m configuration.new result.0 }
+    ensures { (m : Model) → Lends m lent.now → rt.0 ≡ m.rt → Found m configuration.new result.0 }
 {
-    let mut energies = [0.0; 64];
+    let mut energies = [0.0; STRANDS];
     let mut choices = Choices::new();
     // To the left of position 0 there are no entries.
     let options = lent.pass(0, &[], &mut energies, &mut choices);

@@ -5,7 +5,7 @@ ghost use Rattle.std.specs.Float.{binary64, nan};
 ghost use Rattle.doubles.specs.Least.{first_least};
 ghost use Rattle.model.specs.Model.{Model};
 ghost use Rattle.model.specs.Search.{options_at};
-ghost use Rattle.ensemble.specs.Layout.{OptionRows, BondCells};
+ghost use Rattle.ensemble.specs.Lends.{Lends};
 ghost use Rattle.ensemble.specs.Ring.{ClosingCells, FoundRing};
 ghost use Rattle.ensemble.specs.inner.Entries.{Chosen, table_bond};
 ghost use Rattle.ensemble.specs.inner.Ring.{closed_in, first_entry, FoundFrom};
@@ -14,6 +14,7 @@ use super::attach::{Attached, Entries};
 use super::bonds::StrandBonds;
 use super::choices::Choices;
 use super::lent::LentModel;
+use reply::limits::STRANDS;
 use units::KcalPerMol;
 
 // A sum with the bond from the last to the first occupant, where both places are occupied.
@@ -59,10 +60,10 @@ impl LentModel<'_, '_> {
         requires sized { length configuration.old ≡ length self.now.options.counts.now }
         requires some { 0 < length self.now.options.counts.now }
         requires option_known { option < get_or self.now.options.counts.now 0 0 }
-        ensures { (m : Model) → OptionRows m self.now.options.rows.now self.now.options.counts.now → BondCells m self.now.options.strands self.now.bonds.strand_bonds.cells.now self.now.bonds.scaffold_bonds.now self.now.bonds.potentials.now → ClosingCells m self.now.options.strands self.now.bonds.strand_bonds.cells.now → rt.0 ≡ m.rt → FoundFrom m (get_or (options_at m 0) option 0) configuration.new result }
+        ensures { (m : Model) → Lends m self.now → ClosingCells m self.now.options.strands self.now.bonds.strand_bonds.cells.now → rt.0 ≡ m.rt → FoundFrom m (get_or (options_at m 0) option 0) configuration.new result }
     {
         let occupant = self.options.rows[option];
-        let mut energies = [0.0; 64];
+        let mut energies = [0.0; STRANDS];
         let mut choices = Choices::new();
         // To the left of position 1 there is the one entry.
         energies[0] = self.first_entry(occupant);
@@ -87,7 +88,7 @@ impl LentModel<'_, '_> {
 pub fn lowest_ring(lent: &LentModel, rt: KcalPerMol, configuration: &mut [u8]) -> KcalPerMol
     requires configuration_len { length configuration.old ≡ length lent.now.options.counts.now }
     requires counts_nonzero { 0 < length lent.now.options.counts.now }
-    ensures { (m : Model) → OptionRows m lent.now.options.rows.now lent.now.options.counts.now → BondCells m lent.now.options.strands lent.now.bonds.strand_bonds.cells.now lent.now.bonds.scaffold_bonds.now lent.now.bonds.potentials.now → ClosingCells m lent.now.options.strands lent.now.bonds.strand_bonds.cells.now → rt.0 ≡ m.rt → FoundRing m configuration.new result.0 }
+    ensures { (m : Model) → Lends m lent.now → ClosingCells m lent.now.options.strands lent.now.bonds.strand_bonds.cells.now → rt.0 ≡ m.rt → FoundRing m configuration.new result.0 }
 {
     let mut least = lent.ring_from(0, rt, configuration);
     let mut kept = 0;

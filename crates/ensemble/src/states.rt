@@ -5,6 +5,8 @@ ghost use Rattle.model.specs.Model.{Model, options};
 ghost use Rattle.model.specs.States.{choice_at};
 ghost use Rattle.ensemble.specs.Layout.{Readable, OptionRows};
 
+use super::options::ROW;
+
 // The most states that are counted.
 pub const MOST_STATES: u64 = 1048576;
 
@@ -19,7 +21,8 @@ pub fn state_count(counts: &[u8]) -> u64
     states
 }
 
-// Writes the state at a rank, one occupant for each position.
+// Writes the state at a rank, one occupant for each position. Rows and counts are two slices, since `Options` would ask more of callers: that each option
+// is one of so many strands, and of positions and strands no more than there may be.
 pub fn write_state(rows: &[u8], counts: &[u8], states: u64, rank: u64, entries: &mut [u8])
     requires readable { Readable rows.now counts.now }
     requires states_value { states ≡ product counts.now }
@@ -33,7 +36,7 @@ pub fn write_state(rows: &[u8], counts: &[u8], states: u64, rank: u64, entries: 
     for (position, count) in counts.iter().enumerate() {
         later = later / u64::from(*count);
         let option = (left / later) as usize;
-        entries[position] = rows[64 * position + option];
+        entries[position] = rows[ROW * position + option];
         left = left % later;
     }
 }

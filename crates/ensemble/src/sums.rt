@@ -7,9 +7,10 @@ ghost use Rattle.doubles.specs.Least.{last_least};
 ghost use Rattle.ensemble.specs.inner.Entries.{Known, table_bond, Keys, lesser, LeastSums, Attachments, Low};
 
 use super::attach::Entries;
+use reply::limits::STRANDS;
 
 // An energy plus each of a row of bonds.
-fn first_sums(energy: f64, bonds: &[f64], best: &mut [f64; 64])
+fn first_sums(energy: f64, bonds: &[f64], best: &mut [f64; STRANDS])
     requires { length bonds.now ≤ 64 }
     ensures { (r : ℕ) → r < length bonds.now → get_or best.new r nan ≡ Ieee.add binary64 energy (get_or bonds.now r nan) }
 {
@@ -20,7 +21,7 @@ fn first_sums(energy: f64, bonds: &[f64], best: &mut [f64; 64])
 }
 
 // An energy plus each of a row of bonds, where that is not above what was there.
-fn lesser_sums(energy: f64, bonds: &[f64], best: &mut [f64; 64])
+fn lesser_sums(energy: f64, bonds: &[f64], best: &mut [f64; STRANDS])
     requires { length bonds.now ≤ 64 }
     ensures { (r : ℕ) → r < length bonds.now → get_or best.new r nan ≡ lesser (get_or best.old r nan) (Ieee.add binary64 energy (get_or bonds.now r nan)) }
 {
@@ -33,7 +34,7 @@ fn lesser_sums(energy: f64, bonds: &[f64], best: &mut [f64; 64])
 }
 
 // The least of the left energies plus the strand bond, for each right strand.
-fn least_sums(left: &Entries, best: &mut [f64; 64])
+fn least_sums(left: &Entries, best: &mut [f64; STRANDS])
     requires { 0 < length left.now.options.now }
     ensures { LeastSums (table_bond left.now.bonds.strands left.now.bonds.cells.now) left.now.options.now left.now.energies.now left.now.bonds.strands (length left.now.options.now) best.new }
 {
@@ -62,8 +63,8 @@ fn last_least(left: &Entries, right: usize, least: f64) -> u8
 pub(crate) fn attach_all(
     left: &Entries,
     friends: &[u8],
-    best: &mut [f64; 64],
-    choice: &mut [u8; 64],
+    best: &mut [f64; STRANDS],
+    choice: &mut [u8; STRANDS],
 )
     requires known { Known left.now.bonds.strands friends.now }
     requires low { Low choice.old }

@@ -1,14 +1,14 @@
 -- The size of a double in units of 2^-46. Assumes nothing.
 use mathlib.Core.Path.{◌≡◌, refl, sym, ap, ap₂, ◌∙◌, subst}
 use mathlib.Core.Logic.{◌⊎◌, inl, inr}
-use mathlib.Core.Bool.{true≢false, Bool, true, false, not, ◌&&◌, ◌||◌, cond}
+use mathlib.Core.Bool.{true≢false, Bool, true, false, ◌&&◌, ◌||◌, cond}
 use Prim.Native.Nat.{ℕ, zero, suc, ◌+◌, ◌-◌, ◌*◌, ◌/◌, ◌%◌, ◌^◌, ◌≤◌, ◌<◌, zero-le}
 use native.Mathlib.Nat.{le_trans, le_of_eq, le_of_lt, lt_of_lt_of_le, lt_of_le_of_lt, not-le_of_lt, lt_of_not-le, mul-le-mul, mul-le-mul_right, le_of_mul-le-mul_right, mul-one, mul_assoc, mul_right_comm, div-mul-le_self, lt-div-mul-add, add_comm}
 use native.Mathlib.Omega.{arith}
 use lib.IntN.{pos}
 use lib.Dec.{T, ltb, leb, eqb, ltb→lt, eqb→eq, lit≤, lit<}
 use lib.Pow.{pow_pos, pow_mono, pow-add, mod-mod-pow}
-use lib.Ieee.{Float, nan, inf, fin, binary64, ones, up, down, odd, lt, eq, le, fits, of_fields, of_bits, to_bits, is_nan}
+use lib.Ieee.{Float, nan, inf, fin, binary64, ones, up, down, odd, lt, eq, le, fits, of_fields, of_bits, to_bits}
 use lib.Ieee.Bits.{of_bits-to_bits}
 use lib.Ieee.Fits.{and_l}
 use lib.Ieee.Exact.{HasValue, odd_sign}
@@ -52,12 +52,6 @@ pub inside : (x : Float) → has_exponential x ≡ true → T (finite x) × (num
 inside x e =
     let ends = both (le least_argument x) (le x most_argument) e in
     within-plain x (subst T (sym (rw least-is at ends.0)) tt) (subst T (sym (rw most-is at ends.1)) tt)
-
-pub finite-not-nan : (x : Float) → T (finite x) → T (not (is_nan x))
-unfolding is_nan
-finite-not-nan nan p = absurd p
-finite-not-nan (inf s) p = absurd p
-finite-not-nan (fin s m e) p = tt
 
 -- ---- the size that the fields give, in units of 2^-1074
 pub field_size : ℕ → ℕ → ℕ

@@ -1,6 +1,5 @@
 -- What a C function tells of a design: the reply number is its result, the place and the figure are written through pointers.
 use Rattle.std.specs.Prelude.{◌≡◌, ℕ, Float, Result, Ok, Err, None}
-use Rattle.reply.specs.Number.{number_of, answered}
 use Rattle.reply.specs.Figures.{Figures, given, refused_with}
 use Rattle.reply.specs.declared.Refusal.{Refusal}
 use Rattle.design.specs.Answers.{Chain}
@@ -11,11 +10,6 @@ pub record Told {A : Type 0} (answer : Figures A) (r at : ℕ) (given : A) : Typ
   pub number : r ≡ answer.number
   pub place : at ≡ place_number answer.place
   pub figure : given ≡ answer.figure
-
--- the number of what a call says whose refusals have no place, whatever it gives
-abbrev pub answer_number : {A : Type 0} → Result A Refusal → ℕ
-answer_number (Ok x) = answered
-answer_number (Err refusal) = number_of refusal
 
 -- what a call says whose refusals have no place, with a blank figure where it refuses
 abbrev pub placeless_figures : {A : Type 0} → A → Result A Refusal → Figures A

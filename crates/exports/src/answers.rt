@@ -54,10 +54,7 @@ pub(crate) fn tell_chain(
 ) -> u32
     ensures { Told (chain_figures answer) result place.new (chain_of sum.new energy.new) }
 {
-    let mut chain = ChainEnergy {
-        bare: 0.0,
-        times_rt: KcalPerMol(0.0),
-    };
+    let mut chain = ChainEnergy::default();
     let number = tell(answer, chain, place, &mut chain);
     *sum = chain.bare;
     *energy = chain.times_rt.0;

@@ -6,17 +6,13 @@ ghost use Rattle.exports.specs.Told.{Told, chain_of};
 
 use super::answers::{tell, tell_chain, tell_energy};
 use design::Design;
-use units::{Ambient, KcalPerMol, Kelvin};
+use units::Ambient;
 
 // The ambient out of the three doubles that C lends.
 pub fn ambient(rt: f64, strand_excess: f64, scaffold_excess: f64) -> Ambient
     ensures { result ≡ ambient_of rt strand_excess scaffold_excess }
 {
-    Ambient {
-        rt: KcalPerMol(rt),
-        strand_excess: Kelvin(strand_excess),
-        scaffold_excess: Kelvin(scaffold_excess),
-    }
+    Ambient::new(rt, strand_excess, scaffold_excess)
 }
 
 // The bond between strand x and strand y to the east of it.

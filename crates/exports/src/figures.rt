@@ -6,22 +6,12 @@ ghost use Rattle.std.specs.Float.Ieee as Ieee;
 ghost use Rattle.std.specs.Float.{binary64};
 ghost use Rattle.units.specs.Ambient.{ambient_figures};
 ghost use Rattle.utils.specs.Answers.{dg_ds_figures, dg_figures};
-ghost use Rattle.exports.specs.Told.{placeless_figures, answer_number};
+ghost use Rattle.exports.specs.Told.{placeless_figures};
 
 use doubles::bits;
-use reply::{ANSWERED, Refusal};
-use units::{Ambient, KcalPerMol, KcalPerMolKelvin, Kelvin};
+use reply::Refusal;
+use units::{Ambient, KcalPerMol};
 use utils::DgDs;
-
-// The reply number of a call whose refusals have no place.
-pub(crate) fn reply<T: Copy>(answer: Result<T, Refusal>) -> u32
-    ensures { result ≡ answer_number answer }
-{
-    match answer {
-        Ok(_) => ANSWERED,
-        Err(refusal) => refusal.number(),
-    }
-}
 
 // The dG of one or two sequences.
 pub(crate) fn dg_ds_dg(answer: Result<DgDs, Refusal>) -> u64
@@ -43,10 +33,7 @@ pub(crate) fn dg_ds_tell(answer: Result<DgDs, Refusal>, dg: &mut f64, ds: &mut f
     ensures dg_after { dg.new ≡ (dg_ds_figures answer).dg }
     ensures ds_after { ds.new ≡ (dg_ds_figures answer).ds }
 {
-    let mut given = DgDs {
-        dg: KcalPerMol(0.0),
-        ds: KcalPerMolKelvin(0.0),
-    };
+    let mut given = DgDs::default();
     let number = figure_tell(answer, given, &mut given);
     *dg = given.dg.0;
     *ds = given.ds.0;
@@ -58,16 +45,8 @@ pub(crate) fn figure_tell<T: Copy>(answer: Result<T, Refusal>, blank: T, figure:
     ensures value { result ≡ (placeless_figures blank answer).number }
     ensures figure_after { figure.new ≡ (placeless_figures blank answer).figure }
 {
-    match answer {
-        Ok(given) => {
-            *figure = given;
-            ANSWERED
-        }
-        Err(refusal) => {
-            *figure = blank;
-            refusal.number()
-        }
-    }
+    *figure = answer.unwrap_or(blank);
+    reply::number(answer)
 }
 
 // The reply number and the dG of a loop or a strength.
@@ -90,11 +69,7 @@ pub(crate) fn ambient_tell(
     ensures strand_excess_after { strand_excess.new ≡ (ambient_figures answer).strand_excess }
     ensures scaffold_excess_after { scaffold_excess.new ≡ (ambient_figures answer).scaffold_excess }
 {
-    let mut ambient = Ambient {
-        rt: KcalPerMol(0.0),
-        strand_excess: Kelvin(0.0),
-        scaffold_excess: Kelvin(0.0),
-    };
+    let mut ambient = Ambient::default();
     let number = figure_tell(answer, ambient, &mut ambient);
     *rt = ambient.rt.0;
     *strand_excess = ambient.strand_excess.0;

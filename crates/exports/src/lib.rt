@@ -34,7 +34,7 @@ use units::Kelvin;
 pub fn mj_sequence_reply(s: &[u8]) -> u32
     ensures { result ≡ (string_dna_dg_ds s.now).number }
 {
-    figures::reply(utils::string_dna_dg_ds(s))
+    reply::number(utils::string_dna_dg_ds(s))
 }
 
 // Its dG.
@@ -64,7 +64,7 @@ pub fn mj_sequence(s: &[u8], dg: &mut f64, ds: &mut f64) -> u32
 pub fn mj_published_reply(s: &[u8]) -> u32
     ensures { result ≡ (published_dna_dg_ds s.now).number }
 {
-    figures::reply(utils::published_dna_dg_ds(s))
+    reply::number(utils::published_dna_dg_ds(s))
 }
 
 // Its dG.
@@ -85,7 +85,7 @@ pub fn mj_published_ds(s: &[u8]) -> u64
 pub fn mj_pair_reply(a: &[u8], b: &[u8]) -> u32
     ensures { result ≡ (sequence_pair_dg_ds a.now b.now).number }
 {
-    figures::reply(utils::sequence_pair_dg_ds(a, b))
+    reply::number(utils::sequence_pair_dg_ds(a, b))
 }
 
 // Their dG.

@@ -7,6 +7,7 @@ ghost use Rattle.exports.specs.Flag.{flag};
 use super::figures;
 use reply::Refusal;
 use sdc_common::NameBase;
+use sdc_common::names::Part;
 
 // The reply number of a name, where its base starts, how long that is, and 1 where the name stands for it, 0 where it stands for base*.
 fn tell_name(
@@ -20,16 +21,11 @@ fn tell_name(
     ensures base_length_after { base_length.new ≡ (name_figures answer).size }
     ensures is_base_after { is_base.new ≡ flag (name_figures answer).from }
 {
-    let mut base = NameBase {
-        start: 0,
-        size: 0,
-        is_base: false,
-    };
-    let number = figures::figure_tell(answer, base, &mut base);
-    *base_start = base.start as u64;
-    *base_length = base.size as u64;
+    let base = answer.unwrap_or_default();
+    *base_start = base.part.start as u64;
+    *base_length = base.part.size as u64;
     *is_base = base.is_base as u64;
-    number
+    reply::number(answer)
 }
 
 // A name's base: where it starts, its length, and whether the name stands for it or for base*.
@@ -46,8 +42,12 @@ pub fn mj_name(
     ensures base_length_after { base_length.new ≡ (self_and_inverse text.now start length).size }
     ensures is_base_after { is_base.new ≡ flag (self_and_inverse text.now start length).from }
 {
+    let name = Part {
+        start,
+        size: length,
+    };
     tell_name(
-        sdc_common::self_and_inverse(text, start, length),
+        sdc_common::self_and_inverse(text, name),
         base_start,
         base_length,
         is_base,
@@ -59,5 +59,5 @@ pub fn mj_strand_glues(text: &[u8], users: usize, strands: &[usize], glues: &mut
     ensures value { result ≡ strand_glues users text.now (names_of strands.now) (length glues.old) }
     ensures glues_after { glues.new ≡ glues_after users text.now (names_of strands.now) glues.old }
 {
-    figures::reply(sdc_common::strand_glues(text, users, strands, glues))
+    reply::number(sdc_common::strand_glues(text, users, strands, glues))
 }

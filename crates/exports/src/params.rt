@@ -54,5 +54,5 @@ pub fn mj_params(
         return Refusal::WrongSize.number();
     };
     let answer = sdc1d_params::from_params(known, parameters, strand_glues, scaffold_glues, dg, ds);
-    figures::reply(answer)
+    reply::number(answer)
 }

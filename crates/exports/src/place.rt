@@ -9,8 +9,5 @@ pub(crate) const NOWHERE: u64 = 0xffff_ffff_ffff_ffff;
 pub(crate) fn number(place: Option<usize>) -> u64
     ensures { result ≡ place_number place }
 {
-    match place {
-        None => NOWHERE,
-        Some(at) => at as u64,
-    }
+    place.map_or(NOWHERE, |at| at as u64)
 }

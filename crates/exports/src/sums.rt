@@ -22,10 +22,7 @@ fn tell_sum(
 ) -> u32
     ensures { Told (sum_figures answer) result place.new (weight digits.new power.new) }
 {
-    let mut sum = Weight {
-        digits: 0,
-        power: 0,
-    };
+    let mut sum = Weight::default();
     let number = tell(answer, sum, place, &mut sum);
     *digits = sum.digits;
     *power = sum.power;

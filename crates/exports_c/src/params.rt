@@ -6,8 +6,8 @@ ghost use Rattle.exports.specs.Builds.{build_numbered, built_in};
 ghost use Rattle.exports.specs.Copied.{copies_of, penalty_of};
 
 use exports::params::copies;
-use sdc1d_params::{LentParameters, Penalty};
-use units::{KcalPerMol, KcalPerMolKelvin};
+use sdc1d_params::LentParameters;
+use utils::DgDs;
 
 // Strand glues, scaffold glues and both tables from names and energies.
 #[unsafe(no_mangle)]
@@ -30,10 +30,7 @@ pub extern "C" fn mj_params(
 ) -> u32
     ensures { outcome_of result strand_glues.new scaffold_glues.new dg.new ds.new ≡ built_in (build_numbered build) (params_of text.now users strands.now scaffold.now entries.now energies.now (penalty_of penalty_dg penalty_ds) (copies_of quencher reporter)) (lent_of strand_glues.old scaffold_glues.old dg.old ds.old) }
 {
-    let penalty = Penalty {
-        dg: KcalPerMol(penalty_dg),
-        ds: KcalPerMolKelvin(penalty_ds),
-    };
+    let penalty = DgDs::new(penalty_dg, penalty_ds);
     let copies = copies(quencher, reporter);
     let parameters = LentParameters {
         text,

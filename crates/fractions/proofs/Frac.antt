@@ -1,5 +1,5 @@
 -- Laws of fractions. Assumes nothing.
-use mathlib.Core.Path.{◌≡◌, subst}
+use mathlib.Core.Path.{◌≡◌}
 use Prim.Native.Nat.{ℕ, ◌+◌, ◌*◌, ◌<◌}
 use native.Mathlib.Nat.{le_trans, le_of_eq, mul-le-mul, mul-le-mul_right, le_of_mul-le-mul_right, mul-one, mul_assoc, mul_comm, mul-mul-mul_comm}
 use native.Mathlib.Omega.{arith}
@@ -17,9 +17,6 @@ le-frac-trans {x} {y} {z} h p q = record {
 pub same-frac : {x y : Frac} → x.num ≡ y.num → x.den ≡ y.den → x ≡ y
 same-frac p q = λ i. record { num = p i; den = q i }
 
-pub le-of-same : {x y : Frac} → x ≡ y → LeFrac x y
-le-of-same {x} e = subst (λ z. LeFrac x z) e (le-frac-refl x)
-
 -- ---- sums
 pub plus-mono : {x y z w : Frac} → LeFrac x y → LeFrac z w → LeFrac (plus x z) (plus y w)
 plus-mono {x} {y} {z} {w} p q = record {
@@ -31,9 +28,6 @@ plus_assoc x y z = same-frac (omega arith) (omega arith)
 
 pub plus_none : (x : Frac) → plus none x ≡ x
 plus_none x = same-frac (omega arith) (omega arith)
-
-pub le-plus-left : (x y : Frac) → LeFrac x (plus y x)
-le-plus-left x y = record { cross = omega arith }
 
 pub le-plus-right : (x y : Frac) → LeFrac x (plus x y)
 le-plus-right x y = record { cross = omega arith }

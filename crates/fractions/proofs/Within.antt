@@ -52,12 +52,3 @@ within-rounded f g {from} {less} {over} {x} F G W h k p = record {
   reached = λ n N. le-frac-trans (mul-pos F p.positive) (rw (times-assoc f less (x.lower n)) (times-mono (le-frac-refl f) (p.reached n N))) h;
   kept = λ n N. le-frac-trans (mul-pos G p.positive) k (rw (times-assoc g over (x.upper n)) (times-mono (le-frac-refl g) (p.kept n N)));
 }
-
--- ---- wider factors
-pub within_wider : {from : ℕ} {less over less' over' : Frac} {x : Number} {w : Frac} → 0 < less.den → 0 < over.den → Sound from x → LeFrac less' less → LeFrac over over'
-    → Within from less over x w → Within from less' over' x w
-within_wider {from} {less} {over} {less'} {over'} {x} L O X h k p = record {
-  positive = p.positive;
-  reached = λ n N. le-frac-trans (mul-pos L (X.below n N)) (times-mono h (le-frac-refl (x.lower n))) (p.reached n N);
-  kept = λ n N. le-frac-trans (mul-pos O (X.above n N)) (p.kept n N) (times-mono k (le-frac-refl (x.upper n)));
-}

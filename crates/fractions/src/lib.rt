@@ -2,7 +2,7 @@
 #![tactic(auto)]
 
 // digits × 2^power. In form it has 31 digits: from 2^30 up to, not including, 2^31.
-#[derive(Clone, Copy)]
+#[derive(Clone, Copy, Default)]
 pub struct Weight {
     pub digits: u32,
     pub power: i32,

@@ -8,7 +8,7 @@ use native.Mathlib.Omega.{arith}
 use lib.Dec.{leb, ltb, eqb}
 use lib.ListN.{length, length-replicate}
 use borrow.Author.Tests.{lt-ltb, eq-eqb, ne_eqb}
-use Rattle.reply.specs.Number.{number_of, reply_number, Reply}
+use Rattle.reply.specs.Number.{number_of, reply_number, answer_number, Reply}
 use Rattle.reply.specs.First.{Check, bare, first_of, ◌if◌, ◌or_else◌}
 use Rattle.reply.specs.Figures.{figures_of}
 use Rattle.reply.specs.declared.Refusal.{Refusal}
@@ -40,22 +40,17 @@ figures-number : {A : Type 0} (r : Reply) (blank figure : A) → (figures_of r b
 figures-number (Ok u) blank figure = refl
 figures-number (Err refused) blank figure = refl
 
--- the number of a reply without its place
-abbrev pub bare_number : Result Unit Refusal → ℕ
-bare_number (Ok u) = 0
-bare_number (Err refusal) = number_of refusal
-
-bare-number : (r : Reply) → bare_number (bare r) ≡ reply_number r
+bare-number : (r : Reply) → answer_number (bare r) ≡ reply_number r
 bare-number (Ok u) = refl
 bare-number (Err refused) = refl
 
-bare-or : (r s : Result Unit Refusal) → bare_number (r or_next s) ≡ first_number (bare_number r) (bare_number s)
+bare-or : (r s : Result Unit Refusal) → answer_number (r or_next s) ≡ first_number (answer_number r) (answer_number s)
 bare-or (Ok u) s = refl
 bare-or (Err refusal) s =
     let not-zero : number_of refusal ≡ 0 → ⊥ = λ e. omega (arith, number-positive refusal) in
     rw (ne_eqb (number_of refusal) 0 not-zero) refl
 
-passed : (r : Result Unit Refusal) → bare_number r ≡ 0 → r ≡ Ok tt
+passed : (r : Result Unit Refusal) → answer_number r ≡ 0 → r ≡ Ok tt
 passed (Ok u) e = refl
 passed (Err refusal) e = absurd (omega (arith, number-positive refusal))
 
@@ -99,13 +94,13 @@ module _ (d : Design) {j : Result Judged Refusal} (w : JudgedRight d j) where
 
   -- the judged replies as numbers
   abbrev told : ℕ
-  told = bare_number (tables_of j)
+  told = answer_number (tables_of j)
 
   told-is : told ≡ reply_number (first_of tables)
-  told-is = ap bare_number w.tables ∙ bare-number (first_of tables)
+  told-is = ap answer_number w.tables ∙ bare-number (first_of tables)
 
-  numbers-are : told ≡ 0 → bare_number (numbers_of j) ≡ numbers
-  numbers-are z = ap bare_number (w.numbers (passed (tables_of j) z)) ∙ bare-number (first_of (number_checks d))
+  numbers-are : told ≡ 0 → answer_number (numbers_of j) ≡ numbers
+  numbers-are z = ap answer_number (w.numbers (passed (tables_of j) z)) ∙ bare-number (first_of (number_checks d))
 
   -- where the tables refuse, what comes after is not looked at
   after : (x y : ℕ) → (told ≡ 0 → x ≡ y) → first_number told x ≡ first_number (reply_number (first_of tables)) y
@@ -124,13 +119,13 @@ module _ (d : Design) {j : Result Judged Refusal} (w : JudgedRight d j) where
       ∙ sym (ap (λ (b : Bool). reply_number (first_of (design_checks b d between []))) e)
       ∙ sym (figures-number (first_of (design_checks own d between [])) blank figure)
 
-  search-told : first_number told (bare_number (numbers_of j)) ≡ number_for d (Some Search)
-  search-told = whole _ [] _ _ (own-size d) (bare_number (numbers_of j)) numbers-are
+  search-told : first_number told (answer_number (numbers_of j)) ≡ number_for d (Some Search)
+  search-told = whole _ [] _ _ (own-size d) (answer_number (numbers_of j)) numbers-are
 
-  count-told : first_number told (first_number (many_of (states_of j)) (bare_number (numbers_of j))) ≡ number_for d (Some Count)
+  count-told : first_number told (first_number (many_of (states_of j)) (answer_number (numbers_of j))) ≡ number_for d (Some Count)
   count-told = whole false (own_count_checks d) _ _ refl _ (λ z. rw (numbers-are z) (many-number (count (model_of d)) (w.states (passed (tables_of j) z)) numbers ∙ sym (number-joined (own_count_checks d) (number_checks d))))
 
-  rank-told : (rank : ℕ) → first_number told (first_number (many_of (states_of j)) (first_number (high_of (states_of j) rank) (bare_number (numbers_of j)))) ≡ number_for d (Some (EnergyAt rank))
+  rank-told : (rank : ℕ) → first_number told (first_number (many_of (states_of j)) (first_number (high_of (states_of j) rank) (answer_number (numbers_of j)))) ≡ number_for d (Some (EnergyAt rank))
   rank-told rank = whole _ (own_rank_checks d rank) _ _ (own-size d) _ (λ z. rw (numbers-are z) (rank-number (count (model_of d)) (w.states (passed (tables_of j) z)) rank numbers ∙ sym listed))
     where
       listed : reply_number (first_of (own_rank_checks d rank ++ number_checks d)) ≡ first_number (many_of (count (model_of d))) (first_number (high_of (count (model_of d)) rank) numbers)
@@ -139,17 +134,17 @@ module _ (d : Design) {j : Result Judged Refusal} (w : JudgedRight d j) where
           ∙ ap (first_number (many_of (count (model_of d)))) (number-joined (RankTooHigh if leb (count (model_of d)) rank ∷ []) (number_checks d))
 
   -- the number of what a job replies
-  pub job-told : (job : Option Job) → bare_number (judged_reply j job) ≡ number_for d job
+  pub job-told : (job : Option Job) → answer_number (judged_reply j job) ≡ number_for d job
   job-told (Some (EnergyAt rank)) =
       let many = first_of (TooManyStates if ltb 1048576 (states_of j) ∷ []) in
       let high = first_of (RankTooHigh if leb (states_of j) rank ∷ []) in
       bare-or (tables_of j) (bare many or_next (bare high or_next (numbers_of j)))
-      ∙ ap (first_number told) (bare-or (bare many) (bare high or_next (numbers_of j)) ∙ ap₂ first_number (bare-number many) (bare-or (bare high) (numbers_of j) ∙ ap (λ (n : ℕ). first_number n (bare_number (numbers_of j))) (bare-number high)))
+      ∙ ap (first_number told) (bare-or (bare many) (bare high or_next (numbers_of j)) ∙ ap₂ first_number (bare-number many) (bare-or (bare high) (numbers_of j) ∙ ap (λ (n : ℕ). first_number n (answer_number (numbers_of j))) (bare-number high)))
       ∙ rank-told rank
   job-told (Some Search) = bare-or (tables_of j) (numbers_of j) ∙ search-told
   job-told (Some Count) =
       let many = first_of (TooManyStates if ltb 1048576 (states_of j) ∷ []) in
       bare-or (tables_of j) (bare many or_next (numbers_of j))
-      ∙ ap (first_number told) (bare-or (bare many) (numbers_of j) ∙ ap (λ (n : ℕ). first_number n (bare_number (numbers_of j))) (bare-number many))
+      ∙ ap (first_number told) (bare-or (bare many) (numbers_of j) ∙ ap (λ (n : ℕ). first_number n (answer_number (numbers_of j))) (bare-number many))
       ∙ count-told
   job-told None = refl

@@ -13,19 +13,14 @@ use Rattle.lists.proofs.Tests.{neither}
 use Rattle.reply.specs.Number.{Reply}
 use Rattle.reply.specs.First.{bare, first_of, refuses}
 use Rattle.reply.specs.declared.Refusal.{Refusal}
-use Rattle.reply.specs.declared.Refusal.TheVariants.{WrongSize}
-use Rattle.reply.proofs.First.{none-holds}
 use Rattle.design.specs.Design.{Design, positions}
-use Rattle.design.specs.Checks as Checks
 use Rattle.design.specs.Checks.{table_checks, number_checks}
-use Rattle.design.proofs.Replies.{tabled}
 use Rattle.jobs.specs.Job.{job_number, job_energy, job_count}
 use Rattle.jobs.specs.Sheet.{Sheet, wrong_sheet, stretches_of, sheet_reply, sheet_numbers, sheet_energies, sheet_counts, sheet_stretches}
 use Rattle.jobs.specs.inner.Judged.{tables_of, numbers_of, JudgedRight}
 use Rattle.jobs.specs.declared.judge.Judged.{Judged}
 use Rattle.std.specs.Prelude.{Option, Result, Ok, Err}
 use Rattle.std.specs.Result.{is_err}
-use Rattle.prepared.specs.declared.options.Counted.{Counted}
 use Rattle.jobs.proofs.Figures.{Unfit}
 
 -- a sheet that is not refused
@@ -51,10 +46,6 @@ module _ (d : Design) (s : Sheet) where
         counts = eqb-true _ _ (not-false _ four.0);
         stretches = eqb-true _ _ (not-false _ four.1);
       }
-
-  -- a refused sheet writes nothing
-  pub sheet-refused : wrong_sheet d s ≡ true → (◌≡◌ {A = Result Unit Refusal} (Err WrongSize) (bare (sheet_reply d s))) × ((s.numbers ≡ sheet_numbers d s) × ((s.energies ≡ sheet_energies d s) × ((s.counts ≡ sheet_counts d s) × (s.stretches ≡ sheet_stretches d s))))
-  sheet-refused e = rw e (refl, (refl, (refl, (refl, refl))))
 
   pub sheet-answered : wrong_sheet d s ≡ false → {numbers : List ℕ} {energies : List Float} {counts stretches : List ℕ} → numbers ≡ map (job_number d) s.jobs → energies ≡ map (job_energy d) s.jobs → counts ≡ map (job_count d) s.jobs → stretches ≡ stretches_of d s.jobs s.stretches
       → (Ok tt ≡ bare (sheet_reply d s)) × ((numbers ≡ sheet_numbers d s) × ((energies ≡ sheet_energies d s) × ((counts ≡ sheet_counts d s) × (stretches ≡ sheet_stretches d s))))
@@ -85,13 +76,3 @@ module _ (d : Design) {j : Result Judged Refusal} (w : JudgedRight d j) where
       let pass = passed (tables_of j) z in
       let r = refusal-of (first_of (number_checks d)) (w.numbers pass) n in
       (r.0, r.1, inr (admitted_of (first_of (table_checks false d.scaffold d.marks d.glues d.dg d.ds d.potentials)) (sym w.tables ∙ pass), r.2))
-
-  pub judged-fit : is_err (tables_of j) ≡ false → is_err (numbers_of j) ≡ false → Checks.Admitted d
-  judged-fit z y =
-      let pass = passed (tables_of j) z in
-      let t = (tabled false d (admitted_of (first_of (table_checks false d.scaffold d.marks d.glues d.dg d.ds d.potentials)) (sym w.tables ∙ pass))).tables in
-      let numbers = none-holds (number_checks d) (admitted_of (first_of (number_checks d)) (sym (w.numbers pass) ∙ passed (numbers_of j) y)) in
-      record { sizes = t.sizes; cells = t.cells; ambient = numbers.0; potentials = numbers.1.0; null = t.null }
-
-  pub fit : {counted : Counted} → j ≡ Ok (record { counted = counted; numbers = Ok tt }) → Checks.Admitted d
-  fit e = judged-fit (ap (λ (r : Result Judged Refusal). is_err (tables_of r)) e) (ap (λ (r : Result Judged Refusal). is_err (numbers_of r)) e)

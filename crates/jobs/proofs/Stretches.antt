@@ -4,7 +4,7 @@ use mathlib.Core.List.{List, [], ◌∷◌, ◌++◌, append_assoc, append-nil}
 use Prim.Native.Nat.{ℕ, suc, ◌+◌, ◌*◌, ◌<◌, ◌≤◌}
 use native.Mathlib.Numerals.{add-one}
 use native.Mathlib.Omega.{arith}
-use native.Mathlib.Nat.{suc-mul, zero-mul}
+use native.Mathlib.Nat.{suc-mul, zero-mul, mul-le-mul}
 use lib.ListN.{length, get_or, take, drop, length-append, length-drop, drop_of_length-le, take-append-drop}
 use lib.Seq.{drop-cons, take_all, take_at, drop_at, drop-drop, length-take-le}
 use Rattle.lists.proofs.Grid.{row-end}
@@ -56,6 +56,10 @@ module _ (configuration jobs before : List ℕ) where
 
     room : k * n + n ≤ length jobs * n
     room = row-end n here
+
+    -- the next stretch lies within them; so many jobs and positions have no more than 8192 entries
+    pub within : length jobs ≤ 64 → n ≤ 128 → length before ≡ length jobs * n → (k * n + n ≤ length stretches) × (length stretches ≤ 8192)
+    within few short size = let most = mul-le-mul few short in (omega (arith, room, w.sized, size), omega (arith, most, w.sized, size))
 
     pub filled_more : {part : List ℕ} → length before ≡ length jobs * n → length part ≡ n → part ≡ stretch_in configuration (job_of (get_or jobs k 0)) (take n (drop (k * n) stretches)) → Filled configuration jobs before (k + 1) (take (k * n) stretches ++ (part ++ drop n (drop (k * n) stretches)))
     filled_more {part} size full is =

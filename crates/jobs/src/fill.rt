@@ -11,7 +11,8 @@ use super::settle::Settled;
 use ensemble::states::MOST_STATES;
 use reply::Refusal;
 
-// The cell of each job by a rule.
+// The cell of each job by a rule. Shared with no filler of `sheet` or `design`: each is a loop of one line whose rule is asked by another thing, here by a
+// word, and after a shared one each would need a lemma to come back to `map`.
 fn fill<T: Copy, F: Fn(u32) -> T>(jobs: &[u32], rule: F, cells: &mut [T])
     requires callable { F.IsAlwaysCallable rule }
     requires cells_len { length cells.old ≡ length jobs.now }

@@ -7,17 +7,17 @@ ghost use Rattle.jobs.specs.inner.Judged.{JudgedRight, judged_reply};
 
 use super::job::Job;
 use design::Design;
-use design::checks::{numbers_reply, tables_reply};
-use design::passed::TabledDesign;
+use design::passed::{AdmittedDesign, tabled};
 use ensemble::states::MOST_STATES;
 use prepared::options::{Counted, count_options};
-use reply::{ANSWERED, Refusal, refused_if};
+use reply::{Refusal, refused_if};
 
-// What a design whose tables pass is judged for: its options and how many states these give, and the reply of the checks of its ambient and potentials.
-#[derive(Clone, Copy)]
+// What a design whose tables pass is judged for: its options and how many states these give, and itself as an admitted design, or why its ambient or its
+// potentials are refused.
+#[derive(Drop)]
 pub(crate) struct Judged<'a> {
     pub counted: Counted<'a>,
-    pub numbers: Result<(), Refusal>,
+    pub admitted: Result<AdmittedDesign<'a>, Refusal>,
 }
 
 // What a job replies.
@@ -25,8 +25,8 @@ fn job_reply(asked: Option<Job>, judged: &Result<Judged, Refusal>) -> Result<(),
     ensures { result ≡ judged_reply judged.now asked }
 {
     let job = asked.ok_or(Refusal::NotAJob)?;
-    let Judged { counted, numbers } = (*judged)?;
-    let states = counted.states;
+    let judged = judged.as_ref().map_err(|refusal| *refusal)?;
+    let states = judged.counted.states;
     match job {
         Job::EnergyAt(rank) => {
             refused_if(Refusal::TooManyStates, MOST_STATES < states)?;
@@ -35,33 +35,34 @@ fn job_reply(asked: Option<Job>, judged: &Result<Judged, Refusal>) -> Result<(),
         Job::Search => {}
         Job::Count => refused_if(Refusal::TooManyStates, MOST_STATES < states)?,
     }
-    numbers
+    match &judged.admitted {
+        Ok(_) => Ok(()),
+        Err(refusal) => Err(*refusal),
+    }
 }
 
 // The number of a job.
 pub(crate) fn job_number(asked: Option<Job>, judged: &Result<Judged, Refusal>) -> u32
     ensures { (d : Design) → JudgedRight d judged.now → result ≡ number_for d asked }
 {
-    match job_reply(asked, judged) {
-        Ok(()) => ANSWERED,
-        Err(refusal) => refusal.number(),
-    }
+    reply::number(job_reply(asked, judged))
 }
 
 // Judges a design: a job's reply has no place.
 pub(crate) fn judge<'a>(
-    design: &Design,
+    design: &'a Design<'a>,
     rows: &'a mut [u8],
     counts: &'a mut [u8],
 ) -> Result<Judged<'a>, Refusal>
     requires rows_len { length rows.old ≡ 8192 }
     requires counts_len { length counts.old ≡ 128 }
     ensures judged_right { JudgedRight design.now result }
+    ensures same { IfOk result (λ judged. IfOk judged.admitted (λ admitted. admitted ≡ design.now)) }
     ensures options { IfOk result (λ judged. OptionRows (model_of design.now) judged.counted.options.rows.now judged.counted.options.counts.now × (judged.counted.options.strands ≡ strands design.now)) }
 {
-    tables_reply(false, design).map_err(|refused| refused.refusal)?;
+    let tabled = tabled(false, design).map_err(|refused| refused.refusal)?;
     let counts = &mut counts[..design.positions()];
-    let counted = count_options(&TabledDesign { design }, rows, counts);
-    let numbers = numbers_reply(design).map_err(|refused| refused.refusal);
-    Ok(Judged { counted, numbers })
+    let counted = count_options(&tabled, rows, counts);
+    let admitted = tabled.admitted().map_err(|refused| refused.refusal);
+    Ok(Judged { counted, admitted })
 }

@@ -7,7 +7,7 @@ pub mod job;
 mod judge;
 mod settle;
 
-ghost use Rattle.std.specs.Prelude.{◌≡◌, ◌||◌, not, map, ◌*◌, ◌≤◌, ltb, eqb, length};
+ghost use Rattle.std.specs.Prelude.{◌≡◌, ◌||◌, not, map, ◌*◌, ◌≤◌, ltb, eqb, length, get_or};
 ghost use Rattle.reply.specs.First.{bare};
 ghost use Rattle.ensemble.specs.Layout.{OptionRows};
 ghost use Rattle.design.specs.Design.{positions, strands, model_of};
@@ -15,6 +15,7 @@ ghost use Rattle.jobs.specs.Job.{job_energy, job_count};
 ghost use Rattle.jobs.specs.Sheet.{sheet, stretches_of, sheet_reply, sheet_numbers, sheet_energies, sheet_counts, sheet_stretches};
 
 use design::Design;
+use design::options::OptionedDesign;
 use design::passed::AdmittedDesign;
 use ensemble::bonds::{Bonds, SCAFFOLD_BONDS, STRAND_BONDS};
 use ensemble::lent::LentModel;
@@ -38,17 +39,11 @@ fn wrong_stretches(jobs: usize, positions: usize, entries: usize) -> bool
     jobs.checked_mul(positions) != Some(entries)
 }
 
-// Whether there are too many jobs, or the replies or the stretches are not as many as these ask for.
-fn wrong_sheet(
-    jobs: usize,
-    numbers: usize,
-    energies: usize,
-    counts: usize,
-    positions: usize,
-    stretches: usize,
-) -> bool
-    ensures { result ≡ (ltb 64 jobs || (not (eqb numbers jobs) || (not (eqb energies jobs) || (not (eqb counts jobs) || not (eqb stretches (jobs * positions)))))) }
+// Whether there are too many jobs, or the replies of a kind or the stretches are not as many as these ask for.
+fn wrong_sheet(jobs: usize, replies: [usize; 3], positions: usize, stretches: usize) -> bool
+    ensures { result ≡ (ltb 64 jobs || (not (eqb (get_or replies 0 0) jobs) || (not (eqb (get_or replies 1 0) jobs) || (not (eqb (get_or replies 2 0) jobs) || not (eqb stretches (jobs * positions)))))) }
 {
+    let [numbers, energies, counts] = replies;
     JOBS < jobs
         || numbers != jobs
         || energies != jobs
@@ -56,7 +51,8 @@ fn wrong_sheet(
         || wrong_stretches(jobs, positions, stretches)
 }
 
-// The figures of all jobs on an admitted design, over its options, and the stretches of its searches.
+// The figures of all jobs on an admitted design, over its options, and the stretches of its searches. The options come beside the design: an
+// `OptionedDesign` is not known to be admitted.
 fn answer_jobs(
     admitted: &AdmittedDesign,
     counted: &Counted,
@@ -81,7 +77,8 @@ fn answer_jobs(
     let mut scaffold_bonds = [0.0; SCAFFOLD_BONDS];
     let mut configuration = [0; POSITIONS];
     let configuration = &mut configuration[..options.counts.len()];
-    fill_bonds(design, &options, &mut strand_bonds, &mut scaffold_bonds);
+    let optioned = OptionedDesign { design, options };
+    fill_bonds(&optioned, &mut strand_bonds, &mut scaffold_bonds);
     let bonds = Bonds::new(&strand_bonds, &scaffold_bonds, design.potentials());
     let lent = LentModel { options, bonds };
     let least = lowest(&lent, design.rt(), configuration);
@@ -97,7 +94,8 @@ fn answer_jobs(
 }
 
 // The jobs of a sheet, each answered as its direct call answers it: a number, an energy and a count for each, and the configuration of each search in
-// its stretch, one entry for each position. A refused job does not stop the sheet.
+// its stretch, one entry for each position. A refused job does not stop the sheet. The slices for the replies are three, since C lends slices of numbers:
+// out of a slice of answers they would be copied.
 pub fn job_sheet(
     design: &Design,
     jobs: &[u32],
@@ -112,34 +110,24 @@ pub fn job_sheet(
     ensures counts_after { counts.new ≡ sheet_counts design.now (sheet jobs.now numbers.old energies.old counts.old stretches.old) }
     ensures stretches_after { stretches.new ≡ sheet_stretches design.now (sheet jobs.now numbers.old energies.old counts.old stretches.old) }
 {
-    let positions = design.positions();
-    let wrong = wrong_sheet(
-        jobs.len(),
-        numbers.len(),
-        energies.len(),
-        counts.len(),
-        positions,
-        stretches.len(),
-    );
+    let replies = [numbers.len(), energies.len(), counts.len()];
+    let wrong = wrong_sheet(jobs.len(), replies, design.positions(), stretches.len());
     refused_if(Refusal::WrongSize, wrong)?;
     let mut rows = [0; OPTIONS];
     let mut options = [0; POSITIONS];
     let judged = judge(design, &mut rows, &mut options);
     fill_numbers(jobs, &judged, numbers);
-    match judged {
-        Ok(
-            Judged {
-                counted,
-                numbers: Ok(()),
-            },
-        ) => {
-            let admitted = AdmittedDesign { design };
-            answer_jobs(&admitted, &counted, jobs, energies, counts, stretches);
-        }
-        _ => {
-            energies.fill(0.0);
-            counts.fill(0);
-        }
+    if let Ok(
+        Judged {
+            counted,
+            admitted: Ok(admitted),
+        },
+    ) = judged
+    {
+        answer_jobs(&admitted, &counted, jobs, energies, counts, stretches);
+    } else {
+        energies.fill(0.0);
+        counts.fill(0);
     }
     Ok(())
 }

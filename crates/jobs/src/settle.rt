@@ -5,7 +5,7 @@ ghost use Rattle.model.specs.States.{state_at};
 ghost use Rattle.model.specs.Energy.{state_energy};
 ghost use Rattle.ensemble.specs.Layout.{OptionRows};
 ghost use Rattle.design.specs.Design.{strands, model_of};
-ghost use Rattle.prepared.specs.Layout.{StateCells};
+ghost use Rattle.prepared.specs.Layout.{StateBonds};
 ghost use Rattle.jobs.specs.inner.Settled.{energy_in};
 
 use super::job::Job;
@@ -26,7 +26,7 @@ pub(crate) struct Settled<'a, 'b> {
     pub least: KcalPerMol,
     ghost same_strands: { lent.options.strands ≡ strands admitted.now },
     ghost option_rows: { OptionRows (model_of admitted.now) lent.options.rows.now lent.options.counts.now },
-    ghost state_cells: { StateCells (model_of admitted.now) lent.options.strands lent.bonds.strand_bonds.cells.now lent.bonds.scaffold_bonds.now lent.bonds.potentials.now },
+    ghost state_cells: { StateBonds (model_of admitted.now) lent.bonds },
     ghost counted: { states ≡ min (product lent.options.counts.now) 1048577 },
 }
 

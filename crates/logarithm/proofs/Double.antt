@@ -7,7 +7,7 @@ use native.Mathlib.Omega.{arith}
 use lib.IntN.{pos}
 use lib.Dec.{T, leb, eqb, ltb→lt, nleb→lt, le→leb, lit≤, lit<}
 use lib.Pow.{pow_pos, pow_mono, pow-add}
-use lib.Ieee.{Float, nan, inf, fin, binary64, ones, odd, up, down, round, div, neg, in_float, is_nan, le, fits, of_fields, of_bits, to_bits}
+use lib.Ieee.{Float, nan, inf, fin, binary64, ones, odd, up, down, round, div, neg, in_float, le, fits, of_fields, of_bits, to_bits}
 use lib.Ieee.Bits.{of_bits-to_bits}
 use lib.Ieee.Fits.{down_pos, up_pos}
 use lib.Ieee.Scale.{round_same}
@@ -216,12 +216,6 @@ module _ (x : Float) (b t : ℕ) (r : Read x b) (X : T (positive x)) (l : t < 2 
 pub held : (t : ℕ) → t < 2 ^ 53 → T (in_float binary64 (pos t))
 unfolding in_float
 held t l = le→leb t (2 ^ 53) (le_of_lt l)
-
-pub not-nan : (x : Float) → T (positive x) → T (not (is_nan x))
-unfolding is_nan
-not-nan nan p = absurd p
-not-nan (inf s) p = absurd p
-not-nan (fin s m e) p = tt
 
 pub unit-is : of_bits binary64 4814348001659060224 ≡ fin false 1 (pos 46)
 unfolding of_bits

@@ -4,7 +4,6 @@ use mathlib.Core.Bool.{Bool, true, false, cond, not, ◌&&◌, true≢false}
 use Prim.Native.Nat.{ℕ, ◌+◌, ◌-◌, ◌*◌, ◌/◌, ◌%◌, ◌^◌, ◌≤◌, ◌<◌}
 use native.Mathlib.Nat.{le_trans, le_of_suc-le-suc, mod-lt, mul-pos, mul-le-mul_right, div-mul-le_self, lt-div-mul-add, le-div_iff_mul-le, div-le_of_le-mul}
 use native.Mathlib.Omega.{arith}
-use borrow.Author.Tests.{lt-ltb, le-ltb}
 use lib.Dec.{T, ltb, ltb→lt, nltb→le, lit≤, lit<}
 use lib.ListN.{get_or}
 use lib.Pow.{pow_pos}
@@ -100,14 +99,6 @@ module _ (a b : ℕ) (B : 0 < b) (h : b ≤ a) (l : a ≤ 2 * b) where
   most-of : LnAtMost a b (frac (get_or steps (c - 32) 0 + ln_series ((32 * a - c * b) * 2 ^ 54 / (32 * a)) + 160) (2 ^ 54))
   most-of = at-most-ratio a b (omega arith) B (omega arith) (at-most-le {q = frac (get_or steps (c - 32) 0 + ln_series ((32 * a - c * b) * 2 ^ 54 / (32 * a)) + 160) (2 ^ 54)} (pow_pos 54) (record { cross = omega arith }) whole-most)
 
-  pub rest-quotient : (32 * a - 32 * a / b * b) * 2 ^ 54 / (32 * a) ≤ 2 ^ 49
-  unfolding c
-  rest-quotient = quotient-small (32 * a) (32 * a - c * b) ((32 * a - c * b) * 2 ^ 54 / (32 * a)) (omega arith) rest-small (div-mul-le_self ((32 * a - c * b) * 2 ^ 54) (32 * a))
-
-  pub ratio-step : (32 ≤ 32 * a / b) × (32 * a / b ≤ 64)
-  unfolding c
-  ratio-step = (c-least, c-most)
-
   u-small : (32 * a - c * b) * 2 ^ 54 / (32 * a) ≤ 2 ^ 53
   u-small = le_trans (quotient-small (32 * a) (32 * a - c * b) ((32 * a - c * b) * 2 ^ 54 / (32 * a)) (omega arith) rest-small (div-mul-le_self ((32 * a - c * b) * 2 ^ 54) (32 * a))) (lit≤ tt)
 
@@ -160,12 +151,3 @@ ln-right x f e =
         let m : b % 2 ^ 52 < 2 ^ 52 = mod-lt b (lit< tt) in
         let u = ratio-right (b % 2 ^ 52 + 2 ^ 52) (2 ^ 52) (lit< tt) (omega arith) (omega arith) (b / 2 ^ 52 - 1023) (omega (arith, r.upto)) in
         ln-over x b (ln_ratio (b % 2 ^ 52 + 2 ^ 52) (2 ^ 52) (b / 2 ^ 52 - 1023)) r (in-positive x p q) u.small l u.least u.most
-
--- ---- the two cases, as the program takes them
-pub below_one : (x : Float) → to_bits binary64 x / 2 ^ 52 < 1023 → ln_of x ≡ neg (fixed (ln_ratio (2 ^ 53) (to_bits binary64 x % 2 ^ 52 + 2 ^ 52) (1022 - to_bits binary64 x / 2 ^ 52)))
-unfolding ln_of ln_of_fields
-below_one x h = rw (lt-ltb _ _ h) refl
-
-pub from_one : (x : Float) → 1023 ≤ to_bits binary64 x / 2 ^ 52 → ln_of x ≡ fixed (ln_ratio (to_bits binary64 x % 2 ^ 52 + 2 ^ 52) (2 ^ 52) (to_bits binary64 x / 2 ^ 52 - 1023))
-unfolding ln_of ln_of_fields
-from_one x h = rw (le-ltb _ _ h) refl

@@ -78,10 +78,6 @@ unfolding part
 part_none zero m = refl
 part_none (suc j) m = rw (part_none j m, pow-suc 0 j) (omega arith)
 
-more-none : (j m : ℕ) → more j m 0 ≡ 0
-unfolding more
-more-none j m = rw (part_none j m, pow-suc 0 j) (omega arith)
-
 -- ---- the sums of 1 / k that lie over and under
 upper-alg : (P P' W k n d : ℕ) → P' * k ≤ P * k + W → P * d ≤ n * W → P' * (k * d) ≤ (1 * d + n * k) * W
 upper-alg P P' W k n d h g = omega (arith, mul-le-mul_right d h, mul-le-mul_right k g)

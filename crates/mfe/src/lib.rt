@@ -10,10 +10,8 @@ ghost use Rattle.design.specs.Answers.{energy_figures};
 ghost use Rattle.mfe.specs.Answers.{search_answer, search_entries, LowestShown};
 
 use design::Design;
-use design::checks::design_reply;
-use design::needed::{fill_closing_bonds, fill_needed_scaffold_bonds, fill_read_strand_bonds};
-use design::options::options_of;
-use design::passed::AdmittedDesign;
+use design::options::{OptionedDesign, options_of};
+use design::passed::{AdmittedDesign, admitted};
 use ensemble::bonds::{Bonds, SCAFFOLD_BONDS, STRAND_BONDS};
 use ensemble::lent::LentModel;
 use ensemble::lowest::lowest;
@@ -27,14 +25,14 @@ use units::KcalPerMol;
 // lowest ring.
 // A const says which, at both places: as two closures, one that fills the closing bonds and one that searches, the second would have to ask in a clause
 // for what the first has written.
-fn settled<const RING: bool, const PAIRS: usize, const SITES: usize>(
+fn settled<const RING: bool, const STRAND_CELLS: usize, const SCAFFOLD_CELLS: usize>(
     admitted: &AdmittedDesign,
     configuration: &mut [u8],
 ) -> KcalPerMol
-    requires pairs_bound { PAIRS ≤ 4096 }
-    requires sites_bound { SITES ≤ 8192 }
-    requires pairs_in_bounds { strands admitted.now * strands admitted.now ≤ PAIRS }
-    requires sites_in_bounds { positions admitted.now * strands admitted.now ≤ SITES }
+    requires strand_cells_bound { STRAND_CELLS ≤ 4096 }
+    requires scaffold_cells_bound { SCAFFOLD_CELLS ≤ 8192 }
+    requires strands_in_bounds { strands admitted.now * strands admitted.now ≤ STRAND_CELLS }
+    requires positions_in_bounds { positions admitted.now * strands admitted.now ≤ SCAFFOLD_CELLS }
     requires configuration_len { length configuration.old ≡ positions admitted.now }
     requires closed { RING ≡ true → 0 < positions admitted.now }
     ensures chain { RING ≡ false → Found (model_of admitted.now) configuration.new result.0 }
@@ -44,13 +42,14 @@ fn settled<const RING: bool, const PAIRS: usize, const SITES: usize>(
     let mut rows = [0u8; OPTIONS];
     let mut counts = [0u8; POSITIONS];
     let counts = &mut counts[..design.positions()];
-    let mut strand_bonds = [0.0; PAIRS];
-    let mut scaffold_bonds = [0.0; SITES];
+    let mut strand_bonds = [0.0; STRAND_CELLS];
+    let mut scaffold_bonds = [0.0; SCAFFOLD_CELLS];
     let options = options_of(&admitted.tabled(), &mut rows, counts);
-    fill_read_strand_bonds(design, &options, &mut strand_bonds);
-    fill_needed_scaffold_bonds(design, &options, &mut scaffold_bonds);
+    let optioned = OptionedDesign { design, options };
+    optioned.fill_read_strand_bonds(&mut strand_bonds);
+    optioned.fill_needed_scaffold_bonds(&mut scaffold_bonds);
     if RING {
-        fill_closing_bonds(design, &options, &mut strand_bonds);
+        optioned.fill_closing_bonds(&mut strand_bonds);
     }
     let bonds = Bonds::new(&strand_bonds, &scaffold_bonds, design.potentials());
     let lent = LentModel { options, bonds };
@@ -69,14 +68,14 @@ pub fn searched<const RING: bool>(admitted: &AdmittedDesign, configuration: &mut
     ensures ring { RING ≡ true → FoundRing (model_of admitted.now) configuration.new result.0 }
 {
     let design = admitted.design;
-    let sites = design.positions() * design.strands();
+    let scaffold_cells = design.positions() * design.strands();
     if design.strands() <= 16 {
-        if sites <= 256 {
+        if scaffold_cells <= 256 {
             settled::<RING, 256, 256>(admitted, configuration)
         } else {
             settled::<RING, 256, 2048>(admitted, configuration)
         }
-    } else if sites <= 2048 {
+    } else if scaffold_cells <= 2048 {
         settled::<RING, STRAND_BONDS, 2048>(admitted, configuration)
     } else {
         settled::<RING, STRAND_BONDS, SCAFFOLD_BONDS>(admitted, configuration)
@@ -89,7 +88,7 @@ pub fn mfe_configuration(design: &Design, configuration: &mut [u8]) -> Result<Kc
     ensures configuration_after { configuration.new ≡ search_entries design.now configuration.old }
     ensures lowest_shown { LowestShown design.now configuration.old configuration.new result }
 {
-    design_reply(configuration.len() != design.positions(), design)?;
+    let admitted = admitted(configuration.len() != design.positions(), design)?;
     design.hold_doubles();
-    Ok(searched::<false>(&AdmittedDesign { design }, configuration))
+    Ok(searched::<false>(&admitted, configuration))
 }

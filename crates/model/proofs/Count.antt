@@ -1,26 +1,18 @@
 -- The number of states: that of the listing's choices, and as a loop over the positions multiplies it. Assumes nothing.
 use mathlib.Core.Path.{◌≡◌, refl, sym, ap, ap₂, ◌∙◌}
 use mathlib.Core.List.{List, [], ◌∷◌, map}
-use Prim.Native.Nat.{ℕ, zero, suc, ◌+◌, ◌*◌, ◌/◌, ◌%◌, ◌<◌, ◌≤◌, min}
-use native.Mathlib.Nat.{mul-pos, mul_assoc, mul-one, mul-le-mul_left, mul-div_cancel_left, zero-lt-suc, le_trans, le_of_eq}
+use Prim.Native.Nat.{ℕ, zero, suc, ◌+◌, ◌*◌, ◌<◌, ◌≤◌, min}
+use native.Mathlib.Nat.{mul-pos, mul_assoc, mul-one, mul-le-mul_left, zero-lt-suc, le_trans, le_of_eq}
 use native.Mathlib.Decide.{dec_le}
 use native.Mathlib.Omega.{arith}
 use lib.ListN.{length, get_or, length-append}
 use Rattle.lists.specs.Build.{product}
 use Rattle.model.specs.Model.{Model, options, options_of}
-use Rattle.model.specs.States.{choices, choice_at, friends_plus_one, count}
+use Rattle.model.specs.States.{choices, friends_plus_one, count}
 
 -- the states of the positions that are left
 abbrev pub ways : List (List ℕ) → ℕ
 ways later = product (map friends_plus_one later)
-
-pub ways-none : ways [] ≡ 1
-unfolding product
-ways-none = refl
-
-pub ways-more : (here : List ℕ) (later : List (List ℕ)) → ways (here ∷ later) ≡ (length here + 1) * ways later
-unfolding product
-ways-more here later = refl
 
 pub ways-pos : (later : List (List ℕ)) → 0 < ways later
 unfolding product
@@ -52,20 +44,9 @@ held_more most states friends later h = sym (ap (λ (n : ℕ). min n most) (mul_
         let e : min n most ≡ most = omega arith in
         rw e (omega (arith, grows most later h, grows n later h))
 
--- ---- a loop that finds the state at a rank
-
--- the states of the later positions, from those of this and the later ones
-pub ways-later : (here : List ℕ) (later : List (List ℕ)) → ways (here ∷ later) / (length here + 1) ≡ ways later
-ways-later here later = rw (ways-more here later) (mul-div_cancel_left (ways later) {n = length here + 1} (omega arith))
-
 -- past the friends stands 0
 pub option-or-empty : (friends : List ℕ) (k : ℕ) → get_or (options_of friends) k 0 ≡ get_or friends k 0
 option-or-empty [] zero = refl
 option-or-empty [] (suc k) = refl
 option-or-empty (x ∷ friends) zero = refl
 option-or-empty (x ∷ friends) (suc k) = option-or-empty friends k
-
-pub choice_at-more : (here : List ℕ) (later : List (List ℕ)) (rank : ℕ)
-    → choice_at (map options_of (here ∷ later)) rank ≡ get_or here (rank / ways later) 0 ∷ choice_at (map options_of later) (rank % ways later)
-unfolding choice_at
-choice_at-more here later rank = rw (choices-ways later) (ap (λ (x : ℕ). x ∷ choice_at (map options_of later) (rank % ways later)) (option-or-empty here (rank / ways later)))

@@ -1,4 +1,5 @@
--- Of the potentials only those of friends are read: a place holds a friend or nothing, and an empty place adds no term. Assumes nothing.
+-- Of a model only what is of friends is read: a place holds a friend or nothing, and an empty place adds no term. So of the potentials those of friends
+-- alone. Assumes nothing.
 use mathlib.Core.Path.{◌≡◌, refl, ap, ap₂, ◌∙◌, subst, sym}
 use mathlib.Core.Logic.{◌⊎◌, inl, inr}
 use mathlib.Core.Bool.{cond}
@@ -17,53 +18,61 @@ use Rattle.doubles.specs.Least.{last_least}
 use Rattle.doubles.proofs.Least.{last_one, first_one, last-same, first-same}
 use Rattle.model.specs.Model.{Model, State, Friend, positions}
 use Rattle.model.specs.States.{states, state_at, count}
-use Rattle.model.specs.Energy.{if_occupied, to_right, from_left, state_place, chain_place, state_terms, chain_terms, state_energy, chain_energy, chain_product, lesser, walk}
+use Rattle.model.specs.Energy.{if_occupied, to_right, from_left, state_terms, chain_terms, state_energy, chain_energy, chain_product, lesser, walk}
 use Rattle.model.specs.Search.{with_strand_bond, with_scaffold_bond, least_left, entry, compared, left_choice, traced, last_strand, product, SearchResult, search_over, options_at, times_rt, search}
-use Rattle.model.specs.Read.{SameRead, Alike, OnlyFriendsRead}
+use Rattle.model.specs.Read.{Alike, OnlyFriendsRead}
 use Rattle.model.proofs.Bounds.{Occupants, occupants}
 use Rattle.model.proofs.Listing.{listed}
 use Rattle.model.proofs.Count.{ways-pos}
 use Rattle.model.proofs.Traced.{traced-same}
 use Rattle.model.proofs.Search.{own, some-option}
 
--- a model with other potentials
-abbrev with_potentials : Model → (ℕ → Float) → Model
-with_potentials m other = record { friends = m.friends; site = m.site; pair = m.pair; potential = other; rt = m.rt }
+-- what a place of a state may hold
+abbrev pub Held : Model → ℕ → ℕ → Type 0
+Held m i x = (x ≡ 0) ⊎ Friend m i x
 
-module _ (m : Model) (other : ℕ → Float) (same : (i strand : ℕ) → Friend m i strand → m.potential strand ≡ other strand) where
+-- a model with other bonds and potentials
+abbrev pub with_terms : Model → (ℕ → ℕ → Float) → (ℕ → ℕ → Float) → (ℕ → Float) → Model
+with_terms m site pair potential = record { friends = m.friends; site = site; pair = pair; potential = potential; rt = m.rt }
+
+module _ (m : Model) (site pair : ℕ → ℕ → Float) (potential : ℕ → Float)
+    (same-site : (i x : ℕ) → Friend m i x → m.site i x ≡ site i x)
+    (same-pair : (i x y : ℕ) → Held m i x → Held m (suc i) y → m.pair x y ≡ pair x y)
+    (same-potential : (i x : ℕ) → Friend m i x → m.potential x ≡ potential x) where
   abbrev changed : Model
-  changed = with_potentials m other
+  changed = with_terms m site pair potential
 
   -- ---- terms
 
-  -- what is made of an occupant's potential where the place is not empty
-  at_place : {A : Type 0} (i x : ℕ) (empty : A) (taken : Float → A) → (x ≡ 0) ⊎ Friend m i x → cond (eqb x 0) empty (taken (m.potential x)) ≡ cond (eqb x 0) empty (taken (other x))
+  -- what is made of an occupant's scaffold bond and potential where the place is not empty
+  at_place : {A : Type 0} (i x : ℕ) (empty : A) (taken : Float → Float → A) → Held m i x
+      → cond (eqb x 0) empty (taken (m.site i x) (m.potential x)) ≡ cond (eqb x 0) empty (taken (site i x) (potential x))
   at_place i x empty taken (inl e) = rw (eq-eqb x 0 e) refl
-  at_place i x empty taken (inr f) = ap (λ (p : Float). cond (eqb x 0) empty (taken p)) (same i x f)
+  at_place i x empty taken (inr f) = ap₂ (λ (b p : Float). cond (eqb x 0) empty (taken b p)) (same-site i x f) (same-potential i x f)
+
+  right-same : (i x : ℕ) (s : List ℕ) → Held m i x → Occupants m (suc i) s → to_right m x s ≡ to_right changed x s
+  right-same i x [] h o = refl
+  right-same i x (y ∷ s) h o = ap (λ (b : Float). b ∷ []) (same-pair i x y h o.0)
 
   state-terms : (i : ℕ) (s : List ℕ) → Occupants m i s → state_terms m i s ≡ state_terms changed i s
   unfolding state_terms
   state-terms i [] o = refl
   state-terms i (x ∷ s) o =
       ap₂ (λ (here later : List Float). here ++ later)
-      (at_place i x [] (λ p. m.site i x ∷ to_right m x s ++ neg p ∷ []) o.0 ∙ right i x s)
+      (at_place i x [] (λ b p. b ∷ to_right m x s ++ neg p ∷ []) o.0 ∙ ap (λ (bonds : List Float). if_occupied x (site i x ∷ bonds ++ neg (potential x) ∷ [])) (right-same i x s o.0 o.1))
       (state-terms (suc i) s o.1)
-    where
-      right : (i x : ℕ) (s : List ℕ) → if_occupied x (m.site i x ∷ to_right m x s ++ neg (other x) ∷ []) ≡ state_place changed i x s
-      right i x [] = refl
-      right i x (y ∷ s) = refl
 
-  chain-terms : (i : ℕ) (left : Option ℕ) (s : List ℕ) → Occupants m i s → chain_terms m i left s ≡ chain_terms changed i left s
+  -- the bond to what stands to the left of a place
+  abbrev LeftSame : ℕ → Option ℕ → Type 0
+  LeftSame i left = (x : ℕ) → Held m i x → from_left m left x ≡ from_left changed left x
+
+  chain-terms : (i : ℕ) (left : Option ℕ) (s : List ℕ) → LeftSame i left → Occupants m i s → chain_terms m i left s ≡ chain_terms changed i left s
   unfolding chain_terms
-  chain-terms i left [] o = refl
-  chain-terms i left (x ∷ s) o =
+  chain-terms i left [] before o = refl
+  chain-terms i left (x ∷ s) before o =
       ap₂ (λ (here later : List Float). here ++ later)
-      (at_place i x [] (λ p. from_left m left x ++ m.site i x ∷ neg p ∷ []) o.0 ∙ before left)
-      (chain-terms (suc i) (some x) s o.1)
-    where
-      before : (left : Option ℕ) → if_occupied x (from_left m left x ++ m.site i x ∷ neg (other x) ∷ []) ≡ chain_place changed i left x
-      before none = refl
-      before (some y) = refl
+      (at_place i x [] (λ b p. from_left m left x ++ b ∷ neg p ∷ []) o.0 ∙ ap (λ (bonds : List Float). if_occupied x (bonds ++ site i x ∷ neg (potential x) ∷ [])) (before x o.0))
+      (chain-terms (suc i) (some x) s (λ y h. ap (λ (b : Float). b ∷ []) (same-pair i x y o.0 h)) o.1)
 
   state-same : (s : List ℕ) → State m s → state_energy m s ≡ state_energy changed s
   unfolding state_energy
@@ -71,7 +80,7 @@ module _ (m : Model) (other : ℕ → Float) (same : (i strand : ℕ) → Friend
 
   chain_same : (s : List ℕ) → State m s → chain_energy m s ≡ chain_energy changed s
   unfolding chain_energy
-  chain_same s w = ap (sum_from Decimal.zero) (chain-terms 0 none s (occupants m s w))
+  chain_same s w = ap (sum_from Decimal.zero) (chain-terms 0 none s (λ x h. refl) (occupants m s w))
 
   product-same : (s : List ℕ) → State m s → chain_product m s ≡ chain_product changed s
   unfolding chain_product
@@ -110,27 +119,30 @@ module _ (m : Model) (other : ℕ → Float) (same : (i strand : ℕ) → Friend
   -- ---- the search
 
   entry-with : (i x : ℕ) (s r : Float) → Memᴰ x (options_at m i) → s ≡ r → with_scaffold_bond m i x s ≡ with_scaffold_bond changed i x r
-  entry-with i x s r o e = at_place i x s (λ p. sub binary64 (add binary64 s (m.site i x)) p) (own m i x o) ∙ ap (with_scaffold_bond changed i x) e
+  entry-with i x s r o e = at_place i x s (λ b p. sub binary64 (add binary64 s b) p) (own m i x o) ∙ ap (with_scaffold_bond changed i x) e
 
-  left-same : (i x : ℕ) → least_left m (options_at m) i x ≡ least_left changed (options_at m) i x
+  bond-with : (i x left : ℕ) (s r : Float) → Memᴰ x (options_at m (suc i)) → Memᴰ left (options_at m i) → s ≡ r → with_strand_bond m x left s ≡ with_strand_bond changed x left r
+  bond-with i x left s r h o e = ap₂ (λ (b t : Float). cond (eqb x 0) t (add binary64 t b)) (same-pair i left x (own m i left o) (own m (suc i) x h)) e
+
+  left-same : (i x : ℕ) → Memᴰ x (options_at m i) → least_left m (options_at m) i x ≡ least_left changed (options_at m) i x
   unfolding least_left
-  left-same zero x = refl
-  left-same (suc i) x =
-      let agree : (left : ℕ) → Memᴰ left (options_at m i) → compared m (options_at m) i x left ≡ compared changed (options_at m) i x left = λ left o. ap (with_strand_bond m x left) (entry-with i left _ _ o (left-same i left)) in
+  left-same zero x h = refl
+  left-same (suc i) x h =
+      let agree : (left : ℕ) → Memᴰ left (options_at m i) → compared m (options_at m) i x left ≡ compared changed (options_at m) i x left = λ left o. bond-with i x left _ _ h o (entry-with i left _ _ o (left-same i left o)) in
       let picked = last-same (compared m (options_at m) i x) (compared changed (options_at m) i x) (options_at m i) agree in
       agree (last_least (compared m (options_at m) i x) (options_at m i)) (last_one (compared m (options_at m) i x) (options_at m i) (some-option m i))
       ∙ ap (compared changed (options_at m) i x) picked
 
   entry-same : (i x : ℕ) → Memᴰ x (options_at m i) → entry m (options_at m) i x ≡ entry changed (options_at m) i x
-  entry-same i x o = entry-with i x _ _ o (left-same i x)
+  entry-same i x o = entry-with i x _ _ o (left-same i x o)
 
-  compared_same : (i x left : ℕ) → Memᴰ left (options_at m i) → compared m (options_at m) i x left ≡ compared changed (options_at m) i x left
-  compared_same i x left o = ap (with_strand_bond m x left) (entry-same i left o)
+  compared_same : (i x left : ℕ) → Memᴰ x (options_at m (suc i)) → Memᴰ left (options_at m i) → compared m (options_at m) i x left ≡ compared changed (options_at m) i x left
+  compared_same i x left h o = bond-with i x left _ _ h o (entry-same i left o)
 
-  choice-same : (i x : ℕ) → left_choice m (options_at m) i x ≡ left_choice changed (options_at m) i x
+  choice-same : (i x : ℕ) → Memᴰ x (options_at m i) → left_choice m (options_at m) i x ≡ left_choice changed (options_at m) i x
   unfolding left_choice
-  choice-same zero x = refl
-  choice-same (suc i) x = last-same (compared m (options_at m) i x) (compared changed (options_at m) i x) (options_at m i) (compared_same i x)
+  choice-same zero x h = refl
+  choice-same (suc i) x h = last-same (compared m (options_at m) i x) (compared changed (options_at m) i x) (options_at m i) (λ left. compared_same i x left h)
 
   choice-option : (i x : ℕ) → Memᴰ (left_choice m (options_at m) (suc i) x) (options_at m i)
   unfolding left_choice
@@ -145,7 +157,7 @@ module _ (m : Model) (other : ℕ → Float) (same : (i strand : ℕ) → Friend
       let first : last_strand m (options_at m) (times_rt m) last ≡ last_strand changed (options_at m) (times_rt m) last = first-same key (product changed (options_at m) (times_rt m) last) (options_at m last) agree in
       let o = first_one key (options_at m last) (some-option m last) in
       result
-      (sym (traced-same (left_choice m (options_at m)) (left_choice changed (options_at m)) (options_at m) last (λ i x l k. choice-option i x) (λ i x l k. sym (choice-same (suc i) x)) last (last_strand m (options_at m) (times_rt m) last) [] (le_refl last) o) ∙ ap (λ (x : ℕ). traced (left_choice changed (options_at m)) last x []) first)
+      (sym (traced-same (left_choice m (options_at m)) (left_choice changed (options_at m)) (options_at m) last (λ i x l k. choice-option i x) (λ i x l k. sym (choice-same (suc i) x k)) last (last_strand m (options_at m) (times_rt m) last) [] (le_refl last) o) ∙ ap (λ (x : ℕ). traced (left_choice changed (options_at m)) last x []) first)
       (agree (last_strand m (options_at m) (times_rt m) last) o ∙ ap (product changed (options_at m) (times_rt m) last) first)
     where
       result : {s t : List ℕ} {e f : Float} → s ≡ t → e ≡ f → ◌≡◌ {A = SearchResult} (record { configuration = s; energy = e }) (record { configuration = t; energy = f })
@@ -155,7 +167,7 @@ module _ (m : Model) (other : ℕ → Float) (same : (i strand : ℕ) → Friend
   unfolding search
   search-same = over-same (positions m)
 
-  alike-with : Alike m changed
+  pub alike-with : Alike m changed
   unfolding count
   alike-with = record {
     listed = refl;
@@ -169,7 +181,7 @@ module _ (m : Model) (other : ℕ → Float) (same : (i strand : ℕ) → Friend
   }
 
 pub only-friends-read : OnlyFriendsRead
-only-friends-read m n r = subst (Alike m) (whole r) (alike-with m n.potential r.potential)
+only-friends-read m n r = subst (Alike m) whole (alike-with m m.site m.pair n.potential (λ i x f. refl) (λ i x y h k. refl) r.potential)
   where
-    whole : SameRead m n → with_potentials m n.potential ≡ n
-    whole r = let e : with_potentials m n.potential ≡ with_potentials n n.potential = cc in e
+    whole : with_terms m m.site m.pair n.potential ≡ n
+    whole = let e : with_terms m m.site m.pair n.potential ≡ with_terms n n.site n.pair n.potential = cc in e

@@ -3,7 +3,7 @@
 #![tactic(auto)]
 
 // A number of 31 digits times a power of two, in units of which every term on the way is a whole number.
-#[derive(Clone, Copy)]
+#[derive(Clone, Copy, Default)]
 pub struct Term {
     pub digits: u64,
     pub power: u64,

@@ -17,7 +17,7 @@ use Rattle.lists.proofs.Any.{none_passes}
 use Rattle.lists.proofs.Counted.{tabulate-same, map-tabulate}
 use Rattle.lists.proofs.Keep.{of-keep}
 use Rattle.lists.proofs.Places.{tabulate-get_or, mem-get_or}
-use Rattle.ensemble.specs.Layout.{Readable, Searchable, option_in}
+use Rattle.ensemble.specs.Layout.{Searchable, option_in}
 use Rattle.fractions.specs.declared.Weight.{Weight}
 use Rattle.partition.specs.Constraint.{allows}
 use Rattle.partition.specs.Pass.{allowed, none_left}
@@ -79,14 +79,6 @@ kept_more lists options rows counts i row n inside here full old new =
     below_more (KeptAt lists options (with_part rows (64 * i) 64 row) (set counts i n)) i
     (λ k h. rw (part-before rows (64 * i) 64 row inside full (64 * k) 64 (omega arith), get_or-set_other counts i k n 0 (ne_of_lt h)) (old k h))
     (rw (part-self rows (64 * i) 64 row inside full, get_or-set_same counts i n 0 here) new)
-
--- a position has at most 64 options
-pub options-few : {rows counts : List ℕ} → Readable rows counts → (i : ℕ) → i < length counts → length (options_at rows counts i) ≤ 64
-options-few {rows} {counts} r i h =
-    let few = r.few i h in
-    let sized = r.sized in
-    let n : length (options_at rows counts i) ≡ get_or counts i 0 = length-take-le (get_or counts i 0) (drop (64 * i) rows) (rw (length-drop (64 * i) rows) (omega arith)) in
-    omega arith
 
 -- ---- all rows
 

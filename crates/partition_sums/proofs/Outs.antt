@@ -3,10 +3,10 @@ use mathlib.Core.Path.{◌≡◌, refl, sym, ap, ap₂, ◌∙◌}
 use mathlib.Core.Bool.{Bool, true, false, ◌||◌}
 use mathlib.Core.List.{List, [], ◌∷◌}
 use Prim.Native.Nat.{ℕ, zero, suc, ◌+◌, ◌*◌, ◌-◌, ◌≤◌, ◌<◌}
-use native.Mathlib.Nat.{zero-lt-suc, lt_of_not-le, not-suc-le-zero, add-zero}
+use native.Mathlib.Nat.{zero-lt-suc, lt_of_not-le, add-zero}
 use native.Mathlib.Decide.{dec_le}
 use native.Mathlib.Omega.{arith}
-use lib.ListN.{length, get_or, drop, length-drop}
+use lib.ListN.{length, get_or, drop, length-drop, get_or-eq_default}
 use lib.Seq.{get_or-take, get_or-drop, length-take-le}
 use Rattle.std.proofs.lemmas.List.{get_or_read}
 use Rattle.std.specs.List.{list_any, range_with_len}
@@ -43,12 +43,6 @@ range-before q (suc m) a = ap₂ (λ (k : ℕ) (b : Bool). q k || b) (before a) 
     before : (a : ℕ) → a + 1 - 1 ≡ a
     before a = omega arith
 
-get_or-past : (n : ℕ) (f : ℕ → List ℕ) (i : ℕ) → n ≤ i → get_or (tabulate n f) i [] ≡ []
-unfolding tabulate
-get_or-past zero f i h = refl
-get_or-past (suc n) f zero h = absurd (not-suc-le-zero h)
-get_or-past (suc n) f (suc i) h = get_or-past n (λ k. f (suc k)) i (omega arith)
-
 module _ (w : Weights) (rows counts : List ℕ) (s : Searchable w.strands rows counts) where
   friends-at : (i : ℕ) → i < length counts → get_or (friends_in rows counts) i [] ≡ friends_at rows counts i
   unfolding friends_in
@@ -56,7 +50,7 @@ module _ (w : Weights) (rows counts : List ℕ) (s : Searchable w.strands rows c
 
   friends-past : (i : ℕ) → length counts ≤ i → get_or (friends_in rows counts) i [] ≡ []
   unfolding friends_in
-  friends-past i h = get_or-past (length counts) (friends_at rows counts) i h
+  friends-past i h = get_or-eq_default (tabulate (length counts) (friends_at rows counts)) [] (rw (length-tabulate (length counts) (friends_at rows counts)) h)
 
   pub friends-below : (i : ℕ) → i < length counts → (k : ℕ) → k < length (friends_at rows counts i) → get_or (friends_at rows counts i) k 0 < w.strands
   friends-below i h k l =

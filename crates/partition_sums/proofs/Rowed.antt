@@ -74,9 +74,6 @@ pub record Written (step : ℕ → Term) (here : List ℕ) (k : ℕ) (row : List
   pub sized : length row ≡ 64
   pub done : (j : ℕ) → j < k → row_term row (get_or here j 0) ≡ step (get_or here j 0)
 
-pub written_none : (step : ℕ → Term) (here : List ℕ) (row : List Term) → length row ≡ 64 → Written step here 0 row
-written_none step here row h = record { sized = h; done = λ j l. absurd (not-suc-le-zero l) }
-
 pub written-more : (step : ℕ → Term) (here : List ℕ) (row : List Term) (k x : ℕ) (t : Term) → x < 64 → x ≡ get_or here k 0 → t ≡ step x → Written step here k row → Written step here (k + 1) (set row x t)
 written-more step here row k x t X e s w = record { sized = rw (length-set row x t) w.sized; done = each }
   where

@@ -5,6 +5,7 @@ ghost use Rattle.partition_sums.specs.inner.Kept.{Kept, KeptRows};
 
 use super::constraint::Constraint;
 use ensemble::options::Options;
+use reply::limits::STRANDS;
 
 // Whether a list allows an occupant: an empty one allows all.
 #[tactic(auto, unfolding(partition::specs::Constraint::allows))]
@@ -20,7 +21,7 @@ fn keep_row(list: &[u8], options: &[u8], row: &mut [u8]) -> u8
     requires row_len { length row.old ≡ 64 }
     ensures { Kept list.now options.now row.new result }
 {
-    // Written by number: of entries that a zip lends to be written nothing is known afterwards.
+    // By number: of what is written through adapters nothing is known afterwards, and what passes a test can't be collected into a slice.
     let mut count = 0;
     for x in options {
         if list_allows(list, *x) {
@@ -45,11 +46,11 @@ pub(crate) fn keep_allowed(
 {
     // By number, since lists and options are asked for by it.
     for position in 0..kept_counts.len() {
-        let row = 64 * position;
+        let row = STRANDS * position;
         kept_counts[position] = keep_row(
             constraint.list(position),
             options.of(position),
-            &mut kept_rows[row..row + 64],
+            &mut kept_rows[row..row + STRANDS],
         );
     }
 }

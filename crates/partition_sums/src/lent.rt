@@ -7,6 +7,7 @@ ghost use Rattle.partition_sums.specs.inner.Props.{in_use_prop};
 
 use super::terms::{HIGHEST, lifted};
 use super::weights::{WeightRow, Weights};
+use ensemble::bonds::row_of;
 use ensemble::options::Options;
 use partition::Term;
 
@@ -43,11 +44,9 @@ impl<'a, 'b> Lent<'a, 'b> {
         ensures weights { (x : ℕ) → x < self.now.weights.strands → weight_at result.digits.now result.powers.now x ≡ place_weight (weights_of self.now.weights) position x }
     {
         let weights = self.weights;
-        let start = position * weights.strands;
-        let end = start + weights.strands;
         WeightRow {
-            digits: &weights.place_digits[start..end],
-            powers: &weights.place_powers[start..end],
+            digits: row_of(weights.place_digits, weights.strands, position),
+            powers: row_of(weights.place_powers, weights.strands, position),
         }
     }
 
@@ -58,11 +57,10 @@ impl<'a, 'b> Lent<'a, 'b> {
         ensures weights { (x : ℕ) → x < self.now.weights.strands → weight_at result.digits.now result.powers.now x ≡ pair_weight (weights_of self.now.weights) left x }
     {
         let weights = self.weights;
-        let start = usize::from(left) * weights.strands;
-        let end = start + weights.strands;
+        let left = usize::from(left);
         WeightRow {
-            digits: &weights.pair_digits[start..end],
-            powers: &weights.pair_powers[start..end],
+            digits: row_of(weights.pair_digits, weights.strands, left),
+            powers: row_of(weights.pair_powers, weights.strands, left),
         }
     }
 

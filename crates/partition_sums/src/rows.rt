@@ -1,4 +1,4 @@
-// Rows of terms, by strand: for each option of a position its term with all that can follow it.
+// Rows of terms, by strand: for each option of a position its term with all that can follow it; 0 where no option stands.
 ghost use Rattle.std.specs.Prelude.{◌≡◌, ℕ, ◌+◌, ◌-◌, ◌^◌, ◌<◌, ◌≤◌, length, slice_index};
 ghost use Rattle.partition.specs.declared.Term as Declared;
 ghost use Rattle.partition.specs.Pass as Pass;
@@ -10,12 +10,7 @@ ghost use Rattle.partition_sums.specs.inner.Rows.{Joins, Row};
 use super::lent::{Formed, Lent};
 use super::terms::{term_plus, term_times};
 use partition::Term;
-
-// What stands in a row where no option does.
-const UNUSED: Term = Term {
-    digits: 0,
-    power: 0,
-};
+use reply::limits::STRANDS;
 
 // The sum over one option or more of the term of each, in their order.
 pub(crate) fn sum_terms<F: Fn(u8) -> Term>(options: &[u8], term: F) -> Term
@@ -35,7 +30,7 @@ pub(crate) fn sum_terms<F: Fn(u8) -> Term>(options: &[u8], term: F) -> Term
 
 // A pair's factor times the term of its right occupant.
 #[tactic(auto, unfolding(crate::specs::inner::Rows::joined))]
-fn joined(lent: &Lent<'_, '_>, row: &[Term; 64], left: u8, right: u8) -> Term
+fn joined(lent: &Lent<'_, '_>, row: &[Term; STRANDS], left: u8, right: u8) -> Term
     requires { Joins (weights_of lent.now.weights) row.now left right }
     ensures { result ≡ Rows.joined (weights_of lent.now.weights) row.now left right }
 {
@@ -43,12 +38,12 @@ fn joined(lent: &Lent<'_, '_>, row: &[Term; 64], left: u8, right: u8) -> Term
 }
 
 // The row of the last position, which nothing follows.
-pub(crate) fn last_row(formed: &Formed<'_, '_>) -> [Term; 64]
+pub(crate) fn last_row(formed: &Formed<'_, '_>) -> [Term; STRANDS]
     ensures { Row formed.now.lent (length formed.now.lent.options.counts.now - 1) result }
 {
     let lent = &formed.lent;
     let position = lent.options.counts.len() - 1;
-    let mut row = [UNUSED; 64];
+    let mut row = [Term::default(); STRANDS];
     for x in lent.options.of(position) {
         row[usize::from(*x)] = lent.place_factor(position, *x);
     }
@@ -59,15 +54,15 @@ pub(crate) fn last_row(formed: &Formed<'_, '_>) -> [Term; 64]
 pub(crate) fn row_before(
     formed: &Formed<'_, '_>,
     position: usize,
-    next_row: &[Term; 64],
-) -> [Term; 64]
+    next_row: &[Term; STRANDS],
+) -> [Term; STRANDS]
     requires next_in_bounds { position + 1 < length formed.now.lent.options.counts.now }
     requires next { Row formed.now.lent (position + 1) next_row.now }
     ensures { Row formed.now.lent position result }
 {
     let lent = &formed.lent;
     let next = lent.options.of(position + 1);
-    let mut row = [UNUSED; 64];
+    let mut row = [Term::default(); STRANDS];
     for x in lent.options.of(position) {
         let sum = sum_terms(next, |y| joined(lent, next_row, *x, y));
         let place = lent.place_factor(position, *x);

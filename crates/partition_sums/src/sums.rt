@@ -11,6 +11,7 @@ use super::rows::{last_row, row_before, sum_terms};
 use super::terms::lowered;
 use ensemble::options::{OPTIONS, Options};
 use fractions::Weight;
+use reply::limits::POSITIONS;
 
 // The sum over all states of options of which each position has one.
 pub fn free_sum(formed: &Formed<'_, '_>) -> Weight
@@ -34,14 +35,11 @@ pub fn constrained_sum(formed: &Formed<'_, '_>, constraint: &Constraint<'_>) -> 
     let options = &formed.lent.options;
     let positions = options.counts.len();
     let mut kept_rows = [0; OPTIONS];
-    let mut kept_counts = [0; 128];
+    let mut kept_counts = [0; POSITIONS];
     let counts = &mut kept_counts[..positions];
     keep_allowed(options, constraint, &mut kept_rows, counts);
     if counts.contains(&0) {
-        return Weight {
-            digits: 0,
-            power: 0,
-        };
+        return Weight::default();
     }
     let options = Options {
         rows: &kept_rows,

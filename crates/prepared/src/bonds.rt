@@ -7,8 +7,7 @@ ghost use Rattle.design.specs.Filling.{Kept, Holds};
 ghost use Rattle.prepared.specs.Layout.{StateCells};
 
 use design::Design;
-use design::needed::{fill_needed_scaffold_bonds, fill_read_strand_bonds};
-use ensemble::options::Options;
+use design::options::OptionedDesign;
 
 // The strand bonds of each strand with an empty place to its right. The search reads none of these, a state energy does.
 fn fill_empties(design: &Design, cells: &mut [f64])
@@ -25,20 +24,15 @@ fn fill_empties(design: &Design, cells: &mut [f64])
     }
 }
 
-// The bonds of an admitted design that its states and its search read.
-pub fn fill_bonds(
-    design: &Design,
-    options: &Options,
-    strand_bonds: &mut [f64],
-    scaffold_bonds: &mut [f64],
-)
-    requires same_strands { options.now.strands ≡ strands design.now }
-    requires strands_nonzero { 0 < strands design.now }
-    requires strands_in_bounds { strands design.now * strands design.now ≤ length strand_bonds.old }
-    requires counts_in_bounds { length options.now.counts.now * strands design.now ≤ length scaffold_bonds.old }
-    ensures { (marks : List ℕ) → Admitted (remarked design.now marks) → OptionRows (model_of (remarked design.now marks)) options.now.rows.now options.now.counts.now → StateCells (model_of (remarked design.now marks)) (strands design.now) strand_bonds.new scaffold_bonds.new design.now.potentials }
+// The bonds of an admitted design that its states and its search read. They are written into cells that callers go on to lend, so the clause is of cells and
+// of no `Bonds`.
+pub fn fill_bonds(optioned: &OptionedDesign, strand_bonds: &mut [f64], scaffold_bonds: &mut [f64])
+    requires strands_nonzero { 0 < strands optioned.now.design.now }
+    requires strands_in_bounds { strands optioned.now.design.now * strands optioned.now.design.now ≤ length strand_bonds.old }
+    requires counts_in_bounds { length optioned.now.options.counts.now * strands optioned.now.design.now ≤ length scaffold_bonds.old }
+    ensures { (marks : List ℕ) → Admitted (remarked optioned.now.design.now marks) → OptionRows (model_of (remarked optioned.now.design.now marks)) optioned.now.options.rows.now optioned.now.options.counts.now → StateCells (model_of (remarked optioned.now.design.now marks)) (strands optioned.now.design.now) strand_bonds.new scaffold_bonds.new optioned.now.design.now.potentials }
 {
-    fill_read_strand_bonds(design, options, strand_bonds);
-    fill_empties(design, strand_bonds);
-    fill_needed_scaffold_bonds(design, options, scaffold_bonds);
+    optioned.fill_read_strand_bonds(strand_bonds);
+    fill_empties(optioned.design, strand_bonds);
+    optioned.fill_needed_scaffold_bonds(scaffold_bonds);
 }

@@ -5,7 +5,7 @@ ghost use Rattle.std.specs.Float.{nan};
 ghost use Rattle.doubles.specs.Decimal.{zero};
 ghost use Rattle.model.specs.Model.{Model, State};
 ghost use Rattle.model.specs.Energy.{state_energy};
-ghost use Rattle.prepared.specs.Layout.{StateCells};
+ghost use Rattle.prepared.specs.Layout.{StateBonds};
 ghost use Rattle.prepared.specs.inner.Sums.{cell_of, joined_in, begun_in, ended_in};
 
 use ensemble::bonds::Bonds;
@@ -56,6 +56,7 @@ pub fn begin(left: Begun, strand: u8, position: usize, bonds: &Bonds) -> Begun
     if strand == 0 {
         return Begun { strand, sum };
     }
+    // One cell, so by its number and no row of `row_of`: a slice would be checked besides.
     let cell = position * bonds.strand_bonds.strands + usize::from(strand);
     Begun {
         strand,
@@ -80,7 +81,7 @@ pub fn state_energy(state: &[u8], bonds: &Bonds, rt: KcalPerMol) -> KcalPerMol
     requires strands_nonzero { 0 < bonds.now.strand_bonds.strands }
     requires state_len_bound { length state.now ≤ 128 }
     requires a_row_each { length state.now * bonds.now.strand_bonds.strands ≤ length bonds.now.scaffold_bonds.now }
-    ensures { (m : Model) → StateCells m bonds.now.strand_bonds.strands bonds.now.strand_bonds.cells.now bonds.now.scaffold_bonds.now bonds.now.potentials.now → State m state.now → rt.0 ≡ m.rt → result.0 ≡ state_energy m state.now }
+    ensures { (m : Model) → StateBonds m bonds.now → State m state.now → rt.0 ≡ m.rt → result.0 ≡ state_energy m state.now }
 {
     let mut begun = Begun::nobody();
     for (position, strand) in state.iter().enumerate() {

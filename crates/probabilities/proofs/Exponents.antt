@@ -1,11 +1,12 @@
 -- Exponents of a quotient: two modest ones and a shift stay within 32 bits, and the quotient's is the one that the division asks for. Assumes nothing.
 use mathlib.Core.Path.{◌≡◌, refl, ap, ap₂, ◌∙◌, subst}
+use mathlib.Core.Logic.{◌⊎◌, inl, inr}
 use mathlib.Core.Bool.{Bool, true, false, not, cond}
-use Prim.Native.Nat.{ℕ, zero, suc, ◌+◌, ◌-◌, ◌*◌, ◌/◌, ◌^◌, ◌≤◌, ◌<◌}
+use Prim.Native.Nat.{ℕ, zero, suc, ◌+◌, ◌-◌, ◌*◌, ◌/◌, ◌%◌, ◌^◌, ◌≤◌, ◌<◌}
 use native.Mathlib.Nat.{not-le_of_lt}
 use native.Mathlib.Omega.{arith}
 use lib.Dec.{T, leb, ltb, leb→le, nleb→lt}
-use lib.IntN.{ℤ, pos, negsuc, sub_ℕ, ◌+ℤ◌, ◌-ℤ◌, -ℤ-+ℤ_cancel}
+use lib.IntN.{ℤ, pos, negsuc, nat_abs, sub_ℕ, ◌+ℤ◌, ◌-ℤ◌, -ℤ-+ℤ_cancel}
 use lib.Signed.{mag}
 use mir.Syntax.{w32}
 use mir.Val.{to_z, of_z, SFits}
@@ -88,10 +89,23 @@ divided v w e s h fv fw =
     subst (λ (z : ℕ). (e +ℤ pos z) +ℤ w.power ≡ v.power → Divided v w (weight (v.digits * 2 ^ z / w.digits) e)) h (divided-by v w e fv fw)
 
 -- the quotient of a weight that is not zero
-pub quotiented : (v w : Weight) (s : ℕ) (S : s ≤ 31) (X : Modest v) (Y : Modest w) → (v.digits ≡ 0 → ⊥) → InForm w → shift_of v.digits w.digits ≡ s
+quotiented : (v w : Weight) (s : ℕ) (S : s ≤ 31) (X : Modest v) (Y : Modest w) → (v.digits ≡ 0 → ⊥) → InForm w → shift_of v.digits w.digits ≡ s
     → Quotiented v w (weight (v.digits * 2 ^ s / w.digits) (to_z w32 (of_z w32 (shifted v.power w.power X Y s S))))
 quotiented v w s S X Y n fw h =
     record {
       none = λ z. absurd (n (ap (λ (u : Weight). u.digits) z));
       some = λ fv. divided v w _ s h fv fw (back v.power w.power X Y s S);
     }
+
+-- digits of 31 bits, shifted left by as much, lose none in 64
+digits-shifted : (d s : ℕ) → d < 2 ^ 31 → (s ≡ 30) ⊎ (s ≡ 31) → d * 2 ^ s % 18446744073709551616 ≡ d * 2 ^ s
+digits-shifted d s h (inl e) = rw e (omega arith)
+digits-shifted d s h (inr e) = rw e (omega arith)
+
+-- the same of the numbers as the code has them: the shift is a signed number, and the digits are widened
+pub quotiented-by : (v w : Weight) (s : ℕ) (S : s ≤ 31) (X : Modest v) (Y : Modest w) → (v.digits ≡ 0 → ⊥) → InForm w → v.digits < 2 ^ 31
+    → shift_of v.digits w.digits ≡ s → (s ≡ 30) ⊎ (s ≡ 31) → (z : ℤ) → z ≡ pos s → (a b : ℕ) → a ≡ v.digits → b ≡ w.digits
+    → Quotiented v w (weight (a * 2 ^ nat_abs z % 18446744073709551616 / b)
+    (to_z w32 (of_z w32 (to_z w32 (of_z w32 (to_z w32 (of_z w32 v.power) -ℤ to_z w32 (of_z w32 w.power))) -ℤ z))))
+quotiented-by v w s S X Y n fw few h k z e a b A B =
+    rw (e, A, B, digits-shifted v.digits s few k) (quotiented v w s S X Y n fw h)

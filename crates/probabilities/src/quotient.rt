@@ -13,21 +13,12 @@ pub fn quotient(v: Weight, w: Weight) -> Weight
     ensures { Quotiented v w result }
 {
     if v.digits == 0 {
-        return Weight {
-            digits: 0,
-            power: 0,
-        };
+        return Weight::default();
     }
-    let a = v.digits as u64;
-    let b = w.digits as u64;
-    if b <= a {
-        return Weight {
-            digits: (a * 1073741824 / b) as u32,
-            power: v.power - w.power - 30,
-        };
-    }
+    let shift = if w.digits <= v.digits { 30 } else { 31 };
+    let shifted = u64::from(v.digits) << shift;
     Weight {
-        digits: (a * 2147483648 / b) as u32,
-        power: v.power - w.power - 31,
+        digits: (shifted / u64::from(w.digits)) as u32,
+        power: v.power - w.power - shift,
     }
 }

@@ -1,5 +1,5 @@
 -- What the words of a line say was answered.
-use Rattle.std.specs.Prelude.{◌≡◌, ℕ, ◌+◌, ◌≤◌, ◌⊎◌, List, [], ◌∷◌, ◌++◌, length, take, drop}
+use Rattle.std.specs.Prelude.{◌≡◌, ℕ, ◌⊎◌, List, [], ◌∷◌, ◌++◌}
 use Rattle.replay.specs.Text.{up_to, past, hex_text, Decimal}
 
 -- a blank
@@ -18,11 +18,6 @@ refused = 114 ∷ 101 ∷ 102 ∷ 117 ∷ 115 ∷ 101 ∷ 100 ∷ []
 unfoldable pub figures_text : List ℕ → List ℕ
 figures_text [] = []
 figures_text (bits ∷ figures) = (blank ∷ hex_text bits) ++ figures_text figures
-
--- a figure after a blank, at a place in the words
-pub record FigureAt (words : List ℕ) (place : ℕ) (bits : ℕ) : Type 0 where
-  pub within : place + 17 ≤ length words
-  pub text : take 17 (drop place words) ≡ blank ∷ hex_text bits
 
 -- `refused NUMBER`
 pub record SaysRefused (words : List ℕ) (number : ℕ) : Type 0 where

@@ -4,18 +4,20 @@ use Rattle.std.specs.Float.{binary64}
 use Rattle.replay.specs.Text.{hex_text, Decimal}
 use Rattle.replay.specs.Kinds.{word, later}
 
+-- the entry that a word names is set to a value
+pub record EntrySet {A : Type 0} (name : List ℕ) (value : A) (before after : List A) : Type 0 where
+  pub index : ℕ
+  pub first : Decimal name index
+  pub entries : after ≡ slice_set before index value
+
 -- INDEX BYTE
 pub record ByteSet (words : List ℕ) (before after : List ℕ) : Type 0 where
-  pub index : ℕ
   pub value : ℕ
-  pub first : Decimal (word words) index
   pub second : Decimal (later words) value
-  pub entries : after ≡ slice_set before index value
+  pub set : EntrySet (word words) value before after
 
 -- INDEX DOUBLE
 pub record DoubleSet (words : List ℕ) (before after : List Float) : Type 0 where
-  pub index : ℕ
   pub bits : ℕ
-  pub first : Decimal (word words) index
   pub second : later words ≡ hex_text bits
-  pub entries : after ≡ slice_set before index (from_bits binary64 bits)
+  pub set : EntrySet (word words) (from_bits binary64 bits) before after

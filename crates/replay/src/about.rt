@@ -6,6 +6,7 @@ use crate::parts::split_at_first;
 use crate::setting::{set_byte, set_double};
 use doubles::double;
 use reply::limits::{CELLS, POSITIONS, SIDES, STRANDS};
+use units::Ambient;
 
 // The Rust knows no blocked positions: all are open.
 const OPEN: [u8; POSITIONS] = [0; POSITIONS];
@@ -20,9 +21,7 @@ pub(crate) struct Design {
     potentials: [f64; STRANDS],
     positions: usize,
     strands: usize,
-    rt: f64,
-    strand_excess: f64,
-    scaffold_excess: f64,
+    ambient: Ambient,
     ghost few_positions: { positions ≤ 128 },
     ghost few_strands: { strands ≤ 64 },
 }
@@ -49,6 +48,11 @@ impl Design {
         let (strands, rest) = split_at_first(rest, b' ');
         let (rt, rest) = split_at_first(rest, b' ');
         let (strand_excess, scaffold_excess) = split_at_first(rest, b' ');
+        let ambient = exports::designs::ambient(
+            double_of(rt),
+            double_of(strand_excess),
+            double_of(scaffold_excess),
+        );
         Design {
             scaffold: [0; POSITIONS],
             glues: [0; SIDES * STRANDS],
@@ -57,9 +61,7 @@ impl Design {
             potentials: [0.0; STRANDS],
             positions: size(positions, POSITIONS),
             strands: size(strands, STRANDS),
-            rt: double_of(rt),
-            strand_excess: double_of(strand_excess),
-            scaffold_excess: double_of(scaffold_excess),
+            ambient,
         }
     }
 
@@ -87,9 +89,14 @@ impl Design {
         let marks = &OPEN[..self.positions];
         let glues = &self.glues[..SIDES * self.strands];
         let potentials = &self.potentials[..self.strands];
-        let ambient = exports::designs::ambient(self.rt, self.strand_excess, self.scaffold_excess);
         design::Design::new(
-            scaffold, marks, glues, &self.dg, &self.ds, potentials, ambient,
+            scaffold,
+            marks,
+            glues,
+            &self.dg,
+            &self.ds,
+            potentials,
+            self.ambient,
         )
     }
 }

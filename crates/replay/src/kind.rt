@@ -42,7 +42,8 @@ pub(crate) const KINDS: [(&[u8], Kind); 16] = [
 ];
 
 impl Kind {
-    // The kind of a line with this first word.
+    // The kind of a line with this first word. `statements` looks up its keywords alike, in a table of its own that it does not lend: one search over
+    // either would be handed the table, and is no shorter than this `find`.
     pub(crate) fn of(word: &[u8]) -> Option<Kind> {
         KINDS
             .iter()

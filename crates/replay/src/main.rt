@@ -48,8 +48,11 @@ struct Tally {
     no_kind: Count,
 }
 
-// A block of a line and what follows it has 4,096 bytes, so that a longer line could be cut short.
-const LONGEST_LINE: usize = 4095;
+// The bytes of a block: a line and what follows it.
+const BLOCK: usize = 4096;
+
+// A longer line could be cut short.
+const LONGEST_LINE: usize = BLOCK - 1;
 
 // The configuration of a line, read into the lent places.
 fn configuration_of<'a>(words: &[u8], room: &'a mut [u8; POSITIONS]) -> &'a [u8] {
@@ -145,7 +148,7 @@ fn next_line<'a, W: Write, F: FileExt>(
     out: &mut W,
     file: &F,
     at: usize,
-    block: &'a mut [u8; 4096],
+    block: &'a mut [u8; BLOCK],
 ) -> io::Result<Option<&'a [u8]>> {
     let Ok(n) = file.read_at(block, at as u64) else {
         out.write_all(b"the list can not be read\n")?;
@@ -171,7 +174,7 @@ fn replay<W: Write, F: FileExt>(out: &mut W, file: &F) -> io::Result<Tally> {
     let mut design = Design::begun(b"");
     let mut at: usize = 0;
     for number in 1..u64::MAX {
-        let mut block = [0u8; 4096];
+        let mut block = [0u8; BLOCK];
         let Some(line) = next_line(out, file, at, &mut block)? else {
             break;
         };

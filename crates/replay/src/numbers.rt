@@ -6,7 +6,7 @@ ghost use Rattle.replay.specs.Text.{hex_text, Decimal};
 use decimals::{write_count, write_hex};
 
 // Whether a word is 16 hex digits, and those of x. It is a `match`, here and below, since a proof does not learn what the closure of
-// `is_ok_and` answered.
+// `is_ok_and` answered; and two functions, since one for both would be handed what was written and its size, and be no shorter.
 pub(crate) fn is_hex(word: &[u8], x: u64) -> bool
     ensures { result ≡ true → word.now ≡ hex_text x }
 {

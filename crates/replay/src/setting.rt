@@ -1,19 +1,17 @@
-// The lines that set a design, one number at a time. A length is compared, since a proof does not learn what is written through
-// `get_mut(..)?`.
+// The lines that set a design, one number at a time.
 ghost use Rattle.std.specs.Prelude.{OnSome};
-ghost use Rattle.replay.specs.Setting.{ByteSet, DoubleSet};
+ghost use Rattle.replay.specs.Setting.{EntrySet, ByteSet, DoubleSet};
 
 use crate::numbers::{decimal, hex, small};
 use crate::parts::split_at_first;
 use doubles::double;
 
-// `INDEX BYTE`: `Some` where the line sets an entry.
-pub(crate) fn set_byte(words: &[u8], slice: &mut [u8]) -> Option<()>
-    ensures { OnSome result (ByteSet words.now slice.old slice.new) }
+// Sets the entry that a word names: `Some` where there is one. A length is compared, since a proof does not learn what is written through
+// `get_mut(..)?`.
+fn set<T: Copy>(word: &[u8], value: T, slice: &mut [T]) -> Option<()>
+    ensures { OnSome result (EntrySet word.now value slice.old slice.new) }
 {
-    let (first, second) = split_at_first(words, b' ');
-    let index = decimal(first)?;
-    let value = small(second)?;
+    let index = decimal(word)?;
     let at = index as usize;
     if slice.len() <= at {
         return None;
@@ -22,17 +20,20 @@ pub(crate) fn set_byte(words: &[u8], slice: &mut [u8]) -> Option<()>
     Some(())
 }
 
+// `INDEX BYTE`: `Some` where the line sets an entry.
+pub(crate) fn set_byte(words: &[u8], slice: &mut [u8]) -> Option<()>
+    ensures { OnSome result (ByteSet words.now slice.old slice.new) }
+{
+    let (first, second) = split_at_first(words, b' ');
+    let value = small(second)?;
+    set(first, value, slice)
+}
+
 // `INDEX DOUBLE`.
 pub(crate) fn set_double(words: &[u8], slice: &mut [f64]) -> Option<()>
     ensures { OnSome result (DoubleSet words.now slice.old slice.new) }
 {
     let (first, second) = split_at_first(words, b' ');
-    let index = decimal(first)?;
     let bits = hex(second)?;
-    let at = index as usize;
-    if slice.len() <= at {
-        return None;
-    }
-    slice[at] = double(bits);
-    Some(())
+    set(first, double(bits), slice)
 }

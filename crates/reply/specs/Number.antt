@@ -41,3 +41,8 @@ Reply = Result Unit Refused
 abbrev pub reply_number : Reply → ℕ
 reply_number (Ok u) = answered
 reply_number (Err e) = number_of e.refusal
+
+-- the number of what a call says whose refusals have no place, whatever it gives
+abbrev pub answer_number : {A : Type 0} → Result A Refusal → ℕ
+answer_number (Ok x) = answered
+answer_number (Err refusal) = number_of refusal

@@ -4,7 +4,7 @@
 pub mod limits;
 
 ghost use Rattle.std.specs.Prelude.{◌≡◌, [], ◌∷◌};
-ghost use Rattle.reply.specs.Number.{number_of};
+ghost use Rattle.reply.specs.Number.{number_of, answer_number};
 ghost use Rattle.reply.specs.First.{nowhere, bare, first_of, ◌if◌, ◌if◌at◌};
 
 // The number of a call that is answered.
@@ -107,6 +107,16 @@ impl Refusal {
             Refusal::NotAJob => 22,
             Refusal::NoneUnder => 23,
         }
+    }
+}
+
+// The number of a call whose refusals have no place, whatever it gives.
+pub fn number<T: Copy>(answer: Result<T, Refusal>) -> u32
+    ensures { result ≡ answer_number answer }
+{
+    match answer {
+        Ok(_) => ANSWERED,
+        Err(refusal) => refusal.number(),
     }
 }
 

@@ -1,35 +1,24 @@
 -- The reply of a call on rings: how it is put together, what an admitted one says, and that it is the documents', the lowest number whose condition
 -- holds, at its place. Assumes nothing.
-use mathlib.Core.Path.{◌≡◌, refl, ap₂, ◌∙◌}
-use mathlib.Core.Bool.{Bool, not}
+use mathlib.Core.Path.{◌≡◌, refl}
+use mathlib.Core.Bool.{not}
 use mathlib.Core.List.{List, []}
 use Prim.Native.Nat.{ℕ, ◌≤◌}
 use native.Mathlib.Omega.{arith}
 use lib.Dec.{eqb}
 use lib.ListN.{length}
 use borrow.Author.Tests.{eqb-true, ltb-false, le-ltb, not-false}
-use Rattle.reply.specs.First.{Check, first_of, ◌or_else◌, LowestGiven}
-use Rattle.reply.proofs.First.{none-holds, joined}
+use Rattle.reply.specs.First.{Check, first_of, LowestGiven}
+use Rattle.reply.proofs.First.{none-holds}
 use Rattle.reply.proofs.Lowest.{lowest-given}
 use Rattle.design.specs.Design.{Design, positions}
-use Rattle.design.specs.Checks.{Admitted, design_checks, own_energy_checks, energy_checks}
+use Rattle.design.specs.Checks.{Admitted, design_checks, own_energy_checks}
 use Rattle.design.specs.Places.{PlacesRight}
 use Rattle.design.proofs.Sizes.{sized}
 use Rattle.design.proofs.Replies.{passed}
 use Rattle.design.proofs.Places.{Placeless, places-right}
 use Rattle.std.specs.Prelude.{Ok}
-use Rattle.reply.specs.Number.{Reply}
 use Rattle.ring.specs.Answers.{least_ring, own_ring_checks, ring_energy_checks, ring_search_checks}
-
--- ---- put together
-
--- what a configuration of a chain is refused for, and then 20
-pub energy-joined : (d : Design) (s : List ℕ) {r chain short : Reply} → r ≡ chain or_else short → chain ≡ first_of (energy_checks d s) → short ≡ first_of (own_ring_checks d) → r ≡ first_of (ring_energy_checks d s)
-energy-joined d s e f g = e ∙ ap₂ ◌or_else◌ f g ∙ joined (energy_checks d s) (own_ring_checks d)
-
--- what a design is refused for, and then 20
-pub search-joined : (d : Design) (size : Bool) {r chain short : Reply} → r ≡ chain or_else short → chain ≡ first_of (design_checks size d [] []) → short ≡ first_of (own_ring_checks d) → r ≡ first_of (design_checks size d [] (own_ring_checks d))
-search-joined d size e f g = e ∙ ap₂ ◌or_else◌ f g ∙ joined (design_checks size d [] []) (own_ring_checks d)
 
 -- ---- admitted
 

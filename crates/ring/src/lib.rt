@@ -7,12 +7,10 @@ ghost use Rattle.design.specs.Answers.{energy_figures};
 ghost use Rattle.ring.specs.Answers.{ring_energy_answer, ring_search_answer, ring_search_entries, LowestRingShown};
 
 use design::Design;
-use design::checks::design_reply;
-use design::passed::AdmittedDesign;
-use design::terms::fill_terms;
-use ensemble::energies::{Places, Terms};
+use design::passed::admitted;
+use design::terms::terms_of;
+use ensemble::energies::Places;
 use mfe::searched;
-use reply::limits::POSITIONS;
 use reply::{Refusal, Refused, refused_if};
 use sdc1d::energy_reply;
 use units::KcalPerMol;
@@ -26,8 +24,7 @@ pub fn ring_energy(design: &Design, configuration: &[u8]) -> Result<KcalPerMol, 
 {
     energy_reply(design, configuration)?;
     refused_if(Refusal::NotARing, design.positions() < LEAST_RING)?;
-    let mut terms = [Terms::default(); POSITIONS];
-    fill_terms(design, configuration, &mut terms);
+    let terms = terms_of(design, configuration);
     let places = Places {
         configuration,
         terms: &terms,
@@ -45,8 +42,8 @@ pub fn ring_configuration(design: &Design, configuration: &mut [u8]) -> Result<K
     ensures configuration_after { configuration.new ≡ ring_search_entries design.now configuration.old }
     ensures lowest_ring_shown { LowestRingShown design.now configuration.old configuration.new result }
 {
-    design_reply(configuration.len() != design.positions(), design)?;
+    let admitted = admitted(configuration.len() != design.positions(), design)?;
     refused_if(Refusal::NotARing, design.positions() < LEAST_RING)?;
     design.hold_doubles();
-    Ok(searched::<true>(&AdmittedDesign { design }, configuration))
+    Ok(searched::<true>(&admitted, configuration))
 }

@@ -13,11 +13,11 @@ ghost use Rattle.design.specs.Answers.{bond_figures, count_figures, energy_figur
 
 use design::Design;
 use design::answers::ChainEnergy;
-use design::checks::{design_reply, numbers_reply, tables_reply};
+use design::checks::numbers_reply;
 use design::options::write_friends;
-use design::passed::TabledDesign;
-use design::terms::fill_terms;
-use ensemble::energies::{Places, Terms};
+use design::passed::{admitted, tabled};
+use design::terms::terms_of;
+use ensemble::energies::Places;
 use ensemble::options::OPTIONS;
 use ensemble::states::{MOST_STATES, write_state};
 use prepared::options::{Counted, count_options};
@@ -31,8 +31,8 @@ pub fn bond_between_strands(design: &Design, x: u8, y: u8) -> Result<f64, Refuse
     ensures { bond_figures result ≡ strand_bond_answer design.now x y }
 {
     let strands = design.strands();
-    let lacking = strands <= x as usize || strands <= y as usize;
-    design_reply(lacking, design)?;
+    let lacking = strands <= usize::from(x) || strands <= usize::from(y);
+    admitted(lacking, design)?;
     Ok(design.strand_bond(x, y))
 }
 
@@ -40,8 +40,8 @@ pub fn bond_between_strands(design: &Design, x: u8, y: u8) -> Result<f64, Refuse
 pub fn bond_with_scaffold(design: &Design, position: usize, strand: u8) -> Result<f64, Refused>
     ensures { bond_figures result ≡ scaffold_bond_answer design.now position strand }
 {
-    let lacking = design.positions() <= position || design.strands() <= strand as usize;
-    design_reply(lacking, design)?;
+    let lacking = design.positions() <= position || design.strands() <= usize::from(strand);
+    admitted(lacking, design)?;
     Ok(design.scaffold_bond(design.scaffold_glue(position), strand))
 }
 
@@ -51,7 +51,7 @@ pub fn friends_btm(design: &Design, position: usize, entries: &mut [u8]) -> Resu
     ensures entries_after { entries.new ≡ friends_entries design.now position entries.old }
 {
     let unfit = design.positions() <= position || entries.len() != STRANDS;
-    design_reply(unfit, design)?;
+    admitted(unfit, design)?;
     if design.is_blocked(position) {
         return Ok(0);
     }
@@ -62,13 +62,13 @@ pub fn friends_btm(design: &Design, position: usize, entries: &mut [u8]) -> Resu
 pub fn number_of_states(design: &Design) -> Result<u64, Refused>
     ensures { count_figures result ≡ count_answer design.now }
 {
-    tables_reply(false, design)?;
+    let tabled = tabled(false, design)?;
     let mut rows = [0u8; OPTIONS];
     let mut counts = [0u8; POSITIONS];
     let counts = &mut counts[..design.positions()];
-    let Counted { states, .. } = count_options(&TabledDesign { design }, &mut rows, counts);
+    let Counted { states, .. } = count_options(&tabled, &mut rows, counts);
     refused_if(Refusal::TooManyStates, MOST_STATES < states)?;
-    numbers_reply(design)?;
+    tabled.admitted()?;
     Ok(states)
 }
 
@@ -77,14 +77,14 @@ pub fn state_at_rank(design: &Design, rank: u64, entries: &mut [u8]) -> Result<(
     ensures result_value { reply_figures result ≡ rank_answer design.now rank entries.old }
     ensures entries_after { entries.new ≡ rank_entries design.now rank entries.old }
 {
-    tables_reply(entries.len() != design.positions(), design)?;
+    let tabled = tabled(entries.len() != design.positions(), design)?;
     let mut rows = [0u8; OPTIONS];
     let mut counts = [0u8; POSITIONS];
     let counts = &mut counts[..design.positions()];
-    let Counted { options, states } = count_options(&TabledDesign { design }, &mut rows, counts);
+    let Counted { options, states } = count_options(&tabled, &mut rows, counts);
     refused_if(Refusal::TooManyStates, MOST_STATES < states)?;
     refused_if(Refusal::RankTooHigh, states <= rank)?;
-    numbers_reply(design)?;
+    tabled.admitted()?;
     write_state(options.rows, options.counts, states, rank, entries);
     Ok(())
 }
@@ -94,7 +94,7 @@ pub fn energy_reply(design: &Design, configuration: &[u8]) -> Result<(), Refused
     ensures value { result ≡ first_of (energy_checks design.now configuration.now) }
     ensures few { OnOk result (length configuration.now ≤ 128) }
 {
-    tables_reply(configuration.len() != design.positions(), design)?;
+    tabled(configuration.len() != design.positions(), design)?;
     refused_if(Refusal::NotAFriend, has_stranger(design, configuration))?;
     numbers_reply(design)
 }
@@ -104,8 +104,7 @@ pub fn g_system(design: &Design, attachments: &[u8]) -> Result<KcalPerMol, Refus
     ensures { energy_figures result ≡ state_energy_answer design.now attachments.now }
 {
     energy_reply(design, attachments)?;
-    let mut terms = [Terms::default(); POSITIONS];
-    fill_terms(design, attachments, &mut terms);
+    let terms = terms_of(design, attachments);
     let places = Places {
         configuration: attachments,
         terms: &terms,
@@ -119,8 +118,7 @@ pub fn chain_energy(design: &Design, configuration: &[u8]) -> Result<ChainEnergy
     ensures { chain_figures result ≡ chain_energy_answer design.now configuration.now }
 {
     energy_reply(design, configuration)?;
-    let mut terms = [Terms::default(); POSITIONS];
-    fill_terms(design, configuration, &mut terms);
+    let terms = terms_of(design, configuration);
     let places = Places {
         configuration,
         terms: &terms,

@@ -10,16 +10,10 @@ use design::reads::byte_at;
 fn is_stranger(design: &Design, position: usize, occupant: u8) -> bool
     ensures { result ≡ no_friend (blocked design.now position) (scaffold_glue design.now position) design.now.glues design.now.dg design.now.ds (strands design.now) occupant }
 {
-    if occupant == 0 {
-        return false;
-    }
-    if design.strands() <= occupant as usize {
-        return true;
-    }
-    if design.is_blocked(position) {
-        return true;
-    }
-    !design.is_friend(design.scaffold_glue(position), occupant)
+    occupant != 0
+        && (design.strands() <= usize::from(occupant)
+            || design.is_blocked(position)
+            || !design.is_friend(design.scaffold_glue(position), occupant))
 }
 
 // Whether some position's occupant is.

@@ -14,6 +14,7 @@ use Rattle.lists.proofs.Build.{length-tabulate, get_or-tabulate}
 use Rattle.lists.proofs.Counted.{map-tabulate, tabulate-same, any-fails}
 use Rattle.sdc_common.specs.Names.{Name, base_of, stars_of, same_name}
 use Rattle.sdc_common.specs.Lent.{Glue, part_of, names_of, glue_of, glues_of}
+use Rattle.sdc_common.specs.declared.names.LentName.{LentName}
 use Rattle.sdc_common.specs.Numbers.{is_known, number_at, base_number, name_number, glue_number, bases_of, numbers_among}
 use Rattle.sdc_common.specs.Spelled.{is_unknown, spelled_number}
 use Rattle.sdc_common.specs.Calls.{too_many_bases}
@@ -109,9 +110,15 @@ module _ (bases : List Name) (first : Name) (n : ℕ) (e : n ≡ name_number bas
   pair-found second m f = ap₂ cell e f
 
 -- the number of an entry's first name, which is always there
-pub first-number : (bases : List Name) (text : List ℕ) (e : Entry) → glue_number bases (glue_of text (first_of e)) ≡ name_number bases (part_of text e.first_start e.first_size)
+first-number : (bases : List Name) (text : List ℕ) (e : Entry) → glue_number bases (glue_of text (first_of e)) ≡ name_number bases (part_of text e.first.start e.first.size)
 unfolding glue_of glue_number
 first-number bases text e = refl
+
+-- as the code works it out
+pub first-numbered :
+    (bases : List Name) (text : List ℕ) (e : Entry) {name : LentName} {spelled : Glue} {n : ℕ}
+    → name ≡ first_of e → spelled ≡ glue_of text name → n ≡ glue_number bases spelled → n ≡ name_number bases (part_of text e.first.start e.first.size)
+first-numbered bases text e m s n = n ∙ ap (glue_number bases) (s ∙ ap (glue_of text) m) ∙ first-number bases text e
 
 -- no cell is beyond two for each base
 pub cell-inside : (bases : List Name) (first : Name) (second : Glue) → length bases ≤ 31 → ((cell_of bases first second).row < 64) × ((cell_of bases first second).column < 64)

@@ -36,21 +36,16 @@ any-map p g (x ∷ xs) = ap (λ (b : Bool). p (g x) || b) (any-map p g xs)
 
 -- ---- all conditions
 
-entries-out : (x e q r l : Bool) → e ≡ false → (x || e || q || r || l) ≡ (x || q || r || l)
+entries-out : (x e q r l : Bool) → e ≡ false → (x || e || q || r || l) ≡ (x || (q || r || l))
 entries-out true e q r l h = refl
 entries-out false e q r l h = rw h
 
 module _ (p : Params) (lent : Outcome) (few : length lent.scaffold_glues ≤ 128) (fit : unfit_entries p.text p.entries ≡ false) where
   -- as they are looked at, where the positions are not too many and the entries fit
-  abbrev pub looked : Bool
-  looked =
-      unfit_strands p.users p.text p.strands
-      || unfit_names (length lent.scaffold_glues) p.text p.scaffold
-      || unfit_copied p.users p.quencher
-      || unfit_copied p.users p.reporter
-      || unfit_lent p lent
-
-  pub size-looked : wrong_size p lent ≡ looked
+  pub size-looked :
+      wrong_size p lent
+      ≡ (unfit_strands p.users p.text p.strands || unfit_names (length lent.scaffold_glues) p.text p.scaffold
+      || (unfit_copied p.users p.quencher || unfit_copied p.users p.reporter || unfit_lent p lent))
   unfolding wrong_size
   size-looked = rw (le-ltb 128 (length lent.scaffold_glues) few)
       (entries-out (unfit_strands p.users p.text p.strands || unfit_names (length lent.scaffold_glues) p.text p.scaffold) (unfit_entries p.text p.entries) (unfit_copied p.users p.quencher) (unfit_copied p.users p.reporter) (unfit_lent p lent) fit)
@@ -91,22 +86,22 @@ copied-fits users k e =
 -- an entry's two names and its energy
 module _ (text : List ℕ) (e : Entry) where
   -- the first name is always there
-  pub first-unfit : unfit_glue text (first_of e) ≡ unfit_name text e.first_start e.first_size
+  pub first-unfit : unfit_glue text (first_of e) ≡ unfit_name text e.first.start e.first.size
   unfolding unfit_glue
   first-unfit = refl
 
   module _ (fit : unfit_entry text e ≡ false) where
-    parts : ((unfit_name text e.first_start e.first_size || unfit_glue text e.second) ≡ false) × (unfit_energy text (energy_of e) ≡ false)
+    parts : ((unfit_name text e.first.start e.first.size || unfit_glue text e.second) ≡ false) × (unfit_energy text (energy_of e) ≡ false)
     unfolding unfit_entry
     parts =
         let w = neither _ (unfit_energy text (energy_of e)) fit in
-        ((neither (unfit_name text e.first_start e.first_size || unfit_glue text e.second) (bad_form e.form) w.0).0, w.1)
+        ((neither (unfit_name text e.first.start e.first.size || unfit_glue text e.second) (bad_form e.form) w.0).0, w.1)
 
     pub first-fit : Fit text (first_of e)
-    first-fit = first-unfit ∙ (neither (unfit_name text e.first_start e.first_size) (unfit_glue text e.second) parts.0).0
+    first-fit = first-unfit ∙ (neither (unfit_name text e.first.start e.first.size) (unfit_glue text e.second) parts.0).0
 
     pub second-fit : Fit text e.second
-    second-fit = (neither (unfit_name text e.first_start e.first_size) (unfit_glue text e.second) parts.0).1
+    second-fit = (neither (unfit_name text e.first.start e.first.size) (unfit_glue text e.second) parts.0).1
 
     pub energy-fit : unfit_energy text (energy_of e) ≡ false
     energy-fit = parts.1

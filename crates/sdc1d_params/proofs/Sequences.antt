@@ -15,32 +15,45 @@ use Rattle.reply.proofs.Answer.{is-admitted, is-refused}
 use Rattle.reply.specs.declared.Refusal.{Refusal}
 use Rattle.reply.specs.declared.Refused.{Refused}
 use Rattle.reply.specs.declared.Refusal.TheVariants.{NotABase, TooShort}
+use Rattle.doubles.specs.Decimal.{zero}
 use Rattle.utils.specs.Answers.{DgDsFigures, given_dg_ds, refused_dg_ds, dg_ds_figures}
 use Rattle.utils.specs.Bases.{not_a_base}
 use Rattle.utils.specs.Single.{too_long, too_short, sequence_checks, string_dna_dg_ds}
 use Rattle.sdc_common.specs.Lent.{part_of, leaves}
 use Rattle.sdc_common.proofs.Held.{part_length}
-use Rattle.sdc1d_params.specs.Entries.{unfit_energy}
+use Rattle.sdc1d_params.specs.Entries.{energy_of, unfit_energy, unfit_entry}
+use Rattle.sdc_common.specs.declared.names.Part.{Part}
+use Rattle.sdc1d_params.specs.declared.Entry.{Entry}
+use Rattle.sdc1d_params.specs.declared.entries.GsOrSeq.{GsOrSeq}
 use Rattle.sdc1d_params.specs.declared.entries.GsOrSeq.TheVariants.{Sequence}
+use Rattle.sdc1d_params.proofs.Lengths.{energy-fit}
 use Rattle.std.specs.Prelude.{None, Some, Result, Ok, Err}
 use Rattle.std.specs.Option.{option_eq}
-use Rattle.std.specs.Result.{result_err, result_unwrap_or}
+use Rattle.std.specs.Result.{result_err, ResultUnwrapsOrElse}
 use Rattle.utils.specs.declared.DgDs.{DgDs}
 use lib.Ieee.{Float}
 
-module _ (text : List ℕ) (start size : ℕ) (fit : unfit_energy text (Sequence start size) ≡ false) where
-  halves : (leaves text start size ≡ false) × (too_long (part_of text start size) ≡ false)
-  halves = neither (leaves text start size) (too_long (part_of text start size)) fit
+module _ (text : List ℕ) (part : Part) (fit : unfit_energy text (Sequence part) ≡ false) where
+  halves : (leaves text part.start part.size ≡ false) × (too_long (part_of text part.start part.size) ≡ false)
+  halves = neither (leaves text part.start part.size) (too_long (part_of text part.start part.size)) fit
 
-  -- it ends within the text
-  pub sequence-fits : start + size ≤ length text
-  sequence-fits = ltb-false (length text) (start + size) halves.0
+  -- it lies in the text
+  in-text : leaves text part.start part.size ≡ false
+  in-text = halves.0
 
-  pub short-as-lent : ltb size 2 ≡ too_short (part_of text start size)
-  short-as-lent = rw (part_length text start size sequence-fits)
+  pub short-as-lent : ltb part.size 2 ≡ too_short (part_of text part.start part.size)
+  short-as-lent = rw (part_length text part.start part.size (ltb-false (length text) (part.start + part.size) in-text))
 
-  pub not-long : too_long (part_of text start size) ≡ false
+  pub not-long : too_long (part_of text part.start part.size) ≡ false
   not-long = halves.1
+
+-- the sequence of an entry that is fit
+pub sequence-fit : (text : List ℕ) (e : Entry) → unfit_entry text e ≡ false → (part : Part) → energy_of e ≡ Sequence part → unfit_energy text (Sequence part) ≡ false
+sequence-fit text e fit part is = sym (ap (unfit_energy text) is) ∙ energy-fit text e fit
+
+-- and it lies in the text, as the code reads it off
+pub sequence-in : (text : List ℕ) (e : Entry) → unfit_entry text e ≡ false → {read : GsOrSeq} → read ≡ energy_of e → (part : Part) → read ≡ Sequence part → leaves text part.start part.size ≡ false
+sequence-in text e fit r part is = in-text text part (sequence-fit text e fit part (sym r ∙ is))
 
 -- what a part of the text is where it leaves it not
 pub long-as-lent : (text : List ℕ) (start size : ℕ) → leaves text start size ≡ false → ltb 256 size ≡ (leaves text start size || too_long (part_of text start size))
@@ -79,13 +92,11 @@ module _ (s : List ℕ) (fine : too_long s ≡ false) where
   bad-told E (Ok sums) t e bad short h = e ∙ sym (given-good sums.dg.0 sums.ds.0 h)
   bad-told E (Err why) t e bad short h = e ∙ refused-bad (λ r. E r NotABase) bad short why h
 
--- the figures of an answer, or what stands in the place of those of a refusal
+-- the figures of an answer, or zeros in the place of those of a refusal
 pub taken :
-    (s : List ℕ) (r : Result DgDs Refusal) (x d : DgDs)
-    → x ≡ result_unwrap_or r d
-    → ((n : ℕ) → ((refused_dg_ds n).dg ≡ d.dg.0) × ((refused_dg_ds n).ds ≡ d.ds.0))
+    (s : List ℕ) (r : Result DgDs Refusal) (x : DgDs)
+    → ResultUnwrapsOrElse r (λ d. (d.dg.0 ≡ zero) × (d.ds.0 ≡ zero)) x
     → dg_ds_figures r ≡ string_dna_dg_ds s
     → (x.dg.0 ≡ (string_dna_dg_ds s).dg) × (x.ds.0 ≡ (string_dna_dg_ds s).ds)
-taken s (Ok sums) x d e z h = (ap (λ (y : DgDs). y.dg.0) e ∙ ap (λ (f : DgDsFigures). f.dg) h, ap (λ (y : DgDs). y.ds.0) e ∙ ap (λ (f : DgDsFigures). f.ds) h)
-taken s (Err why) x d e z h =
-    (ap (λ (y : DgDs). y.dg.0) e ∙ sym (z (number_of why)).0 ∙ ap (λ (f : DgDsFigures). f.dg) h, ap (λ (y : DgDs). y.ds.0) e ∙ sym (z (number_of why)).1 ∙ ap (λ (f : DgDsFigures). f.ds) h)
+taken s (Ok sums) x e h = (ap (λ (y : DgDs). y.dg.0) e ∙ ap (λ (f : DgDsFigures). f.dg) h, ap (λ (y : DgDs). y.ds.0) e ∙ ap (λ (f : DgDsFigures). f.ds) h)
+taken s (Err why) x e h = (e.0 ∙ ap (λ (f : DgDsFigures). f.dg) h, e.1 ∙ ap (λ (f : DgDsFigures). f.ds) h)

@@ -18,7 +18,7 @@ use Rattle.sdc1d_params.specs.declared.entries.GsOrSeq.TheVariants.{Given, Seque
 
 -- the entry's two doubles, or its sequence, as a part of the text
 unfoldable pub energy_of : Entry → GsOrSeq
-energy_of e = cond (eqb e.form 0) (Given e.dg e.ds) (Sequence e.start e.size)
+energy_of e = cond (eqb e.form 0) (Given e.dg e.ds) (Sequence e.sequence)
 
 -- a form that is neither value
 abbrev pub bad_form : ℕ → Bool
@@ -27,31 +27,31 @@ bad_form form = not (eqb form 0) && not (eqb form 1)
 -- a sequence that is too long or leaves the text; two doubles are never checked by themselves
 abbrev pub unfit_energy : List ℕ → GsOrSeq → Bool
 unfit_energy text (Given dg ds) = false
-unfit_energy text (Sequence start size) = leaves text start size || too_long (part_of text start size)
+unfit_energy text (Sequence part) = leaves text part.start part.size || too_long (part_of text part.start part.size)
 
 -- a name, the form or the sequence of an entry is unfit. The first name is always there.
 unfoldable pub unfit_entry : List ℕ → Entry → Bool
-unfit_entry text e = unfit_name text e.first_start e.first_size || unfit_glue text e.second || bad_form e.form || unfit_energy text (energy_of e)
+unfit_entry text e = unfit_name text e.first.start e.first.size || unfit_glue text e.second || bad_form e.form || unfit_energy text (energy_of e)
 
 -- a sequence with a byte that is no base: refusal 2
 abbrev pub has_bad_base : List ℕ → GsOrSeq → Bool
 has_bad_base text (Given dg ds) = false
-has_bad_base text (Sequence start size) = any not_a_base (part_of text start size)
+has_bad_base text (Sequence part) = any not_a_base (part_of text part.start part.size)
 
 -- a sequence of fewer than 2 bases: refusal 3
 abbrev pub is_short : List ℕ → GsOrSeq → Bool
 is_short text (Given dg ds) = false
-is_short text (Sequence start size) = too_short (part_of text start size)
+is_short text (Sequence part) = too_short (part_of text part.start part.size)
 
 -- dG of an entry: as given, or of its sequence
 abbrev pub entry_dg : List ℕ → GsOrSeq → Float
 entry_dg text (Given dg ds) = dg
-entry_dg text (Sequence start size) = (string_dna_dg_ds (part_of text start size)).dg
+entry_dg text (Sequence part) = (string_dna_dg_ds (part_of text part.start part.size)).dg
 
 -- dS of an entry: as given, or of its sequence
 abbrev pub entry_ds : List ℕ → GsOrSeq → Float
 entry_ds text (Given dg ds) = ds
-entry_ds text (Sequence start size) = (string_dna_dg_ds (part_of text start size)).ds
+entry_ds text (Sequence part) = (string_dna_dg_ds (part_of text part.start part.size)).ds
 
 -- ---- entries as they are lent
 
@@ -60,12 +60,10 @@ entry_ds text (Sequence start size) = (string_dna_dg_ds (part_of text start size
 abbrev pub entry_at : List ℕ → List Float → ℕ → Entry
 entry_at numbers doubles i =
     record {
-      first_start = get_or numbers (8 * i) 0;
-      first_size = get_or numbers (8 * i + 1) 0;
-      second = record { mark = get_or numbers (8 * i + 2) 0; start = get_or numbers (8 * i + 3) 0; size = get_or numbers (8 * i + 4) 0 };
+      first = record { start = get_or numbers (8 * i) 0; size = get_or numbers (8 * i + 1) 0 };
+      second = record { mark = get_or numbers (8 * i + 2) 0; part = record { start = get_or numbers (8 * i + 3) 0; size = get_or numbers (8 * i + 4) 0 } };
       form = get_or numbers (8 * i + 5) 0;
-      start = get_or numbers (8 * i + 6) 0;
-      size = get_or numbers (8 * i + 7) 0;
+      sequence = record { start = get_or numbers (8 * i + 6) 0; size = get_or numbers (8 * i + 7) 0 };
       dg = get_or doubles (2 * i) nan;
       ds = get_or doubles (2 * i + 1) nan;
     }

@@ -4,6 +4,7 @@ use Rattle.lists.specs.Find.{any}
 use Rattle.reply.specs.Number.{answered}
 use Rattle.reply.specs.First.{Check, ◌if◌, first_of, answer}
 use Rattle.reply.specs.declared.Refusal.TheVariants.{WrongSize, NotABase, TooShort, UnknownName, TooManyGlues, DuplicatePair, OutOfRange, TwoStars}
+use Rattle.utils.specs.declared.DgDs.{DgDs}
 use Rattle.sdc_common.specs.Names.{Name, is_retired}
 use Rattle.sdc_common.specs.Lent.{Names, names_of, Glue, part_of, glue_of, glues_of, unfit_names, is_retired_glue}
 use Rattle.sdc_common.specs.Numbers.{bases_of, numbers_among}
@@ -15,7 +16,6 @@ use Rattle.sdc1d_params.specs.declared.Build.{Build}
 use Rattle.sdc1d_params.specs.declared.Build.TheVariants.{Ordinary, Archive}
 use Rattle.sdc1d_params.specs.declared.Copies.{Copies}
 use Rattle.sdc1d_params.specs.declared.LentParameters.{LentParameters}
-use Rattle.sdc1d_params.specs.declared.Penalty.{Penalty}
 use Rattle.sdc1d_params.specs.declared.Entry.{Entry}
 use Rattle.sdc1d_params.specs.declared.entries.GsOrSeq.{GsOrSeq}
 
@@ -40,7 +40,7 @@ pub record Outcome : Type 0 where
   pub ds : List Float
 
 -- a parameter set out of its parts, in the order in which C lends them: names and entries are read off their rows here
-abbrev pub params_of : List ℕ → ℕ → List ℕ → List ℕ → List ℕ → List Float → Penalty → Copies → Params
+abbrev pub params_of : List ℕ → ℕ → List ℕ → List ℕ → List ℕ → List Float → DgDs → Copies → Params
 params_of text users strands scaffold entries energies penalty copies =
     record {
       text = text;
@@ -78,7 +78,7 @@ bases p = bases_of (strand_names p)
 
 -- the first name of an entry
 abbrev pub first_name : Params → Entry → Name
-first_name p e = part_of p.text e.first_start e.first_size
+first_name p e = part_of p.text e.first.start e.first.size
 
 -- the cell that an entry is for
 abbrev pub cell_of_entry : Params → Entry → Cell
@@ -144,7 +144,7 @@ param_checks p lent =
 
 -- a name of an entry ends in two or more stars: the first, or the second where it is there, whether or not the names are known
 abbrev pub is_retired_entry : List ℕ → Entry → Bool
-is_retired_entry text e = is_retired (part_of text e.first_start e.first_size) || is_retired_glue (glue_of text e.second)
+is_retired_entry text e = is_retired (part_of text e.first.start e.first.size) || is_retired_glue (glue_of text e.second)
 
 -- a strand's or an entry's name does. Scaffold names follow the old rule.
 unfoldable pub any_retired : Params → Bool

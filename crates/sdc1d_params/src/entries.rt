@@ -1,5 +1,6 @@
 // Energy entries: read off their rows, as two doubles or a sequence, and taken apart.
-ghost use Rattle.std.specs.Prelude.{◌≡◌, ℕ, Bool, ◌*◌, ◌<◌, length};
+ghost use Rattle.std.specs.Prelude.{◌≡◌, ℕ, Bool, ◌+◌, ◌*◌, ◌||◌, ◌<◌, length, get_or};
+ghost use Rattle.sdc_common.specs.Lent.{unfit_name, unfit_glue};
 ghost use Rattle.lists.specs.Find.{any};
 ghost use Rattle.sdc1d_params.specs.Entries.{energy_of, bad_form, unfit_energy, unfit_entry, entry_at, entry_rows, unfit_entries};
 ghost use Rattle.sdc1d_params.specs.inner.Cells.{first_of};
@@ -7,7 +8,7 @@ ghost use Rattle.sdc1d_params.specs.Params.{params_lent};
 ghost use Rattle.sdc1d_params.specs.declared.Entry.{Entry};
 
 use crate::{Entry, LentParameters, MOST_ENTRIES};
-use sdc_common::names::{LentName, PRESENT, leaves, unfit_glue};
+use sdc_common::names::{LentName, PRESENT, Part, unfit_glue};
 use utils::LONGEST;
 
 // The numbers of an entry's row.
@@ -19,11 +20,22 @@ const GIVEN: usize = 0;
 // An entry's energy is lent as a sequence.
 const SEQUENCE: usize = 1;
 
-// An entry's energy: two doubles, or a sequence by its start and length in the text.
+// An entry's energy: two doubles, or a sequence in the text.
 #[derive(Clone, Copy)]
 pub(crate) enum GsOrSeq {
     Given(f64, f64),
-    Sequence(usize, usize),
+    Sequence(Part),
+}
+
+// A part of the text by two numbers of a row, its start and its length.
+fn part_at(entries: &[usize], at: usize) -> Part
+    requires { at + 1 < length entries.now }
+    ensures { (result.start ≡ get_or entries.now at 0) × (result.size ≡ get_or entries.now (at + 1) 0) }
+{
+    Part {
+        start: entries[at],
+        size: entries[at + 1],
+    }
 }
 
 // Entry i, out of its row of eight numbers and its two doubles.
@@ -33,16 +45,13 @@ pub(crate) fn entry_at(entries: &[usize], energies: &[f64], i: usize) -> Entry
 {
     let row = ROW * i;
     Entry {
-        first_start: entries[row],
-        first_size: entries[row + 1],
+        first: part_at(entries, row),
         second: LentName {
             mark: entries[row + 2],
-            start: entries[row + 3],
-            size: entries[row + 4],
+            part: part_at(entries, row + 3),
         },
         form: entries[row + 5],
-        start: entries[row + 6],
-        size: entries[row + 7],
+        sequence: part_at(entries, row + 6),
         dg: energies[2 * i],
         ds: energies[2 * i + 1],
     }
@@ -54,8 +63,7 @@ pub(crate) fn first_name(entry: Entry) -> LentName
 {
     LentName {
         mark: PRESENT,
-        start: entry.first_start,
-        size: entry.first_size,
+        part: entry.first,
     }
 }
 
@@ -66,7 +74,7 @@ pub(crate) fn gs_or_seq(entry: Entry) -> GsOrSeq
     if entry.form == GIVEN {
         return GsOrSeq::Given(entry.dg, entry.ds);
     }
-    GsOrSeq::Sequence(entry.start, entry.size)
+    GsOrSeq::Sequence(entry.sequence)
 }
 
 // Whether a form has neither value.
@@ -82,22 +90,33 @@ fn unfit_energy(text: &[u8], energy: GsOrSeq) -> bool
 {
     match energy {
         GsOrSeq::Given(_, _) => false,
-        GsOrSeq::Sequence(start, length) => { leaves(text, start, length) || LONGEST < length }
+        GsOrSeq::Sequence(part) => { part.leaves(text) || LONGEST < part.size }
     }
+}
+
+// Whether a name of an entry is unfit. The first is always there.
+fn unfit_pair(text: &[u8], entry: Entry) -> bool
+    ensures { result ≡ (unfit_name text.now entry.first.start entry.first.size || unfit_glue text.now entry.second) }
+{
+    entry.first.is_unfit_name(text) || unfit_glue(text, entry.second)
+}
+
+// Whether the form or the sequence of an entry is.
+fn unfit_form(text: &[u8], entry: Entry) -> bool
+    ensures { result ≡ (bad_form entry.form || unfit_energy text.now (energy_of entry)) }
+{
+    bad_form(entry.form) || unfit_energy(text, gs_or_seq(entry))
 }
 
 // Whether a name, the form or the sequence of an entry is unfit.
 fn unfit_entry(text: &[u8], entry: Entry) -> bool
     ensures { result ≡ unfit_entry text.now entry }
 {
-    unfit_glue(text, first_name(entry))
-        || unfit_glue(text, entry.second)
-        || bad_form(entry.form)
-        || unfit_energy(text, gs_or_seq(entry))
+    unfit_pair(text, entry) || unfit_form(text, entry)
 }
 
-// Whether some entry passes a test. A loop over places and no `any`, whose closure would have to be told, in clauses of its own, that there are two
-// doubles for each row.
+// Whether some entry passes a test. A loop over numbers: handing the test to `any` after a `map` needs no clauses of a closure but a proof twice as
+// long.
 pub(crate) fn any_entry<F: Fn(Entry) -> bool>(lent: &LentParameters, test: F) -> bool
     requires two_each { length lent.now.energies.now ≡ 2 * entry_rows lent.now.entries.now }
     requires callable { (i : ℕ) → i < entry_rows lent.now.entries.now → F.pre test (entry_at lent.now.entries.now lent.now.energies.now i) }

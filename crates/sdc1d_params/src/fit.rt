@@ -9,19 +9,13 @@ use crate::Entry;
 use crate::entries::{GsOrSeq, any_entry, gs_or_seq};
 use crate::set::ParameterSet;
 use reply::Refusal;
-use units::{KcalPerMol, KcalPerMolKelvin};
 use utils::DgDs;
 
 // The shortest sequence.
 const SHORTEST: usize = 2;
 
-// What a sequence without an energy is taken for; those were refused before.
-const NO_ENERGY: DgDs = DgDs {
-    dg: KcalPerMol(0.0),
-    ds: KcalPerMolKelvin(0.0),
-};
-
-// An entry, and the text that its names and its sequence lie in.
+// An entry, and the text that its names and its sequence lie in. The energy stays in the entry's numbers, of which `gs_or_seq` tells it: a field for it
+// is no plainer, since it would stand twice, beside the entry of which invariant and contracts speak.
 #[derive(Clone, Copy)]
 pub(crate) struct FitEntry<'a> {
     pub(crate) text: &'a [u8],
@@ -35,13 +29,10 @@ impl FitEntry<'_> {
         ensures { (result.dg.0 ≡ entry_dg self.now.text.now (energy_of self.now.entry)) × (result.ds.0 ≡ entry_ds self.now.text.now (energy_of self.now.entry)) }
     {
         match gs_or_seq(self.entry) {
-            GsOrSeq::Given(dg, ds) => DgDs {
-                dg: KcalPerMol(dg),
-                ds: KcalPerMolKelvin(ds),
-            },
-            GsOrSeq::Sequence(start, length) => {
-                let end = start + length;
-                utils::string_dna_dg_ds(&self.text[start..end]).unwrap_or(NO_ENERGY)
+            GsOrSeq::Given(dg, ds) => DgDs::new(dg, ds),
+            // A sequence without an energy was refused before.
+            GsOrSeq::Sequence(part) => {
+                utils::string_dna_dg_ds(part.bytes(self.text)).unwrap_or_default()
             }
         }
     }
@@ -52,9 +43,8 @@ impl FitEntry<'_> {
     {
         match gs_or_seq(self.entry) {
             GsOrSeq::Given(_, _) => false,
-            GsOrSeq::Sequence(start, length) => {
-                let end = start + length;
-                utils::string_dna_dg_ds(&self.text[start..end]).err() == Some(Refusal::NotABase)
+            GsOrSeq::Sequence(part) => {
+                utils::string_dna_dg_ds(part.bytes(self.text)).err() == Some(Refusal::NotABase)
             }
         }
     }
@@ -65,7 +55,7 @@ impl FitEntry<'_> {
     {
         match gs_or_seq(self.entry) {
             GsOrSeq::Given(_, _) => false,
-            GsOrSeq::Sequence(_, length) => length < SHORTEST,
+            GsOrSeq::Sequence(part) => part.size < SHORTEST,
         }
     }
 }

@@ -21,9 +21,9 @@ use building::build_all;
 use entries::unfit_entries;
 use reply::limits::POSITIONS;
 use reply::{Refusal, refused_if};
-use sdc_common::names::LentName;
+use sdc_common::names::{LentName, Part};
 use set::ParameterSet;
-use units::{KcalPerMol, KcalPerMolKelvin};
+use utils::DgDs;
 
 // The most energy entries.
 pub const MOST_ENTRIES: usize = 1024;
@@ -33,13 +33,6 @@ pub const MOST_ENTRIES: usize = 1024;
 pub enum Build {
     Ordinary,
     Archive,
-}
-
-// The junction penalty, which is added to both numbers of every entry.
-#[derive(Clone, Copy)]
-pub struct Penalty {
-    pub dg: KcalPerMol,
-    pub ds: KcalPerMolKelvin,
 }
 
 // Whose glues the quencher and the reporter copy: no strand's, or those of a user strand, which are numbered from 1.
@@ -53,12 +46,10 @@ pub struct Copies {
 // the C interface, which may have neither value.
 #[derive(Clone, Copy)]
 pub struct Entry {
-    pub first_start: usize,
-    pub first_size: usize,
+    pub first: Part,
     pub second: LentName,
     pub form: usize,
-    pub start: usize,
-    pub size: usize,
+    pub sequence: Part,
     pub dg: f64,
     pub ds: f64,
 }
@@ -78,7 +69,8 @@ pub struct LentParameters<'a> {
     pub scaffold: &'a [usize],
     pub entries: &'a [usize],
     pub energies: &'a [f64],
-    pub penalty: Penalty,
+    // The junction penalty, which is added to both numbers of every entry.
+    pub penalty: DgDs,
     pub copies: Copies,
 }
 

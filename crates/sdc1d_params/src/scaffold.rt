@@ -12,14 +12,13 @@ use sdc_common::names::{LentName, rows, stars_of};
 const MOST_STARS: usize = 1;
 
 // Whether a name is unknown as spelled, where its reduced name has this number.
+#[tactic(auto, unfolding(crate::specs::inner::Scaffold::unknown_by))]
 fn is_unknown(text: &[u8], name: LentName, number: usize) -> bool
     requires { Fit text.now name }
     ensures { result ≡ unknown_by number (glue_of text.now name) }
 {
-    match name.bytes(text) {
-        None => false,
-        Some(name) => number == 0 || MOST_STARS < stars_of(name),
-    }
+    name.bytes(text)
+        .is_some_and(|name| number == 0 || MOST_STARS < stars_of(name))
 }
 
 // Whether some name is unknown as spelled.

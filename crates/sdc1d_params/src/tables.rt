@@ -8,7 +8,6 @@ ghost use Rattle.sdc1d_params.specs.Entries.{energy_of, entry_rows, entry_dg, en
 ghost use Rattle.sdc1d_params.specs.Tables.{out_of_range, set_both, write_dg, write_ds};
 ghost use Rattle.sdc1d_params.specs.inner.Cells.{writes_at, InTables};
 
-use crate::Penalty;
 use crate::cells::Cell;
 use crate::fit::FitEntry;
 use crate::set::ParameterSet;
@@ -17,14 +16,10 @@ use utils::DgDs;
 
 impl FitEntry<'_> {
     // What an entry writes: its numbers, the junction penalty added to both.
-    fn with_penalty(&self, penalty: Penalty) -> DgDs
+    fn with_penalty(&self, penalty: DgDs) -> DgDs
         ensures { (result.dg.0 ≡ Ieee.add binary64 (entry_dg self.now.text.now (energy_of self.now.entry)) penalty.dg.0) × (result.ds.0 ≡ Ieee.add binary64 (entry_ds self.now.text.now (energy_of self.now.entry)) penalty.ds.0) }
     {
-        let given = self.dg_ds();
-        DgDs {
-            dg: given.dg + penalty.dg,
-            ds: given.ds + penalty.ds,
-        }
+        self.dg_ds() + penalty
     }
 }
 

@@ -1,13 +1,11 @@
 -- Bases and equal names, as loops meet them. Assumes nothing.
 use mathlib.Core.Path.{◌≡◌, refl, ap, ◌∙◌}
-use mathlib.Core.Bool.{Bool, true, false, cond, not, ◌&&◌, and-false}
+use mathlib.Core.Bool.{Bool, true, false, cond, not, ◌&&◌}
 use mathlib.Core.List.{[], ◌∷◌, ◌++◌, reverse, reverse-append}
-use Prim.Native.Nat.{ℕ, zero, suc, ◌+◌, ◌<◌, ◌≤◌}
-use native.Mathlib.Numerals.{add-one}
+use Prim.Native.Nat.{ℕ, zero, suc, ◌+◌, ◌≤◌}
 use native.Mathlib.Omega.{arith}
 use lib.Dec.{eqb}
-use lib.ListN.{length, get_or, take, length-reverse}
-use lib.Seq.{take-suc, length-take-le}
+use lib.ListN.{length, length-reverse}
 use borrow.Author.Tests.{eq-eqb, ne_eqb}
 use Rattle.std.specs.List.{position_or_len}
 use Rattle.std.proofs.lemmas.List.Folds.{position_or_len_push}
@@ -27,33 +25,10 @@ unfolding base_length
 base-star [] = refl
 base-star (b ∷ s) = star-step (is_star b) _ _ (base-star s)
 
-other_step : (t : Bool) (n : ℕ) → cond (t && eqb (suc n) 0) 0 (suc (suc n)) ≡ suc (suc n)
-other_step t n = rw (ne_eqb (suc n) 0 (λ e. omega arith), and-false t)
-
--- a byte that is no star ends the base
-base-other : (s : Name) (b : ℕ) → is_star b ≡ false → base_length (s ++ (b ∷ [])) ≡ suc (length s)
-unfolding base_length
-base-other [] b e = rw e
-base-other (a ∷ s) b e = star-step (is_star a) _ _ (base-other s b e) ∙ other_step (is_star a) (length s)
-
 pub base-le : (s : Name) → base_length s ≤ length s
 unfolding base_length
 base-le [] = omega arith
 base-le (b ∷ s) = first-le-step (is_star b && eqb (base_length s) 0) _ _ (base-le s)
-
-pub base-none : (s : Name) → base_length (take 0 s) ≡ 0
-unfolding base_length
-base-none [] = refl
-base-none (b ∷ s) = refl
-
-module _ (s : Name) (n : ℕ) (h : n < length s) where
-  pub strip-star : get_or s n 0 ≡ 42 → base_length (take (n + 1) s) ≡ base_length (take n s)
-  strip-star e = rw (add-one, take-suc s n 0, e) (base-star (take n s))
-
-  pub strip-none : (get_or s n 0 ≡ 42 → ⊥) → base_length (take (n + 1) s) ≡ n + 1
-  strip-none e =
-      let k : length (take n s) ≡ n = length-take-le n s (omega arith) in
-      rw (add-one, take-suc s n 0) (base-other (take n s) (get_or s n 0) (ne_eqb _ _ e) ∙ ap suc k)
 
 -- ---- stars counted from the end
 

@@ -1,7 +1,7 @@
 -- What the checks leave of lent names. Assumes nothing.
 use mathlib.Core.Path.{◌≡◌, refl, sym, ap, ap₂, ◌∙◌}
 use mathlib.Core.Bool.{Bool, true, false, not, ◌||◌}
-use mathlib.Core.List.{List, [], ◌∷◌}
+use mathlib.Core.List.{List, [], ◌∷◌, map}
 use Prim.Native.Nat.{ℕ, suc, ◌*◌, ◌/◌, ◌%◌, ◌<◌, ◌≤◌}
 use native.Mathlib.Omega.{arith}
 use lib.Dec.{eqb}
@@ -11,7 +11,9 @@ use Rattle.lists.specs.Find.{any}
 use Rattle.lists.specs.Build.{tabulate}
 use Rattle.lists.proofs.Tests.{neither}
 use Rattle.lists.proofs.Build.{length-tabulate}
-use Rattle.lists.proofs.Counted.{any-fails, map-tabulate}
+use Rattle.lists.proofs.Counted.{any-fails, map-tabulate, stored, stored-whole}
+use Rattle.sdc_common.specs.Names.{Name}
+use Rattle.sdc_common.specs.Numbers.{glue_number}
 use Rattle.sdc_common.specs.Lent.{Names, Glue, name_at, names_of, glue_of, glues_of, unfit_glue, unfit_names}
 use Rattle.sdc_common.specs.inner.Fit.{FitNames}
 use Rattle.sdc_common.specs.Calls.{too_many_strands, unfit_strands}
@@ -54,6 +56,27 @@ module _ (users : ℕ) (text : List ℕ) (strands : Names) (e : unfit_strands us
 
   pub strand-glues : length strands.each ≡ 3 * users
   strand-glues = as_many (3 * users) text strands fit-glues
+
+module _ (users : ℕ) (text rows : List ℕ) (e : unfit_strands users text (names_of rows) ≡ false) where
+  -- the names of the strands, which have passed the check: as many as there are glues, each of them fit, and few enough for a table of bases
+  pub strands-many : length rows / 3 ≡ 3 * users
+  strands-many = rows-many (3 * users) text rows (fit-glues users text (names_of rows) e)
+
+  pub strands-fit : FitNames text rows
+  strands-fit = fit-names (3 * users) text rows (fit-glues users text (names_of rows) e)
+
+  pub strands-few : length rows / 3 ≤ 183
+  strands-few = omega (arith, strands-many, few-strands users text (names_of rows) e)
+
+-- the numbers of the names, stored one after the other
+module _ (bases : List Name) (text rows : List ℕ) where
+  abbrev pub number_of_row : ℕ → ℕ
+  number_of_row k = glue_number bases (glue_at text rows k)
+
+  pub numbers-stored : (lent : List ℕ) → length lent ≡ length rows / 3 → stored number_of_row (length rows / 3) lent ≡ map (glue_number bases) (glues_of text (names_of rows))
+  numbers-stored lent e =
+      stored-whole number_of_row (length rows / 3) lent (omega arith) ∙ ap (λ (k : ℕ). tabulate k number_of_row) e
+      ∙ sym (ap (map (glue_number bases)) (glues-listed text rows) ∙ map-tabulate (glue_number bases) (length rows / 3) (glue_at text rows))
 
 -- ---- tests of rows
 

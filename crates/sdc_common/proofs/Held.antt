@@ -1,5 +1,5 @@
 -- Parts of the text, and what is learnt and numbered. Assumes nothing.
-use mathlib.Core.Path.{◌≡◌, refl, ap, ◌∙◌}
+use mathlib.Core.Path.{◌≡◌, refl}
 use mathlib.Core.Bool.{Bool, true, false, not, ◌&&◌, ◌||◌}
 use mathlib.Core.List.{List, [], ◌∷◌, ◌++◌}
 use mathlib.Core.Option.{none, some}
@@ -12,7 +12,7 @@ use borrow.Author.Tests.{ltb-false, eq-eqb, ne_eqb}
 use Rattle.lists.specs.Find.{first_index}
 use Rattle.lists.proofs.Tests.{neither}
 use Rattle.sdc_common.specs.Names.{Name, base_length, base_of, stars_of, is_from, same_name}
-use Rattle.sdc_common.specs.Lent.{part_of, unfit_name, unfit_glue, is_absent, is_present, glue_of}
+use Rattle.sdc_common.specs.Lent.{part_of, leaves, unfit_name, unfit_glue, is_absent, is_present, glue_of}
 use Rattle.sdc_common.specs.declared.names.LentName.{LentName}
 use Rattle.sdc_common.specs.inner.Fit.{Fit}
 use Rattle.sdc_common.specs.Numbers.{is_known, learn, number_at, base_number, name_number, glue_number}
@@ -20,8 +20,11 @@ use Rattle.sdc_common.specs.Calls.{self_and_inverse, given_name}
 use Rattle.sdc_common.proofs.Bases.{base-le}
 
 -- a fit name ends within the text
+pub within : (text : List ℕ) (start size : ℕ) → unfit_name text start size ≡ false → leaves text start size ≡ false
+within text start size e = (neither (ltb 64 size) (leaves text start size) e).1
+
 pub fits : (text : List ℕ) (start size : ℕ) → unfit_name text start size ≡ false → start + size ≤ length text
-fits text start size e = ltb-false (length text) (start + size) (neither (ltb 64 size) (ltb (length text) (start + size)) e).1
+fits text start size e = ltb-false (length text) (start + size) (within text start size e)
 
 -- a part by its start and its end
 pub part-is : (text : List ℕ) (start size : ℕ) → take (start + size - start) (drop start text) ≡ part_of text start size
@@ -36,19 +39,19 @@ part_length text start size h = length-take-le size (drop start text) (simp leng
 pub named :
     (text : List ℕ) (start size stars : ℕ)
     → unfit_name text start size ≡ false
-    → stars ≡ stars_of (take (start + size - start) (drop start text))
+    → stars ≡ stars_of (part_of text start size)
     → given_name start (size - stars) (eqb (stars % 2) 0) ≡ self_and_inverse text start size
 unfolding self_and_inverse is_from stars_of
 named text start size stars fit e =
     let l : length (part_of text start size) ≡ size = part_length text start size (fits text start size fit) in
-    let s : stars ≡ length (part_of text start size) - base_length (part_of text start size) = e ∙ ap stars_of (part-is text start size) in
+    let s : stars ≡ length (part_of text start size) - base_length (part_of text start size) = e in
     let b : size - stars ≡ base_length (part_of text start size) = omega (arith, base-le (part_of text start size)) in
     rw fit (rw (b, s))
 
-pub stars-within : (text : List ℕ) (start size stars : ℕ) → unfit_name text start size ≡ false → stars ≡ stars_of (take (start + size - start) (drop start text)) → stars ≤ size
+pub stars-within : (text : List ℕ) (start size stars : ℕ) → unfit_name text start size ≡ false → stars ≡ stars_of (part_of text start size) → stars ≤ size
 unfolding stars_of
 stars-within text start size stars fit e =
-    let s : stars ≡ length (part_of text start size) - base_length (part_of text start size) = e ∙ ap stars_of (part-is text start size) in
+    let s : stars ≡ length (part_of text start size) - base_length (part_of text start size) = e in
     omega (arith, part_length text start size (fits text start size fit))
 
 -- ---- one glue
@@ -59,15 +62,11 @@ present-step false present unfit a e = (neither (not present) unfit e).1
 
 module _ (text : List ℕ) (name : LentName) where
   abbrev pub spelled : Name
-  spelled = part_of text name.start name.size
+  spelled = part_of text name.part.start name.part.size
 
-  pub present-fit : (name.mark ≡ 0 → ⊥) → Fit text name → unfit_name text name.start name.size ≡ false
+  pub present-fit : (name.mark ≡ 0 → ⊥) → Fit text name → unfit_name text name.part.start name.part.size ≡ false
   unfolding unfit_glue
-  present-fit h e = present-step (is_absent name.mark) (is_present name.mark) (unfit_name text name.start name.size) (ne_eqb name.mark 0 h) e
-
-  -- a present name that is fit ends within the text
-  pub present-fits : (name.mark ≡ 0 → ⊥) → Fit text name → name.start + name.size ≤ length text
-  present-fits h e = fits text name.start name.size (present-fit h e)
+  present-fit h e = present-step (is_absent name.mark) (is_present name.mark) (unfit_name text name.part.start name.part.size) (ne_eqb name.mark 0 h) e
 
   pub glue-absent : name.mark ≡ 0 → glue_of text name ≡ none
   unfolding glue_of
@@ -85,14 +84,6 @@ base-size name = length-take-le (base_length name) name (base-le name)
 pub base-is : (name : Name) (n : ℕ) → base_length name ≡ n → take n name ≡ base_of name
 unfolding base_of
 base-is name n e = rw e
-
-pub no-base : (name : Name) → base_length name ≡ 0 → [] ≡ base_of name
-unfolding base_of
-no-base name e = rw e (none name)
-  where
-    none : (s : Name) → [] ≡ take 0 s
-    none [] = refl
-    none (b ∷ s) = refl
 
 -- ---- the table
 

@@ -28,7 +28,7 @@ given_name start size from = record { number = answered; start = start; size = s
 
 -- an answer of the code as its number and figures
 abbrev pub name_figures : Result NameBase Refusal → NameFigures
-name_figures (Ok base) = given_name base.start base.size base.is_base
+name_figures (Ok base) = given_name base.part.start base.part.size base.is_base
 name_figures (Err refusal) = refused_name (number_of refusal)
 
 -- what is refused of a name

@@ -34,11 +34,11 @@ Glue = Option Name
 
 -- the glue that a lent name stands for
 unfoldable pub glue_of : List ℕ → LentName → Glue
-glue_of text name = cond (is_absent name.mark) none (some (part_of text name.start name.size))
+glue_of text name = cond (is_absent name.mark) none (some (part_of text name.part.start name.part.size))
 
 -- a mark that is neither value, or a present name that is too long or leaves the text. An absent name's start and length are not looked at.
 unfoldable pub unfit_glue : List ℕ → LentName → Bool
-unfit_glue text name = not (is_absent name.mark) && (not (is_present name.mark) || unfit_name text name.start name.size)
+unfit_glue text name = not (is_absent name.mark) && (not (is_present name.mark) || unfit_name text name.part.start name.part.size)
 
 -- a glue whose name retires
 unfoldable pub is_retired_glue : Glue → Bool
@@ -49,7 +49,7 @@ is_retired_glue (some name) = is_retired name
 
 -- name i of rows of three numbers: a mark, a start, a length
 abbrev pub name_at : List ℕ → ℕ → LentName
-name_at rows i = record { mark = get_or rows (3 * i) 0; start = get_or rows (3 * i + 1) 0; size = get_or rows (3 * i + 2) 0 }
+name_at rows i = record { mark = get_or rows (3 * i) 0; part = record { start = get_or rows (3 * i + 1) 0; size = get_or rows (3 * i + 2) 0 } }
 
 -- names as they are read off rows, and whether the last row is not whole
 pub record Names : Type 0 where

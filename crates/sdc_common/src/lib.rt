@@ -9,7 +9,7 @@ ghost use Rattle.std.specs.Prelude.{◌≡◌, length};
 ghost use Rattle.sdc_common.specs.Lent.{names_of};
 ghost use Rattle.sdc_common.specs.Calls.{name_figures, self_and_inverse, unfit_strands, numbers_figures, name_numbers, numbers_after, result_number, strand_glues, glues_after};
 
-use names::{stars_of, unfit_name, unfit_names};
+use names::{Part, stars_of, unfit_names};
 use reply::{Refusal, refused_if};
 use table::BaseTable;
 
@@ -20,22 +20,23 @@ pub const MOST_STRANDS: usize = 61;
 pub const MOST_BASES: usize = 31;
 
 // A name's base as a part of the text, and whether the name stands for the base or for base*.
-#[derive(Clone, Copy, PartialEq, Eq, Debug)]
+#[derive(Clone, Copy, PartialEq, Eq, Debug, Default)]
 pub struct NameBase {
-    pub start: usize,
-    pub size: usize,
+    pub part: Part,
     pub is_base: bool,
 }
 
 // The base of a name.
-pub fn self_and_inverse(text: &[u8], start: usize, length: usize) -> Result<NameBase, Refusal>
-    ensures { name_figures result ≡ self_and_inverse text.now start length }
+pub fn self_and_inverse(text: &[u8], name: Part) -> Result<NameBase, Refusal>
+    ensures { name_figures result ≡ self_and_inverse text.now name.start name.size }
 {
-    refused_if(Refusal::WrongSize, unfit_name(text, start, length))?;
-    let stars = stars_of(&text[start..start + length]);
+    refused_if(Refusal::WrongSize, name.is_unfit_name(text))?;
+    let stars = stars_of(name.bytes(text));
     Ok(NameBase {
-        start,
-        size: length - stars,
+        part: Part {
+            start: name.start,
+            size: name.size - stars,
+        },
         is_base: stars % 2 == 0,
     })
 }

@@ -1,7 +1,7 @@
 // Names as parts of a text: their bases, and whether lent names are as they should be.
-ghost use Rattle.std.specs.Prelude.{◌≡◌, ℕ, [], ◌/◌, ◌<◌, ◌≤◌, length, slice_index_or};
+ghost use Rattle.std.specs.Prelude.{◌≡◌, ℕ, [], ◌/◌, ◌%◌, ◌<◌, ◌≤◌, ◌||◌, not, eqb, false, length, slice_index_or};
 ghost use Rattle.sdc_common.specs.Names.{base_of, stars_of};
-ghost use Rattle.sdc_common.specs.Lent.{leaves, unfit_name, unfit_glue, name_at, names_of, unfit_names, glue_of};
+ghost use Rattle.sdc_common.specs.Lent.{part_of, leaves, unfit_name, unfit_glue, name_at, names_of, unfit_names, glue_of};
 ghost use Rattle.sdc_common.specs.inner.Fit.{Fit};
 ghost use Rattle.sdc_common.specs.inner.Table.{glue};
 
@@ -17,12 +17,43 @@ const LONGEST: usize = 64;
 // The numbers of a name's row.
 const ROW: usize = 3;
 
+// A part of a text by its start and its length, which may leave the text.
+#[derive(Clone, Copy, PartialEq, Eq, Debug, Default)]
+pub struct Part {
+    pub start: usize,
+    pub size: usize,
+}
+
+impl Part {
+    // Whether it leaves the text.
+    pub fn leaves(self, text: &[u8]) -> bool
+        ensures { result ≡ leaves text.now self.start self.size }
+    {
+        text.len() < self.start || text.len() - self.start < self.size
+    }
+
+    // The bytes of one that does not.
+    pub fn bytes(self, text: &[u8]) -> &[u8]
+        requires { leaves text.now self.start self.size ≡ false }
+        ensures { result.now ≡ part_of text.now self.start self.size }
+    {
+        let end = self.start + self.size;
+        &text[self.start..end]
+    }
+
+    // Whether as a name it is too long or leaves the text.
+    pub fn is_unfit_name(self, text: &[u8]) -> bool
+        ensures { result ≡ unfit_name text.now self.start self.size }
+    {
+        LONGEST < self.size || self.leaves(text)
+    }
+}
+
 // A name as it is lent: whether it is there, and its part of the text. The mark is a number of the C interface, which may have neither value.
 #[derive(Clone, Copy)]
 pub struct LentName {
     pub mark: usize,
-    pub start: usize,
-    pub size: usize,
+    pub part: Part,
 }
 
 // A row has the mark, the start and the length.
@@ -32,8 +63,10 @@ impl From<[usize; ROW]> for LentName {
     fn from(row: [usize; ROW]) -> LentName {
         LentName {
             mark: row[0],
-            start: row[1],
-            size: row[2],
+            part: Part {
+                start: row[1],
+                size: row[2],
+            },
         }
     }
 }
@@ -47,9 +80,7 @@ impl LentName {
         if self.mark == ABSENT {
             return None;
         }
-        let start = self.start;
-        let end = start + self.size;
-        Some(&text[start..end])
+        Some(self.part.bytes(text))
     }
 }
 
@@ -78,33 +109,25 @@ pub fn base_of(name: &[u8]) -> &[u8]
     &name[..name.len() - stars_of(name)]
 }
 
-// Whether a part leaves the text.
-pub fn leaves(text: &[u8], start: usize, size: usize) -> bool
-    ensures { result ≡ leaves text.now start size }
-{
-    text.len() < start || text.len() - start < size
-}
-
-// Whether a name is too long or leaves the text.
-pub(crate) fn unfit_name(text: &[u8], start: usize, length: usize) -> bool
-    ensures { result ≡ unfit_name text.now start length }
-{
-    LONGEST < length || leaves(text, start, length)
-}
-
 // Whether a mark has neither value, or a present name is unfit.
 pub fn unfit_glue(text: &[u8], name: LentName) -> bool
     ensures { result ≡ unfit_glue text.now name }
 {
-    name.mark != ABSENT && (name.mark != PRESENT || unfit_name(text, name.start, name.size))
+    name.mark != ABSENT && (name.mark != PRESENT || name.part.is_unfit_name(text))
+}
+
+// Whether the rows are not whole, or not n.
+fn is_miscounted(n: usize, names: &[usize]) -> bool
+    ensures { result ≡ (not (eqb (length names.now % 3) 0) || not (eqb (length names.now / 3) n)) }
+{
+    names.len() % ROW != 0 || names.len() / ROW != n
 }
 
 // Whether n names are not as they should be.
 pub fn unfit_names(n: usize, text: &[u8], names: &[usize]) -> bool
     ensures { result ≡ unfit_names n text.now (names_of names.now) }
 {
-    names.len() % ROW != 0
-        || names.len() / ROW != n
+    is_miscounted(n, names)
         || rows(names)
             .iter()
             .any(|row| unfit_glue(text, LentName::from(*row)))

@@ -10,14 +10,13 @@ use crate::names::{LentName, rows, stars_of};
 const FEWEST_RETIRED: usize = 2;
 
 // Whether a name that is there ends in two or more stars.
+#[tactic(auto, unfolding(crate::specs::Lent::is_retired_glue))]
 pub fn is_retired(text: &[u8], name: LentName) -> bool
     requires { Fit text.now name }
     ensures { result ≡ is_retired_glue (glue_of text.now name) }
 {
-    match name.bytes(text) {
-        None => false,
-        Some(name) => FEWEST_RETIRED <= stars_of(name),
-    }
+    name.bytes(text)
+        .is_some_and(|name| FEWEST_RETIRED <= stars_of(name))
 }
 
 // Whether some name of the rows does.

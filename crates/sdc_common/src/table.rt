@@ -5,17 +5,19 @@ ghost use Rattle.sdc_common.specs.inner.Fit.{FitNames};
 ghost use Rattle.sdc_common.specs.inner.Table.{glue, Found};
 ghost use Rattle.sdc_common.specs.Numbers.{learn, bases_of, glue_number};
 
+use crate::MOST_STRANDS;
 use crate::names::{LentName, base_of, rows, stars_of};
+use reply::limits::SIDES;
 use std::marker::Model;
 
 // The number of a glue that is absent, or whose base no strand has: document 01's glue 0. It is written as it stands, and an `Option` would only be
 // turned back into it.
 const NO_NUMBER: usize = 0;
 
-// The most bases: three for each of 61 user strands.
-const ROOM: usize = 183;
+// The most bases: one for each side of each user strand.
+pub const ROOM: usize = SIDES * MOST_STRANDS;
 
-// The bases of names, each once, in the order of their first appearance.
+// The bases of names, each once, in the order of their first appearance: in an array of as many as there can be, since there is no heap.
 #[derive(Drop)]
 pub struct BaseTable<'a> {
     pub bases: [&'a [u8]; ROOM],
@@ -107,7 +109,8 @@ impl<'a> BaseTable<'a> {
         }
     }
 
-    // The same into bytes, in a loop of its own: by way of words it would need a second buffer.
+    // The same into bytes, in a loop of its own: by way of words it would need a second buffer, and one loop over both kinds of cells is no plainer,
+    // since the closure that makes a cell of a number needs clauses of its own, longer than either loop.
     pub(crate) fn fill_glues(&self, text: &[u8], names: &[usize], glues: &mut [u8])
         requires fit_names { FitNames text.now names.now }
         requires glues_len { length glues.old ≡ length names.now / 3 }

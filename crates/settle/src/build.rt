@@ -1,8 +1,8 @@
 // The tables of a file's design, and of beginnings of it.
 use crate::reads::first_mut;
-use crate::rows::Sheet;
+use crate::rows::FileRows;
 use reply::Refusal;
-use reply::limits::POSITIONS;
+use reply::limits::{CELLS, POSITIONS, STRANDS};
 use sdc_common::{MOST_STRANDS, strand_glues};
 use sdc1d_params::{Build, Copies, LentParameters, MOST_ENTRIES, from_params};
 use sheet::faults::Counts;
@@ -12,24 +12,24 @@ use sheet::rows::{Chosen, Group};
 // What `from_params` writes, the first of each array: three glues for each strand, one for each position, and dG and dS for each two glues.
 #[derive(Drop)]
 pub(crate) struct Tables {
-    pub(crate) strand_glues: [u8; 192],
-    pub(crate) scaffold_glues: [u8; 128],
-    pub(crate) dg: [f64; 4096],
-    pub(crate) ds: [f64; 4096],
+    pub(crate) strand_glues: [u8; 3 * STRANDS],
+    pub(crate) scaffold_glues: [u8; POSITIONS],
+    pub(crate) dg: [f64; CELLS],
+    pub(crate) ds: [f64; CELLS],
 }
 
 // Tables in which nothing is written yet.
 pub(crate) const EMPTY: Tables = Tables {
-    strand_glues: [0; 192],
-    scaffold_glues: [0; 128],
-    dg: [0.0; 4096],
-    ds: [0.0; 4096],
+    strand_glues: [0; 3 * STRANDS],
+    scaffold_glues: [0; POSITIONS],
+    dg: [0.0; CELLS],
+    ds: [0.0; CELLS],
 };
 
-// The first so many strands, positions and entries of a sheet, in an ordinary build or the archive's.
+// The first so many strands, positions and entries of a file, in an ordinary build or the archive's.
 pub(crate) fn build(
     which: Build,
-    sheet: &Sheet,
+    file: &FileRows,
     counts: Counts,
     tables: &mut Tables,
 ) -> Result<(), Refusal> {
@@ -39,40 +39,40 @@ pub(crate) fn build(
     if MOST_STRANDS < users || POSITIONS < positions || MOST_ENTRIES < entries {
         return Err(Refusal::WrongSize);
     }
-    let mut strands = [0usize; 549];
+    let mut strands = [0usize; 9 * MOST_STRANDS];
     let strands = &mut strands[..9 * users];
-    sheet.first_strands(users).strands(strands);
-    let mut places = [0usize; 128];
-    let position_rows = Chosen::of(sheet.rows, Group::Position, &mut places[..positions]);
-    let mut scaffold = [0usize; 384];
+    file.first_strands(users).strands(strands);
+    let mut places = [0usize; POSITIONS];
+    let position_rows = Chosen::of(file.rows, Group::Position, &mut places[..positions]);
+    let mut scaffold = [0usize; 3 * POSITIONS];
     let scaffold = &mut scaffold[..3 * positions];
     position_rows.positions(scaffold);
-    let mut places = [0usize; 1024];
-    let entry_rows = Chosen::of(sheet.rows, Group::Entry, &mut places[..entries]);
-    let mut names = [0usize; 8192];
+    let mut places = [0usize; MOST_ENTRIES];
+    let entry_rows = Chosen::of(file.rows, Group::Entry, &mut places[..entries]);
+    let mut names = [0usize; 8 * MOST_ENTRIES];
     let names = &mut names[..8 * entries];
     entry_rows.entries(names);
-    let mut energies = [0.0; 2048];
+    let mut energies = [0.0; 2 * MOST_ENTRIES];
     let energies = &mut energies[..2 * entries];
     entry_rows.energies(energies);
     let parameters = LentParameters {
-        text: sheet.text,
+        text: file.text,
         users,
         strands,
         scaffold,
         entries: names,
         energies,
-        penalty: junction_penalty(sheet.rows),
-        copies: copies_of(sheet),
+        penalty: junction_penalty(file.rows),
+        copies: copies_of(file),
     };
     fill(which, &parameters, positions, tables)
 }
 
 // Whose glues the quencher and the reporter copy.
-fn copies_of(sheet: &Sheet) -> Copies {
+fn copies_of(file: &FileRows) -> Copies {
     Copies {
-        quencher: copied(sheet.text, &sheet.strands, Group::Quencher),
-        reporter: copied(sheet.text, &sheet.strands, Group::Reporter),
+        quencher: copied(file.text, &file.strands, Group::Quencher),
+        reporter: copied(file.text, &file.strands, Group::Reporter),
     }
 }
 
@@ -99,19 +99,19 @@ pub(crate) fn glue_count(users: usize) -> usize {
 }
 
 // The reply alone, in the archive's build: of the refusals whose place is looked for so, none is that of a name with two stars.
-pub(crate) fn reply_to(sheet: &Sheet, counts: Counts) -> Result<(), Refusal> {
+pub(crate) fn reply_to(file: &FileRows, counts: Counts) -> Result<(), Refusal> {
     let mut tables = EMPTY;
-    build(Build::Archive, sheet, counts, &mut tables)
+    build(Build::Archive, file, counts, &mut tables)
 }
 
 // The reply to the glues of the first so many strands alone.
-pub(crate) fn glues_reply(sheet: &Sheet, users: usize) -> Result<(), Refusal> {
+pub(crate) fn glues_reply(file: &FileRows, users: usize) -> Result<(), Refusal> {
     if MOST_STRANDS < users {
         return Err(Refusal::WrongSize);
     }
-    let mut strands = [0usize; 549];
+    let mut strands = [0usize; 9 * MOST_STRANDS];
     let strands = &mut strands[..9 * users];
-    sheet.first_strands(users).strands(strands);
-    let mut glues = [0u8; 183];
-    strand_glues(sheet.text, users, strands, &mut glues[..3 * users])
+    file.first_strands(users).strands(strands);
+    let mut glues = [0u8; 3 * MOST_STRANDS];
+    strand_glues(file.text, users, strands, &mut glues[..3 * users])
 }

@@ -6,7 +6,6 @@
 
 mod build;
 mod file;
-mod lines;
 mod place;
 mod reads;
 mod report;
@@ -21,6 +20,7 @@ use answers::reasons::{FileFault, Why};
 use answers::{DesignFile, Found, unreadable};
 use reads::first;
 use sdc1d_params::Build;
+use statements::LONGEST;
 use std::env::{Env, FillError};
 use std::fs::OpenOptions;
 use std::io;
@@ -34,11 +34,14 @@ const STATUS: &str = "/dev/fd/3";
 // The exit status that a shell tells of a program which a closed pipe ended.
 const PIPE_CLOSED: u8 = 141;
 
-// Room for a file of 1 MiB, and a byte more, so that a longer one is told.
-fn room() -> [u8; 1048577]
+// How long an argument is that can be told.
+const ARGUMENT: usize = 4096;
+
+// Room for the longest file, and a byte more, so that a longer one is told.
+fn room() -> [u8; LONGEST + 1]
     ensures { 1048577 ≡ length result }
 {
-    [0; 1048577]
+    [0; LONGEST + 1]
 }
 
 // A run over the files that the arguments name, with what the first two ask for. The room for a file's bytes is lent beside it: a call that fills
@@ -73,7 +76,7 @@ impl<R: Env + Files, W: Write> Run<'_, R, W> {
 
     // The file that an argument names.
     fn settle_argument(&mut self, i: usize, room: &mut [u8]) -> io::Result<bool> {
-        let mut path = [0u8; 4096];
+        let mut path = [0u8; ARGUMENT];
         match self.rt.arg(i, &mut path) {
             Ok(size) => self.settle_file(first(&path, size), room),
             Err(_) => self.failed(b"", FileFault::NoSuchFile),
@@ -99,7 +102,7 @@ fn is_given<R: Env>(rt: &R, i: usize) -> bool {
 
 // Whether an argument is this word.
 fn is_word<R: Env>(rt: &R, i: usize, word: &[u8]) -> bool {
-    let mut given = [0u8; 4096];
+    let mut given = [0u8; ARGUMENT];
     rt.arg(i, &mut given)
         .is_ok_and(|size| first(&given, size) == word)
 }

@@ -1,11 +1,11 @@
 // Where in a file the reason of a refused build lies. Each is found by asking the calls again, of parts of the design.
 use crate::build::{glues_reply, reply_to};
-use crate::rows::{Sheet, in_row};
+use crate::rows::{FileRows, at_first_word, in_row};
 use answers::Found;
 use answers::reads::part;
 use answers::reasons::Why;
 use reply::Refusal;
-use sdc_common::names::stars_of;
+use sdc_common::names::{Part, stars_of};
 use sdc_common::self_and_inverse;
 use sheet::faults::Counts;
 use sheet::once::copied;
@@ -51,19 +51,21 @@ fn least<F: Fn(usize) -> Result<(), Refusal>>(most: usize, refusal: Refusal, rep
         .unwrap_or(most)
 }
 
-impl Sheet<'_> {
+impl FileRows<'_> {
     // A row's sequence, if that by itself is refused so.
     fn sequence_in(&self, row: &Row, refusal: Refusal) -> Option<Word> {
         let bases = bases_of(row)?;
-        match string_dna_dg_ds(part(self.text, bases.start, bases.size)) {
-            Err(given) if given == refusal => Some(bases),
-            _ => None,
-        }
+        let sums = string_dna_dg_ds(part(self.text, bases.start, bases.size));
+        (sums.err() == Some(refusal)).then_some(bases)
     }
 
     // Whether a name is refused by itself.
     fn is_refused(&self, name: Word) -> bool {
-        self_and_inverse(self.text, name.start, name.size).is_err()
+        let name = Part {
+            start: name.start,
+            size: name.size,
+        };
+        self_and_inverse(self.text, name).is_err()
     }
 
     // Whether a name ends in two or more stars.
@@ -120,13 +122,8 @@ impl Sheet<'_> {
 
     // The last of so many members of a group.
     fn last_of(&self, group: Group, count: usize, why: Why) -> Found {
-        if count == 0 {
-            return Found::nowhere(why);
-        }
-        match self.member(group, count - 1) {
-            Some(row) => in_row(row, row.words[0], why),
-            None => Found::nowhere(why),
-        }
+        let last = count.checked_sub(1);
+        at_first_word(last.and_then(|member| self.member(group, member)), why)
     }
 
     // Of the fewest strands whose glues alone are refused so, the last.

@@ -1,9 +1,10 @@
 // What is printed of a file.
 use crate::reads::first;
-use crate::settle::{Settled, Unsettled};
+use crate::settle::{SettledFile, Unsettled};
 use answers::print::Style;
 use answers::{DesignFile, SettledDesign, refused, settled, unreadable};
 use deck::DeckForm;
+use reply::limits::POSITIONS;
 use sheet::faults::Counts;
 use std::io;
 use std::io::Write;
@@ -14,7 +15,7 @@ pub(crate) fn report<W: Write>(
     out: &mut W,
     style: Style,
     file: DesignFile,
-    outcome: Result<Settled, Unsettled>,
+    outcome: Result<SettledFile, Unsettled>,
 ) -> io::Result<bool> {
     match outcome {
         Ok(design) => report_settled(out, style, file, &design),
@@ -33,7 +34,7 @@ fn report_settled<W: Write>(
     out: &mut W,
     style: Style,
     file: DesignFile,
-    design: &Settled,
+    design: &SettledFile,
 ) -> io::Result<bool> {
     let Counts {
         strands,
@@ -41,7 +42,8 @@ fn report_settled<W: Write>(
         entries,
     } = design.counts;
     let configuration = first(&design.configuration, positions);
-    let mut deck = [0u32; 129];
+    // A first word, and one for each position at most.
+    let mut deck = [0u32; 1 + POSITIONS];
     let Ok(size) = deck::write(DeckForm::Singles, configuration, &mut deck) else {
         return Ok(false);
     };

@@ -1,5 +1,4 @@
 // A file's rows, and what is looked for among them.
-use crate::lines::word_on_line;
 use crate::reads::first;
 use answers::reasons::Why;
 use answers::{Found, Spot};
@@ -7,15 +6,21 @@ use sheet::faults::Counts;
 use sheet::rows::{Chosen, Group};
 use statements::grammar::Kind;
 use statements::statement::Row;
-use statements::words::Word;
+use statements::words::{Lines, Word, Words};
 
 // A file whose every line can be read: its text, its rows, those of its strands, and how many strands, positions and entries it has.
 #[derive(Clone, Copy)]
-pub(crate) struct Sheet<'a> {
+pub(crate) struct FileRows<'a> {
     pub(crate) text: &'a [u8],
     pub(crate) rows: &'a [Row],
     pub(crate) strands: Chosen<'a>,
     pub(crate) counts: Counts,
+}
+
+// The n-th word of a line, both counted from 1. The rows have the words that are names; a number or a keyword is found here.
+fn word_on_line(text: &[u8], line: usize, n: usize) -> Option<Word> {
+    let line = Lines::of(text).nth(line.saturating_sub(1))?;
+    Words::of(line.text, line.start).nth(n.checked_sub(1)?)
 }
 
 // A reason that lies in a line.
@@ -48,7 +53,12 @@ pub(crate) fn in_row(row: &Row, word: Word, why: Why) -> Found {
     }
 }
 
-impl<'a> Sheet<'a> {
+// At the first of a row's words, where there is such a row.
+pub(crate) fn at_first_word(row: Option<&Row>, why: Why) -> Found {
+    row.map_or(Found::nowhere(why), |row| in_row(row, row.words[0], why))
+}
+
+impl<'a> FileRows<'a> {
     // A file's rows. The places of the strands' are written into a slice as long as there are.
     pub(crate) fn of(
         text: &'a [u8],
@@ -57,7 +67,7 @@ impl<'a> Sheet<'a> {
         places: &'a mut [usize],
     ) -> Self {
         let strands = Chosen::of(rows, Group::Strand, places);
-        Sheet {
+        FileRows {
             text,
             rows,
             strands,
@@ -66,7 +76,7 @@ impl<'a> Sheet<'a> {
     }
 }
 
-impl Sheet<'_> {
+impl FileRows<'_> {
     // The rows of the first so many strands.
     pub(crate) fn first_strands(&self, users: usize) -> Chosen<'_> {
         Chosen {
@@ -90,9 +100,9 @@ impl Sheet<'_> {
 
     // At the n-th word of the first row of a kind.
     pub(crate) fn on_row_of(&self, kind: Kind, n: usize, why: Why) -> Found {
-        match self.row_of(kind) {
-            Some(row) => on_line(self.text, row.line, n, why),
-            None => Found::nowhere(why),
-        }
+        self.row_of(kind).map_or(
+            Found::nowhere(why),
+            |row| on_line(self.text, row.line, n, why),
+        )
     }
 }

@@ -1,12 +1,14 @@
 // From a file's text to the configuration in which its strands settle.
 use crate::build::{EMPTY, Tables, build, glue_count};
 use crate::reads::{first, first_mut};
-use crate::rows::{Sheet, at_line, on_line};
+use crate::rows::{FileRows, at_line, on_line};
 use answers::reasons::{FileFault, Why};
 use answers::{Found, Spot};
 use design::Design;
 use mfe::mfe_configuration;
+use reply::limits::{POSITIONS, STRANDS};
 use reply::{Refusal, Refused};
+use sdc_common::MOST_STRANDS;
 use sdc1d::number_of_states;
 use sdc1d_params::Build;
 use sheet::faults::{Counts, SheetFault};
@@ -41,16 +43,17 @@ fn refused(refusal: Refusal, found: Found) -> Unsettled {
     }
 }
 
-// A settled design, of each array as much as it has positions or strands.
+// A settled design, of each array as much as it has positions or strands. Arrays side by side and none of structs: the search, the deck and the
+// printer are lent each as a slice of its own.
 #[derive(Clone, Copy)]
-pub(crate) struct Settled {
+pub(crate) struct SettledFile {
     pub(crate) counts: Counts,
     // The glues of the positions and the names of the strands, words of the text.
-    pub(crate) glues: [Word; 128],
-    pub(crate) strand_names: [Word; 61],
+    pub(crate) glues: [Word; POSITIONS],
+    pub(crate) strand_names: [Word; MOST_STRANDS],
     // 1 where a position is blocked.
-    pub(crate) marks: [u8; 128],
-    pub(crate) configuration: [u8; 128],
+    pub(crate) marks: [u8; POSITIONS],
+    pub(crate) configuration: [u8; POSITIONS],
     pub(crate) energy: KcalPerMol,
     // How many states it has, where so many are counted.
     pub(crate) states: Option<u64>,
@@ -96,17 +99,17 @@ fn of_sheet(text: &[u8], fault: SheetFault) -> Unsettled {
 }
 
 // The text of a file.
-pub(crate) fn settle(which: Build, text: &[u8]) -> Result<Settled, Unsettled> {
+pub(crate) fn settle(which: Build, text: &[u8]) -> Result<SettledFile, Unsettled> {
     // More rows than any design has. This array and those below are of a fixed size, as in every crate here: what a design holds is bounded, and no
     // call has to tell that memory could not be had.
     let mut room = [Row::blank(Kind::Kelvin, 0); 2048];
     let count = statements::read(text, &mut room).map_err(of_lines)?;
     let rows = first(&room, count);
     let counts = sheet::faults::check(text, rows).map_err(|fault| of_sheet(text, fault))?;
-    let mut strand_rows = [0usize; 61];
+    let mut strand_rows = [0usize; MOST_STRANDS];
     let strand_rows = first_mut(&mut strand_rows, counts.strands);
-    let sheet = Sheet::of(text, rows, counts, strand_rows);
-    sheet.settled(which)
+    let file = FileRows::of(text, rows, counts, strand_rows);
+    file.settled(which)
 }
 
 // The ambient as given, or at a temperature.
@@ -118,9 +121,9 @@ fn ambient_of(rows: &[Row]) -> Result<Ambient, Refusal> {
     }
 }
 
-impl Sheet<'_> {
+impl FileRows<'_> {
     // The design, built and searched.
-    fn settled(&self, which: Build) -> Result<Settled, Unsettled> {
+    fn settled(&self, which: Build) -> Result<SettledFile, Unsettled> {
         let mut tables = EMPTY;
         build(which, self, self.counts, &mut tables).map_err(|refusal| refused(
             refusal,
@@ -132,15 +135,15 @@ impl Sheet<'_> {
     }
 
     // The search over the design of these tables, and what is shown of it.
-    fn search(&self, tables: &Tables, ambient: Ambient) -> Result<Settled, Refused> {
+    fn search(&self, tables: &Tables, ambient: Ambient) -> Result<SettledFile, Refused> {
         let users = self.counts.strands;
         let positions = self.counts.positions;
-        let mut places = [0usize; 128];
+        let mut places = [0usize; POSITIONS];
         let places = first_mut(&mut places, positions);
         let scaffold = Chosen::of(self.rows, Group::Position, places);
-        let mut marks = [0u8; 128];
+        let mut marks = [0u8; POSITIONS];
         scaffold.blocks(first_mut(&mut marks, positions));
-        let mut potentials = [0.0; 64];
+        let mut potentials = [0.0; STRANDS];
         self.strands.potentials(&mut potentials);
         let design = Design::new(
             first(&tables.scaffold_glues, positions),
@@ -151,15 +154,15 @@ impl Sheet<'_> {
             first(&potentials, users.saturating_add(3)),
             ambient,
         );
-        let mut configuration = [0u8; 128];
+        let mut configuration = [0u8; POSITIONS];
         let energy = mfe_configuration(&design, first_mut(&mut configuration, positions))?;
         // A design that the search has answered is refused its count only where it has too many states.
         let states = number_of_states(&design).ok();
-        let mut glues = [Word::default(); 128];
+        let mut glues = [Word::default(); POSITIONS];
         scaffold.shown(&mut glues);
-        let mut strand_names = [Word::default(); 61];
+        let mut strand_names = [Word::default(); MOST_STRANDS];
         self.strands.shown(&mut strand_names);
-        Ok(Settled {
+        Ok(SettledFile {
             counts: self.counts,
             glues,
             strand_names,

@@ -1,5 +1,5 @@
 // Where a design that was built is unfit to be searched: its ambient, or the potential of a strand.
-use crate::rows::{Sheet, in_row};
+use crate::rows::{FileRows, at_first_word};
 use answers::Found;
 use answers::reasons::Why;
 use reply::{Refusal, Refused};
@@ -15,7 +15,7 @@ fn ambient_word(number: usize) -> usize {
     }
 }
 
-impl Sheet<'_> {
+impl FileRows<'_> {
     // The temperature of `kelvin`.
     pub(crate) fn of_kelvin(&self) -> Found {
         self.on_row_of(Kind::Kelvin, 2, Why::KelvinRange)
@@ -37,14 +37,6 @@ impl Sheet<'_> {
         self.row_of(Kind::Reporter)
     }
 
-    // The potential of a strand.
-    fn of_potential(&self, strand: usize) -> Found {
-        match self.row_of_strand(strand) {
-            Some(row) => in_row(row, row.words[0], Why::PotentialRange),
-            None => Found::nowhere(Why::PotentialRange),
-        }
-    }
-
     // Where a design that was built is refused: a number of its ambient, or the potential of a strand.
     pub(crate) fn of_design(&self, refused: Refused) -> Found {
         let place = refused.place.unwrap_or(0);
@@ -52,7 +44,7 @@ impl Sheet<'_> {
             Refusal::AmbientOut => {
                 self.on_row_of(Kind::Ambient, ambient_word(place), Why::AmbientRange)
             }
-            Refusal::PotentialOut => self.of_potential(place),
+            Refusal::PotentialOut => at_first_word(self.row_of_strand(place), Why::PotentialRange),
             _ => Found::nowhere(Why::Refused),
         }
     }

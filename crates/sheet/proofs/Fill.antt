@@ -4,8 +4,7 @@ use mathlib.Core.List.{List, ◌∷◌}
 use Prim.Native.Nat.{ℕ, suc, ◌+◌, ◌-◌, ◌<◌, ◌≤◌}
 use native.Mathlib.Omega.{arith}
 use lib.ListN.{length, set, take}
-use Rattle.lists.specs.Build.{tabulate}
-use Rattle.lists.proofs.Counted.{stored, stored-none, stored-length, stored_more, stored-whole}
+use Rattle.lists.proofs.Counted.{stored, stored-none, stored-length, stored_more}
 
 -- the first m entries are as f says, and the others as they were
 pub record Filled {A : Type 0} (f : ℕ → A) (before : List A) (m : ℕ) (now : List A) : Type 0 where
@@ -23,9 +22,6 @@ module _ {A : Type 0} where
   filled_more {f} {before} {m} {now} {v} w h e =
       let l : m < length before = omega (arith, filled-length w) in
       record { fits = omega arith; is = rw w.is (stored_more f m before v l e) }
-
-  pub filled-whole : {f : ℕ → A} {before : List A} {m : ℕ} {now : List A} → Filled f before m now → length now ≤ m → now ≡ tabulate (length before) f
-  filled-whole {f} {before} {m} w h = w.is ∙ stored-whole f m before (omega (arith, filled-length w, w.fits))
 
 -- of a list that is cut to what there is room for, one more
 pub take_next : {A : Type 0} (most n : ℕ) (x : A) (xs : List A) → n < most → take (most - n) (x ∷ xs) ≡ x ∷ take (most - (n + 1)) xs

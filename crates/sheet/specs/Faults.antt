@@ -51,7 +51,7 @@ fault_of text before row =
     (cond (eqb (limit_of (group_of row.kind)) 1) (Err (GivenTwice row.line (group_of row.kind)))
     (Err (TooMany row.line (group_of row.kind)))))
 
--- what comes after, unless a row is at fault
+-- what comes after, unless a row is at fault; `and_then` of `statements` is over that crate's faults
 abbrev pub and_then : {A : Type 0} → Result Unit SheetFault → Result A SheetFault → Result A SheetFault
 and_then (Ok done) after = after
 and_then (Err fault) after = Err fault

@@ -3,6 +3,9 @@ ghost use Rattle.std.specs.Prelude.{◌≡◌};
 ghost use Rattle.sheet.specs.Faults.{limit_of, same_word, has_name, is_name_twice, fault_of, sheet_answer};
 
 use crate::rows::{Group, count_of, first_of};
+use reply::limits::POSITIONS;
+use sdc_common::MOST_STRANDS;
+use sdc1d_params::MOST_ENTRIES;
 use statements::statement::Row;
 use statements::words::{Word, bytes};
 
@@ -32,9 +35,9 @@ fn limit_of(group: Group) -> usize
     ensures { result ≡ limit_of group }
 {
     match group {
-        Group::Strand => 61,
-        Group::Position => 128,
-        Group::Entry => 1024,
+        Group::Strand => MOST_STRANDS,
+        Group::Position => POSITIONS,
+        Group::Entry => MOST_ENTRIES,
         _ => 1,
     }
 }

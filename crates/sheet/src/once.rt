@@ -5,11 +5,11 @@ ghost use Rattle.sheet.specs.declared.rows.Group.TheVariants as group;
 
 use crate::faults::same_word;
 use crate::rows::{Chosen, Group, first_of, word_of};
-use sdc1d_params::Penalty;
 use statements::grammar::Kind;
 use statements::statement::Row;
 use statements::words::Word;
-use units::{KcalPerMol, KcalPerMolKelvin, Kelvin};
+use units::Kelvin;
+use utils::DgDs;
 
 // The ambient as a file gives it: its temperature, or itself.
 #[derive(Clone, Copy)]
@@ -34,22 +34,17 @@ pub fn ambient_of(rows: &[Row]) -> Option<Ambient>
     let [first, second, third] = row.numbers;
     match row.kind {
         Kind::Kelvin => Some(Ambient::At(Kelvin(first))),
-        _ => Some(Ambient::Given(units::Ambient {
-            rt: KcalPerMol(first),
-            strand_excess: Kelvin(second),
-            scaffold_excess: Kelvin(third),
-        })),
+        _ => Some(Ambient::Given(units::Ambient::new(first, second, third))),
     }
 }
 
 // The junction penalty; 0.0 twice where there is none.
-pub fn junction_penalty(rows: &[Row]) -> Penalty
+pub fn junction_penalty(rows: &[Row]) -> DgDs
     ensures { (result.dg.0 ≡ number_once group.Penalty rows.now 0) × (result.ds.0 ≡ number_once group.Penalty rows.now 1) }
 {
-    Penalty {
-        dg: KcalPerMol(number_once(rows, Group::Penalty, 0)),
-        ds: KcalPerMolKelvin(number_once(rows, Group::Penalty, 1)),
-    }
+    let dg = number_once(rows, Group::Penalty, 0);
+    let ds = number_once(rows, Group::Penalty, 1);
+    DgDs::new(dg, ds)
 }
 
 // The place of the strand with a name among the strands' rows.

@@ -22,7 +22,8 @@ fn is_sequence(kind: Option<Kind>) -> bool
     matches!(kind, Some(Kind::EnergySequence | Kind::PairSequence))
 }
 
-// Each entry of a slice by a rule, which is asked by number.
+// Each entry of a slice by a rule, which is asked by number. `jobs` and `design` have their own: theirs are asked by a word and by a strand, and to
+// come back to `map` and `Grid` each would need a lemma, which is longer than a loop of one line.
 fn fill<T: Copy, F: Fn(usize) -> T>(out: &mut [T], rule: F)
     requires { F.IsAlwaysCallable rule }
     ensures { (f : ℕ → T) → ((k : ℕ) (x : T) → F.post rule k x → x ≡ f k) → out.new ≡ tabulate (length out.old) f }

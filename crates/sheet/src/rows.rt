@@ -107,8 +107,7 @@ impl Chosen<'_> {
         requires { j < 4 }
         ensures { result ≡ word_among self.now.rows.now self.now.places.now k j }
     {
-        self.row(k)
-            .map_or(Word { start: 0, size: 0 }, |row| row.words[j])
+        self.row(k).map_or(Word::default(), |row| row.words[j])
     }
 
     // Its number j; 0.0 where there is none.

@@ -4,9 +4,9 @@ use mathlib.Core.Bool.{Bool, true, false, cond, ◌||◌}
 use mathlib.Core.List.{List, []}
 use Prim.Native.Nat.{ℕ, zero, suc, ◌≤◌, ◌<◌}
 use native.Mathlib.Decide.{dec_le}
-use native.Mathlib.Nat.{lt_of_not-le, not-suc-le-zero}
+use native.Mathlib.Nat.{lt_of_not-le}
 use native.Mathlib.Omega.{arith}
-use lib.ListN.{length, get_or}
+use lib.ListN.{length, get_or, get_or-eq_default}
 use borrow.Author.Tests.{eqb-false}
 use Rattle.lists.specs.Build.{tabulate}
 use Rattle.lists.proofs.Build.{length-tabulate, get_or-tabulate}
@@ -91,12 +91,6 @@ module _ (d : Design) (w : Weights) {rows counts : List ℕ} {out : Bool} (optio
 
 -- ---- the figure
 
-get_or-past : (n : ℕ) (f : ℕ → List ℕ) (i : ℕ) → n ≤ i → get_or (tabulate n f) i [] ≡ []
-unfolding tabulate
-get_or-past zero f i h = refl
-get_or-past (suc n) f zero h = absurd (not-suc-le-zero h)
-get_or-past (suc n) f (suc i) h = get_or-past n (λ k. f (suc k)) i (omega arith)
-
 -- no position has more than 63 friends
 friends-of-few : (d : Design) → TablesPass d → (i : ℕ) → i < positions d → length (friends_of d i) ≤ 63
 friends-of-few d t i h = go (blocked_at d.marks i)
@@ -115,7 +109,9 @@ few-friends d t i = go (dec_le (suc i) (positions d))
   where
     go : Dec (suc i ≤ positions d) → length (get_or (tabulate (positions d) (friends_of d)) i []) ≤ 63
     go (yes h) = rw (get_or-tabulate (positions d) (friends_of d) [] i h) (friends-of-few d t i h)
-    go (no f) = rw (get_or-past (positions d) (friends_of d) i (let z = lt_of_not-le f in omega arith)) (omega arith)
+    go (no f) =
+        let past : length (tabulate (positions d) (friends_of d)) ≤ i = rw (length-tabulate (positions d) (friends_of d)) (let z = lt_of_not-le f in omega arith) in
+        rw (get_or-eq_default (tabulate (positions d) (friends_of d)) [] past) (omega arith)
 
 model-positions : (d : Design) → Model.positions (model_of d) ≡ positions d
 unfolding model_of

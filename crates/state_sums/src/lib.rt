@@ -16,9 +16,8 @@ ghost use Rattle.state_sums.specs.Sizes.{weights_lent, lists_lent};
 ghost use Rattle.state_sums.specs.Answers.{sum_figures, free_answer, constrained_answer, FreeShown, ConstrainedShown};
 
 use design::Design;
-use design::checks::design_reply;
 use design::options::options_of;
-use design::passed::AdmittedDesign;
+use design::passed::{AdmittedDesign, admitted};
 use ensemble::options::OPTIONS;
 use fractions::Weight;
 use partition_sums::constraint::Constraint;
@@ -49,7 +48,8 @@ pub struct LentLists<'a> {
 }
 
 impl<'a> LentWeights<'a> {
-    // The weights of the strands of a design.
+    // The weights of the strands of a design. Slice by slice: with these four inside of `Weights` each place and clause that reads one would name one
+    // field more, which is no plainer.
     fn of_design(&self, design: &Design) -> Weights<'a>
         ensures same_strands { result.strands ≡ strands design.now }
         ensures same_weights { weights_of result ≡ weights_lent (strands design.now) self.now }
@@ -102,9 +102,8 @@ pub fn free_sum(design: &Design, weights: &LentWeights<'_>) -> Result<Weight, Re
 {
     let positions = design.positions();
     let weights = weights.of_design(design);
-    design_reply(wrong_cells(positions, &weights), design)?;
+    let admitted = admitted(wrong_cells(positions, &weights), design)?;
     refused_if(Refusal::BareScaffold, positions == 0)?;
-    let admitted = AdmittedDesign { design };
     let mut rows = [0u8; OPTIONS];
     let mut counts = [0u8; POSITIONS];
     let formed = formed(&admitted, weights, &mut rows, &mut counts[..positions])?;
@@ -123,14 +122,13 @@ pub fn constrained_sum(
 {
     let positions = design.positions();
     let weights = weights.of_design(design);
-    design_reply(wrong_sizes(positions, &weights, lists), design)?;
+    let admitted = admitted(wrong_sizes(positions, &weights, lists), design)?;
     refused_if(Refusal::BareScaffold, positions == 0)?;
     let constraint = Constraint {
         numbers: lists.numbers,
         starts: lists.starts,
         lengths: lists.lengths,
     };
-    let admitted = AdmittedDesign { design };
     let mut rows = [0u8; OPTIONS];
     let mut counts = [0u8; POSITIONS];
     let formed = formed(&admitted, weights, &mut rows, &mut counts[..positions])?;

@@ -2,7 +2,7 @@
 use mathlib.Core.Path.{◌≡◌, refl, ◌∙◌}
 use mathlib.Core.Bool.{Bool, true, false, cond, not}
 use mathlib.Core.List.{List, [], ◌∷◌}
-use mathlib.Core.Option.{none, some}
+use mathlib.Core.Option.{Option, none, some}
 use Prim.Native.Nat.{ℕ, suc, ◌+◌, ◌-◌, ◌≤◌, ◌<◌}
 use native.Mathlib.Numerals.{add-one}
 use native.Mathlib.Omega.{arith}
@@ -88,9 +88,9 @@ module _ (text : List ℕ) (at : ℕ) where
       rw rest at (rw (← e) at whole)
 
   -- past the text's end there is none
-  pub lines-past : length text ≤ at → lines_from at at (drop at text) ≡ []
+  pub lines_past : length text ≤ at → lines_from at at (drop at text) ≡ []
   unfolding lines_from
-  lines-past h = rw (drop_of_length-le text h) (simp (le-ltb at at (omega arith)))
+  lines_past h = rw (drop_of_length-le text h) (simp (le-ltb at at (omega arith)))
 
   -- after the blanks the words are the same
   pub blanks_on : (n : ℕ) → n ≡ prefix_len is_blank (drop at text) → words_in text at ≡ words_in text (at + n)
@@ -129,3 +129,23 @@ module _ (text : List ℕ) (at : ℕ) where
   word_size n e h b =
       let more : prefix_len not_blank (drop at text) ≡ 1 + prefix_len not_blank (drop (suc at) text) = rw (drop-cons text at 0 h, b) refl in
       omega (arith, e, more)
+
+-- ---- how many words
+
+-- each word has a byte of its own, or was begun before
+few_scanned : (word : Option ℕ) (at : ℕ) (bytes : List ℕ) → length (scan word at bytes) ≤ length bytes + 1
+unfolding scan
+few_scanned none at [] = omega arith
+few_scanned (some start) at [] = omega arith
+few_scanned none at (byte ∷ bytes) =
+    let blank = few_scanned none (at + 1) bytes in
+    let begun = few_scanned (some at) (at + 1) bytes in
+    grind arith
+few_scanned (some start) at (byte ∷ bytes) =
+    let blank = few_scanned none (at + 1) bytes in
+    let on = few_scanned (some start) (at + 1) bytes in
+    grind arith
+
+pub few_words : (line : List ℕ) (at : ℕ) → length (words_in line at) ≤ length line + 1
+unfolding words_in
+few_words line at = omega (arith, few_scanned none at (drop at line), length-drop at line)

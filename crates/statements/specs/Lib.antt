@@ -1,4 +1,5 @@
 pub mod Words
+pub mod Lines
 pub mod Grammar
 pub mod Layout
 pub mod Statement

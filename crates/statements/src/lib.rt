@@ -12,7 +12,7 @@ ghost use Rattle.statements.specs.Rows.{read_answer, rows_after};
 use statement::{Fault, Row};
 
 // The longest text: 1 MiB.
-const LONGEST: usize = 1048576;
+pub const LONGEST: usize = 1048576;
 
 // Why a text can't be read.
 #[derive(Clone, Copy, PartialEq, Eq)]

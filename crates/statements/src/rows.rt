@@ -8,107 +8,85 @@ ghost use Rattle.statements.specs.Rows.{position_row, rows_of_line, rows_of, cou
 use crate::ReadFault;
 use crate::grammar::Kind;
 use crate::statement::{Fault, Row, Statement, glue_of, statement_of};
-use crate::words::{bytes, line_end, next_word};
+use crate::words::{Lines, NumberedLine, Words, bytes};
 
-// How many words stand from a place on. Where one begins is known only where the one before it ends, so a `while` asks for each.
+// How many words stand from a place on.
+#[tactic(auto, using(crate::proofs::Bytes::few_words))]
 fn count_words(line: &[u8], at: usize) -> usize
     ensures { result ≡ length (words_in line.now at) }
 {
-    let mut count = 0;
-    let mut from = at;
-    while let Some(word) = next_word(line, from) {
-        count += 1;
-        from = word.end();
-    }
-    count
+    Words::of(line, at).count()
 }
 
-// How many rows the line has that begins at a place.
+// How many rows a line has.
 #[tactic(auto, unfolding(crate::specs::Rows::count_of, crate::specs::Rows::statement_count))]
-fn count_rows(line: &[u8], at: usize, number: usize) -> Result<usize, Fault>
-    ensures { result ≡ count_of line.now at number }
+fn count_rows(line: &NumberedLine<'_>) -> Result<usize, Fault>
+    ensures { result ≡ count_of line.now.text.now line.now.start line.now.number }
 {
-    match statement_of(line, at, number)? {
+    match statement_of(line)? {
         Statement::Nothing => Ok(0),
         Statement::OneRow(_) => Ok(1),
-        Statement::Positions(_, from) => Ok(count_words(line, from)),
+        Statement::Positions(_, from) => Ok(count_words(line.text, from)),
     }
 }
 
-// The number of rows, or the first line at fault or without room. Lines are walked by their places, and not split off: words count from the
-// text's first byte, and no line follows the last newline.
+// The number of rows, or the first line at fault or without room.
 pub(crate) fn check(text: &[u8], room: usize) -> Result<usize, ReadFault>
     ensures { result ≡ answer_from text.now room 1 0 (lines_of text.now) }
 {
     let mut count = 0;
-    let mut number = 1;
-    let mut at = 0;
-    while at < text.len() {
-        let end = line_end(text, at);
-        let more = match count_rows(&text[..end], at, number) {
-            Ok(more) => more,
-            Err(fault) => return Err(ReadFault::Unreadable(number, fault)),
-        };
+    for line in Lines::of(text) {
+        let more = count_rows(&line).map_err(|fault| ReadFault::Unreadable(line.number, fault))?;
         if room - count < more {
-            return Err(ReadFault::TooManyRows(number));
+            return Err(ReadFault::TooManyRows(line.number));
         }
         count += more;
-        number += 1;
-        at = end + 1;
     }
     Ok(count)
 }
 
-// The positions of a line, of this kind, from row i on, and the row after them: word by word, as `count_words` counts.
+// The positions of a line from a place on, of this kind, from row i on, and the row after them.
 fn lay_positions(
     kind: Kind,
-    line: &[u8],
+    line: &NumberedLine<'_>,
     at: usize,
-    number: usize,
     i: usize,
     rows: &mut [Row],
 ) -> usize
-    requires { i + length (words_in line.now at) ≤ length rows.old }
-    ensures { (result ≡ i + length (words_in line.now at)) × (rows.new ≡ sets rows.old i (map (position_row kind line.now number) (words_in line.now at))) }
+    requires { i + length (words_in line.now.text.now at) ≤ length rows.old }
+    ensures { (result ≡ i + length (words_in line.now.text.now at)) × (rows.new ≡ sets rows.old i (map (position_row kind line.now.text.now line.now.number) (words_in line.now.text.now at))) }
 {
     let mut next = i;
-    let mut from = at;
-    while let Some(word) = next_word(line, from) {
-        rows[next] = Row::blank(kind, number).put(0, glue_of(bytes(line, word), word));
+    for word in Words::of(line.text, at) {
+        rows[next] = Row::blank(kind, line.number).put(0, glue_of(bytes(line.text, word), word));
         next += 1;
-        from = word.end();
     }
     next
 }
 
 // The rows of a line from row i on, and the row after them.
 #[tactic(auto, unfolding(crate::specs::Rows::rows_of_line))]
-fn lay_line(line: &[u8], at: usize, number: usize, i: usize, rows: &mut [Row]) -> usize
-    requires { i + length (rows_of_line line.now number (statement_of line.now at number)) ≤ length rows.old }
-    ensures { (result ≡ i + length (rows_of_line line.now number (statement_of line.now at number))) × (rows.new ≡ sets rows.old i (rows_of_line line.now number (statement_of line.now at number))) }
+fn lay_line(line: &NumberedLine<'_>, i: usize, rows: &mut [Row]) -> usize
+    requires { i + length (rows_of_line line.now.text.now line.now.number (statement_of line.now.text.now line.now.start line.now.number)) ≤ length rows.old }
+    ensures { (result ≡ i + length (rows_of_line line.now.text.now line.now.number (statement_of line.now.text.now line.now.start line.now.number))) × (rows.new ≡ sets rows.old i (rows_of_line line.now.text.now line.now.number (statement_of line.now.text.now line.now.start line.now.number))) }
 {
-    match statement_of(line, at, number) {
+    match statement_of(line) {
         Ok(Statement::OneRow(row)) => {
             rows[i] = row;
             i + 1
         }
-        Ok(Statement::Positions(kind, from)) => lay_positions(kind, line, from, number, i, rows),
+        Ok(Statement::Positions(kind, from)) => lay_positions(kind, line, from, i, rows),
         Ok(Statement::Nothing) | Err(_) => i,
     }
 }
 
-// The rows of a text that there is room for, line by line as `check` walks.
+// The rows of a text that there is room for.
 pub(crate) fn lay(text: &[u8], rows: &mut [Row])
     requires { length (rows_of text.now) ≤ length rows.old }
     ensures { rows.new ≡ sets rows.old 0 (rows_of text.now) }
 {
     let mut next = 0;
-    let mut number = 1;
-    let mut at = 0;
-    while at < text.len() {
-        let end = line_end(text, at);
-        next = lay_line(&text[..end], at, number, next, rows);
-        number += 1;
-        at = end + 1;
+    for line in Lines::of(text) {
+        next = lay_line(&line, next, rows);
     }
 }

@@ -6,7 +6,7 @@ ghost use Rattle.statements.specs.Grammar.{InRow};
 ghost use Rattle.statements.specs.Statement.{reason_of, blank, put, glue_of, accepted, closed, fit, statement_of};
 
 use crate::grammar::{Item, Kind};
-use crate::words::{Word, bytes, next_word};
+use crate::words::{NumberedLine, Word, Words, bytes, next_word};
 use decimals::{NumberFault, read_number};
 
 // Why a line can't be read.
@@ -85,7 +85,7 @@ impl Row {
         Row {
             kind,
             line,
-            words: [Word { start: 0, size: 0 }; 4],
+            words: [Word::default(); 4],
             numbers: [0.0; 3],
         }
     }
@@ -106,20 +106,17 @@ impl Row {
         requires { ForSome item InRow }
         ensures { result ≡ accepted bytes.now item word self }
     {
-        let fault = |reason| Err(Fault { word, reason });
+        let fault = |reason| Fault { word, reason };
         let Some(item) = item else {
-            return fault(Reason::TooManyWords);
+            return Err(fault(Reason::TooManyWords));
         };
         match item {
-            Item::Number(slot) => match read_number(bytes) {
-                Ok(x) => {
-                    self.numbers[slot] = x;
-                    Ok(self)
-                }
-                Err(why) => fault(why.into()),
-            },
+            Item::Number(slot) => {
+                self.numbers[slot] = read_number(bytes).map_err(|why| fault(why.into()))?;
+                Ok(self)
+            }
             Item::Name(slot) => match bytes {
-                b"-" => fault(Reason::NotAName),
+                b"-" => Err(fault(Reason::NotAName)),
                 _ => Ok(self.put(slot, word)),
             },
             Item::Glue(slot) => Ok(self.put(slot, glue_of(bytes, word))),
@@ -130,11 +127,11 @@ impl Row {
                     kind: self.kind.with_sequence(),
                     ..self
                 }),
-                _ => fault(Reason::NeitherDgNorSeq),
+                _ => Err(fault(Reason::NeitherDgNorSeq)),
             },
             Item::Ds => match bytes {
                 b"ds" => Ok(self),
-                _ => fault(Reason::NotDs),
+                _ => Err(fault(Reason::NotDs)),
             },
         }
     }
@@ -154,30 +151,28 @@ impl Row {
     }
 }
 
-// The row of the words after the keyword: word by word, each from where the one before it ends. What a word has to be hangs on those before it.
-fn fit(line: &[u8], key: Word, kind: Kind, number: usize) -> Result<Row, Fault>
-    requires { Inside line.now key }
-    ensures { result ≡ fit line.now key 0 (blank kind number) (words_in line.now (key.start + key.size)) }
+// The row of the words after the keyword. What a word has to be hangs on those before it.
+fn fit(line: &NumberedLine<'_>, key: Word, kind: Kind) -> Result<Row, Fault>
+    requires { Inside line.now.text.now key }
+    ensures { result ≡ fit line.now.text.now key 0 (blank kind line.now.number) (words_in line.now.text.now (key.start + key.size)) }
 {
-    let mut row = Row::blank(kind, number);
-    let mut at = key.end();
+    let mut row = Row::blank(kind, line.number);
     let mut place = 0;
-    while let Some(word) = next_word(line, at) {
-        row = row.accept(bytes(line, word), row.kind.item_at(place), word)?;
-        at = word.end();
+    for word in Words::of(line.text, key.end()) {
+        row = row.accept(bytes(line.text, word), row.kind.item_at(place), word)?;
         place += 1;
     }
     row.close(row.kind.item_at(place), key)
 }
 
-// The statement of the line that begins at a place, in the text up to its end. Its rows are of the line with this number.
-pub(crate) fn statement_of(line: &[u8], at: usize, number: usize) -> Result<Statement, Fault>
-    ensures { result ≡ statement_of line.now at number }
+// The statement of a line.
+pub(crate) fn statement_of(line: &NumberedLine<'_>) -> Result<Statement, Fault>
+    ensures { result ≡ statement_of line.now.text.now line.now.start line.now.number }
 {
-    let Some(key) = next_word(line, at) else {
+    let Some(key) = next_word(line.text, line.start) else {
         return Ok(Statement::Nothing);
     };
-    let Some(kind) = Kind::of(bytes(line, key)) else {
+    let Some(kind) = Kind::of(bytes(line.text, key)) else {
         return Err(Fault {
             word: key,
             reason: Reason::NoSuchStatement,
@@ -186,6 +181,6 @@ pub(crate) fn statement_of(line: &[u8], at: usize, number: usize) -> Result<Stat
     if kind.is_position() {
         return Ok(Statement::Positions(kind, key.end()));
     }
-    let row = fit(line, key, kind, number)?;
+    let row = fit(line, key, kind)?;
     Ok(Statement::OneRow(row))
 }

@@ -10,15 +10,15 @@ use reply::{Refusal, refused_if};
 use std::ops::{Add, Div, Mul, Sub};
 
 // A temperature, or a difference of two.
-#[derive(Clone, Copy, PartialEq, Debug)]
+#[derive(Clone, Copy, PartialEq, Default, Debug)]
 pub struct Kelvin(pub f64);
 
 // An energy: dG, or RT.
-#[derive(Clone, Copy, PartialEq, Debug)]
+#[derive(Clone, Copy, PartialEq, Default, Debug)]
 pub struct KcalPerMol(pub f64);
 
 // An entropy: dS, or the gas constant.
-#[derive(Clone, Copy, PartialEq, Debug)]
+#[derive(Clone, Copy, PartialEq, Default, Debug)]
 pub struct KcalPerMolKelvin(pub f64);
 
 // The sum of two temperatures.
@@ -144,11 +144,26 @@ const LOWEST_KELVIN: f64 = 200.0;
 const HIGHEST_KELVIN: f64 = 500.0;
 
 // Document 01's ambient, in which a design is judged: RT, and the excess over 37 °C between strands and between strand and scaffold.
-#[derive(Clone, Copy, PartialEq, Debug)]
+#[derive(Clone, Copy, PartialEq, Default, Debug)]
 pub struct Ambient {
     pub rt: KcalPerMol,
     pub strand_excess: Kelvin,
     pub scaffold_excess: Kelvin,
+}
+
+impl Ambient {
+    // Out of its three numbers, in kcal/mol and in kelvin.
+    pub fn new(rt: f64, strand_excess: f64, scaffold_excess: f64) -> Ambient
+        ensures rt { result.rt.0 ≡ rt }
+        ensures strand_excess { result.strand_excess.0 ≡ strand_excess }
+        ensures scaffold_excess { result.scaffold_excess.0 ≡ scaffold_excess }
+    {
+        Ambient {
+            rt: KcalPerMol(rt),
+            strand_excess: Kelvin(strand_excess),
+            scaffold_excess: Kelvin(scaffold_excess),
+        }
+    }
 }
 
 // The ambient at a temperature, with one excess for both.

@@ -33,10 +33,23 @@ use tables::{
 use units::{KcalPerMol, KcalPerMolKelvin, Kelvin};
 
 // The energy and the entropy of a duplex, or of a part of one.
-#[derive(Clone, Copy, PartialEq, Debug)]
+#[derive(Clone, Copy, PartialEq, Default, Debug)]
 pub struct DgDs {
     pub dg: KcalPerMol,
     pub ds: KcalPerMolKelvin,
+}
+
+impl DgDs {
+    // Out of its two numbers, in kcal/mol and in kcal/mol/K.
+    pub fn new(dg: f64, ds: f64) -> DgDs
+        ensures dg { result.dg.0 ≡ dg }
+        ensures ds { result.ds.0 ≡ ds }
+    {
+        DgDs {
+            dg: KcalPerMol(dg),
+            ds: KcalPerMolKelvin(ds),
+        }
+    }
 }
 
 // Both sums.
@@ -52,12 +65,6 @@ impl Add for DgDs {
         }
     }
 }
-
-// Where a sum begins.
-const NOTHING: DgDs = DgDs {
-    dg: KcalPerMol(0.0),
-    ds: KcalPerMolKelvin(0.0),
-};
 
 // What initiation adds to the energy.
 const INITIATION_DG: KcalPerMol = KcalPerMol(1.96);
@@ -139,7 +146,7 @@ impl Dna<'_> {
         ensures { (result.dg.0 ≡ stack_sum stack_dg (bases self.now.letters.now)) × (result.ds.0 ≡ stack_sum stack_ds (bases self.now.letters.now)) }
     {
         let stacks = STACKS;
-        let mut sums = NOTHING;
+        let mut sums = DgDs::default();
         for pair in self.letters.windows(2) {
             let first = base_index(pair[0]);
             let second = base_index(pair[1]);
@@ -227,7 +234,7 @@ impl Strands<'_> {
         let stacks = STACKS;
         let penalties = PENALTY_TABLE;
         let mut sums = Sums {
-            so_far: NOTHING,
+            so_far: DgDs::default(),
             bad: 0,
         };
         for (upper, lower) in self

@@ -9,7 +9,7 @@ use crate::DgDs;
 use crate::bases::{DnaNucleotideBase, Window, good_match};
 use logarithm::{ln_whole, mul_units};
 use reply::Refusal;
-use units::{KcalPerMol, KcalPerMolKelvin};
+use units::KcalPerMol;
 
 // Stacks of two pairs, 5' to 3': a row for the first base, in the order A, T, G, C.
 #[derive(Clone, Copy)]
@@ -41,10 +41,7 @@ impl Stacks {
         requires { (i < 4) × (j < 4) }
         ensures { StackAt i j result.dg.0 result.ds.0 }
     {
-        DgDs {
-            dg: KcalPerMol(self.energies[i][j]),
-            ds: KcalPerMolKelvin(self.entropies[i][j]),
-        }
+        DgDs::new(self.energies[i][j], self.entropies[i][j])
     }
 }
 

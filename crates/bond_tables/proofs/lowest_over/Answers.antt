@@ -14,4 +14,7 @@ returns c =
     let fit = tables-fit d t u (rw c.admitted.view_is c.requires.strand_bonds_len) (rw c.admitted.view_is c.requires.scaffold_bonds_len) in
     let bonds = c.new-bonds.ensures in
     let given = rw (c.tabled.ensures ∙ sym c.admitted.view_is) at c.options_of-options.ensures in
-    rw (sym c.admitted.view_is) (c.lowest.ensures (model_over d t u) (given.option_rows _ refl) (rw (bonds.strand_bonds, bonds.scaffold_bonds, bonds.potentials, c.potentials.ensures, given.same_strands) (cells-lent d t u fit c.admitted.invariant.admitted)) (rw c.rt.ensures refl))
+    rw (sym c.admitted.view_is) (c.lowest.ensures (model_over d t u) (record {
+      options = given.option_rows _ refl;
+      bonds = rw (bonds.strand_bonds, bonds.scaffold_bonds, bonds.potentials, c.potentials.ensures, given.same_strands) (cells-lent d t u fit c.admitted.invariant.admitted);
+    }) (rw c.rt.ensures refl))

@@ -52,4 +52,4 @@ returns-clause-lowest_over c =
     let d = c.args.design.now in
     let t = c.args.tables.now.strand_bonds.now in
     let u = c.args.tables.now.scaffold_bonds.now in
-    λ w tables cells _. lowest-over d t u tables w c.hold_doubles.ensures c.hold_doubles-2.ensures c.hold_doubles-3.ensures cells c.lowest_over.ensures
+    λ w tables cells _. lowest-over d t u tables w c.hold_doubles.ensures c.hold_doubles-2.ensures c.hold_doubles-3.ensures cells (rw c.in_ok-admitted.ensures.same at c.lowest_over.ensures)

@@ -16,14 +16,14 @@ same nan = refl
 same (inf negative) = refl
 same (fin negative digits exponent) = refl
 
-pub returns-in_err-ranged_reply : goal.returns-in_err-ranged_reply
-returns-in_err-ranged_reply c =
+pub returns-in_err-tabled : goal.returns-in_err-tabled
+returns-in_err-tabled c =
     let a = c.args in
     let d = a.design.now in
     let e = a.entries.now in
     let told : c.is_finite.result ≡ finite a.ceiling.0 = c.is_finite.ensures.value ∙ same a.ceiling.0 in
     let reply : first_of (ranged_checks (own_size d a.ceiling.0 e) (not (finite a.ceiling.0)) d.scaffold d.marks d.glues d.dg d.ds d.potentials) ≡ Err _ =
-    rw (c.positions.ensures, told) at (sym c.in_err-ranged_reply.ensures.value) in record {
+    rw (c.positions.ensures, told) at (sym c.in_err-tabled.ensures.value) in record {
       result_value = ceiling-refused d a.ceiling.0 e c.from_residual.result c.from_residual.ensures.1 reply;
       entries_after = ceiling-kept d a.ceiling.0 e reply;
     }
@@ -35,8 +35,8 @@ returns c =
     let e = a.entries.now in
     let told : c.is_finite.result ≡ finite a.ceiling.0 = c.is_finite.ensures.value ∙ same a.ceiling.0 in
     let reply : first_of (ranged_checks (own_size d a.ceiling.0 e) (not (finite a.ceiling.0)) d.scaffold d.marks d.glues d.dg d.ds d.potentials) ≡ Ok tt =
-    rw (c.positions.ensures, told) at (sym c.in_ok-ranged_reply.ensures.value) in
-    let r = c.counted.ensures in
+    rw (c.positions.ensures, told) at (sym c.in_ok-tabled.ensures.value) in
+    let r = rw c.in_ok-tabled.ensures.same at c.counted.ensures in
     let all = ceiling-counted d a.ceiling.0 e reply r.result_value r.entries_after in record {
       result_value = all.0;
       entries_after = all.1;

@@ -1,6 +1,6 @@
 -- `deck::move_deck` meets its contract: a fault that was found is the place; where none was, the deck is read and written in the other form.
 -- Assumes nothing.
-use mathlib.Core.Path.{◌≡◌, sym, ap, ap₂, ◌∙◌}
+use mathlib.Core.Path.{◌≡◌, ap, ap₂, ◌∙◌}
 use mathlib.Core.Bool.{true}
 use mathlib.Core.List.{List}
 use Prim.Native.Nat.{ℕ, ◌≤◌}
@@ -17,8 +17,9 @@ use Rattle.deck.specs.Forms.{form_of, other_form}
 use Rattle.deck.specs.Deck.{is_deck, configuration_of, deck_of}
 use Rattle.deck.specs.Moving.{moved_words, wrong_words, move_figures, move_words}
 use Rattle.reply.proofs.Asked.{admits, exits_nowhere}
+use Rattle.reply.proofs.Bare.{same-error}
 use Rattle.deck.proofs.Decks.{configuration-few, deck-length}
-use Rattle.deck.proofs.Faults.{no-fault, fault-at}
+use Rattle.deck.proofs.Faults.{valid, faulty}
 use Rattle.deck.proofs.Moves.{moves-to, form-decks}
 use Rattle.deck.proofs.move_deck.Goals as goal
 
@@ -34,24 +35,24 @@ returns-in_err-refused_if-clause-moved_after c =
     let p = exits_nowhere c.from_residual.result WrongSize (wrong_words c.args.moved.now) _ c.from_residual.ensures.1 c.in_err-refused_if.ensures in
     rw p.0
 
-pub returns-in-Some-clause-result_value : goal.returns-in-Some-clause-result_value
+pub returns-in_err-checked-clause-result_value : goal.returns-in_err-checked-clause-result_value
 unfolding move_figures
-returns-in-Some-clause-result_value c =
+returns-in_err-checked-clause-result_value c =
     let a = c.args in
     let t = admits WrongSize (wrong_words a.moved.now) c.in_ok-refused_if.ensures in
-    let f = fault-at (form_of a.from) a.words.now (sym c.in-Some.ensures) in
-    rw (t, f.0, f.1, c.bad_deck.ensures)
+    let f = faulty (form_of a.from) a.words.now c.in_err-checked.ensures in
+    rw (same-error _ c.from_residual-in_err-checked.ensures, t, f.0, f.1)
 
-pub returns-in-Some-clause-moved_after : goal.returns-in-Some-clause-moved_after
+pub returns-in_err-checked-clause-moved_after : goal.returns-in_err-checked-clause-moved_after
 unfolding move_words
-returns-in-Some-clause-moved_after c =
+returns-in_err-checked-clause-moved_after c =
     let a = c.args in
     let t = admits WrongSize (wrong_words a.moved.now) c.in_ok-refused_if.ensures in
-    let f = fault-at (form_of a.from) a.words.now (sym c.in-Some.ensures) in
+    let f = faulty (form_of a.from) a.words.now c.in_err-checked.ensures in
     rw (t, f.0)
 
 pub unpack-count-requires : goal.unpack-count-requires
-unpack-count-requires c = (no-fault (form_of c.args.from) c.args.words.now (sym c.in_default.ensures), search rules)
+unpack-count-requires c = (valid (form_of c.args.from) c.args.words.now c.in_ok-checked.ensures, search rules)
 
 -- what was read is the configuration
 configuration : (form : Form) (words entries : List ℕ) (count : ℕ) → is_deck form words ≡ true
@@ -67,12 +68,12 @@ few-read form words n v e = let few = configuration-few form words v in omega ar
 
 pub slice_bounds-entries-end : goal.slice_bounds-entries-end
 slice_bounds-entries-end c =
-    let v = no-fault (form_of c.args.from) c.args.words.now (sym c.in_default.ensures) in
+    let v = valid (form_of c.args.from) c.args.words.now c.in_ok-checked.ensures in
     omega (arith, few-read (form_of c.args.from) c.args.words.now c.unpack-count.result v c.unpack-count.ensures.0, c.unpack-count.auto.entries)
 
 pub slice_bounds-pack-end : goal.slice_bounds-pack-end
 slice_bounds-pack-end c =
-    let v = no-fault (form_of c.args.from) c.args.words.now (sym c.in_default.ensures) in
+    let v = valid (form_of c.args.from) c.args.words.now c.in_ok-checked.ensures in
     simp length-take (omega (arith, few-read (form_of c.args.from) c.args.words.now c.unpack-count.result v c.unpack-count.ensures.0, c.unpack-count.auto.entries))
 
 pub returns : goal.returns
@@ -85,7 +86,7 @@ returns c =
     let moved = a.moved.now in
     let t = admits WrongSize (wrong_words moved) c.in_ok-refused_if.ensures in
     let lent = eqb-true (length moved) 129 (not-false _ t) in
-    let v = no-fault from words (sym c.in_default.ensures) in
+    let v = valid from words c.in_ok-checked.ensures in
     let p = c.pack.ensures in
     let deck = ap₂ deck_of (ap form_of c.other.ensures) (configuration from words c.unpack-count.new.entries c.unpack-count.result v c.unpack-count.ensures) in
     let count : c.pack.result ≡ length (moved_words from to words) = p.0 ∙ ap length deck in

@@ -67,7 +67,7 @@ pub record Attachments (bond : ℕ → ℕ → Float) (left : List ℕ) (energie
 
 -- the energy of a friend's entry, from what it compared
 abbrev pub settled_of : List Float → List Float → List Float → ℕ → Float
-settled_of sites potentials best x = sub binary64 (add binary64 (get_or best x nan) (get_or sites x nan)) (get_or potentials x nan)
+settled_of scaffold_bonds potentials best x = sub binary64 (add binary64 (get_or best x nan) (get_or scaffold_bonds x nan)) (get_or potentials x nan)
 
 -- the first k energies of a row are those of its strands
 abbrev pub Energies : (ℕ → Float) → List ℕ → ℕ → List Float → Type 0

@@ -1,12 +1,12 @@
 use Rattle.jobs.proofs.Stretches.{stretches-same}
 use Rattle.jobs.proofs.Figures.{energies-admitted, counts-admitted, stretch-admitted}
 use Rattle.jobs.specs.inner.Settled.{energy_of_word, stretches_in}
-use Rattle.design.specs.Design.{Design, positions, model_of}
+use Rattle.design.specs.Design.{Design, positions, strands, model_of}
 use Rattle.design.specs.Checks.{Admitted}
 use Rattle.ensemble.proofs.OptionRows.{product_is}
 use Rattle.mfe.proofs.Shown.{placed}
 use Rattle.model.specs.Search as Search
-use Rattle.prepared.specs.Layout.{StateCells}
+use Rattle.prepared.specs.Layout.{StateBonds}
 use lib.Ieee.{Float}
 use lib.ListN.{length, replicate, length-take}
 use native.Mathlib.Omega.{arith}
@@ -23,7 +23,7 @@ invariant_of-settled c =
     record {
       same_strands = p.same_strands;
       option_rows = p.option_rows;
-      state_cells = rw (bonds.strand_bonds, bonds.scaffold_bonds, bonds.potentials, c.potentials.ensures, p.same_strands, sym c.admitted.view_is) (c.fill_bonds.ensures d.marks c.admitted.invariant.admitted (rw c.admitted.view_is p.option_rows));
+      state_cells = rw (bonds.strand_bonds, bonds.scaffold_bonds, bonds.potentials, bonds.strands, c.potentials.ensures, sym c.admitted.view_is) (c.fill_bonds.ensures d.marks c.admitted.invariant.admitted (rw c.admitted.view_is p.option_rows));
       counted = c.args.counted.now.counted;
     }
 
@@ -49,8 +49,9 @@ returns c =
     let number : length shown ≡ n = c.lowest-least.auto.configuration ∙ (omega (arith, length-take n (replicate {A = ℕ} 128 0))) in
     let bonds = c.new-bonds.ensures in
     let inside = c.admitted.inside.design.now in
-    let cells : StateCells (model_of d) a.counted.now.options.strands c.new-bonds.result.strand_bonds.cells.now c.new-bonds.result.scaffold_bonds.now c.new-bonds.result.potentials.now = rw (bonds.strand_bonds, bonds.scaffold_bonds, bonds.potentials, c.potentials.ensures, p.same_strands, sym c.admitted.view_is) (c.fill_bonds.ensures inside.marks c.admitted.invariant.admitted (rw c.admitted.view_is p.option_rows)) in
-    let found = c.lowest-least.ensures (model_of d) p.option_rows cells.searched (rw (sym c.admitted.view_is, c.rt.ensures) refl) in
+    let cells : StateBonds (model_of d) c.new-bonds.result = rw (bonds.strand_bonds, bonds.scaffold_bonds, bonds.potentials, bonds.strands, c.potentials.ensures, sym c.admitted.view_is) (c.fill_bonds.ensures inside.marks c.admitted.invariant.admitted (rw c.admitted.view_is p.option_rows)) in
+    let same : c.new-bonds.result.strand_bonds.strands ≡ a.counted.now.options.strands = bonds.strands ∙ ap length c.potentials.ensures ∙ ap strands c.admitted.view_is ∙ sym p.same_strands in
+    let found = c.lowest-least.ensures (model_of d) (record { options = p.option_rows; bonds = rw (sym same) cells.searched }) (rw (sym c.admitted.view_is, c.rt.ensures) refl) in
     let held = a.counted.now.counted ∙ ap (λ (n : ℕ). min n 1048577) (product_is p.option_rows) in
     let size : length (Search.search (model_of d)).configuration ≡ positions d = ap length (sym found.shown) ∙ number ∙ placed d p.option_rows in
     record {

@@ -1,10 +1,9 @@
-use Rattle.jobs.proofs.Sheets.{right, sheet-answered, unfit-tables, unfit-numbers, fit}
+use Rattle.jobs.proofs.Sheets.{right, sheet-answered, unfit-tables, unfit-numbers}
 use Rattle.jobs.proofs.Stretches.{stretches-kept}
 use Rattle.jobs.proofs.Figures.{Unfit, energies-unfit, counts-unfit, stretch-unfit}
 use Rattle.jobs.specs.Sheet.{Sheet, sheet, wrong_sheet}
 use Rattle.reply.proofs.Asked.{admits}
 use Rattle.reply.specs.declared.Refusal.TheVariants.{WrongSize}
-use Rattle.design.proofs.Sizes.{sized}
 use Rattle.design.specs.Design.{Design}
 use Rattle.doubles.specs.Decimal.{zero}
 use lib.Ieee.{of_bits}
@@ -15,22 +14,9 @@ use mathlib.Core.Path.{◌≡◌, sym, ap, ◌∙◌}
 use Rattle.jobs.proofs.job_sheet.Goals as goal
 use Rattle.jobs.proofs.job_sheet.Goals.{in_default-via-in-Ok+in-Err-1, in_default-via-in-Err-1}
 use Rattle.jobs.specs.inner.Judged.{tables_of, numbers_of}
-use Rattle.std.specs.Prelude.{Ok}
 use Rattle.std.specs.Result.{is_err}
 use Rattle.std.proofs.Common.{rules}
 use mathlib.Core.Bool.{true}
-
-pub invariant_of-admitted : goal.invariant_of-admitted
-invariant_of-admitted c =
-    let d : Design = c.args.design.now in
-    let e : c.judge-judged.result ≡ Ok (record { counted = c.in-Ok-Ok.counted; numbers = Ok tt }) = search rules in
-    let admitted = fit d c.judge-judged.ensures.judged_right e in
-    let z = sized d admitted.sizes in record {
-      admitted = admitted;
-      short = z.short;
-      some = z.null;
-      few = z.few;
-    }
 
 pub returns-in_default : goal.returns-in_default
 unfolding of_bits
@@ -38,7 +24,7 @@ returns-in_default c =
     let a = c.args in
     let d : Design = a.design.now in
     let s : Sheet = sheet a.jobs.now a.numbers.now a.energies.now a.counts.now a.stretches.now in
-    let e : wrong_sheet d s ≡ false = rw c.positions-positions.ensures at (sym c.wrong_sheet-wrong.ensures ∙ admits WrongSize c.wrong_sheet-wrong.result c.in_ok-refused_if.ensures) in
+    let e : wrong_sheet d s ≡ false = rw c.positions.ensures at (sym c.wrong_sheet-wrong.ensures ∙ admits WrongSize c.wrong_sheet-wrong.result c.in_ok-refused_if.ensures) in
     let r = right d s e in
     let judged = c.judge-judged.ensures.judged_right in
     let u : Unfit d = elim c.in_default.branch [

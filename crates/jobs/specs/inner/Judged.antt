@@ -20,17 +20,21 @@ abbrev pub ◌or_next◌ : Result Unit Refusal → Result Unit Refusal → Resul
 (Ok u) or_next next = next
 (Err refusal) or_next next = Err refusal
 
+-- the reply of what gives something where it admits
+abbrev pub reply_of : {A : Type 0} → Result A Refusal → Result Unit Refusal
+reply_of (Ok given) = Ok tt
+reply_of (Err refusal) = Err refusal
+
 -- the reply of the tables, and where they pass how many states were counted and the reply of the numbers
 abbrev pub tables_of : Result Judged Refusal → Result Unit Refusal
-tables_of (Ok judged) = Ok tt
-tables_of (Err refusal) = Err refusal
+tables_of judged = reply_of judged
 
 abbrev pub states_of : Result Judged Refusal → ℕ
 states_of (Ok judged) = judged.counted.states
 states_of (Err refusal) = 0
 
 abbrev pub numbers_of : Result Judged Refusal → Result Unit Refusal
-numbers_of (Ok judged) = judged.numbers
+numbers_of (Ok judged) = reply_of judged.admitted
 numbers_of (Err refusal) = Ok tt
 
 -- what a job replies by what its design was judged for

@@ -19,8 +19,10 @@ returns-then-this-ne0-2-clause-ring g c = λ closed.
       | then-this-ne0 w ↦
           let closing = w.fill_closing_bonds in
           let pairs = pairs-kept (strand_bond_in d) (rw given.same_strands at c.options_of-options.result.searchable) filled.new.cells closing.new.cells closing.ensures.kept filled.ensures in
-          c.lowest_ring.ensures (model_of d) options
-          (rw (bonds.strand_bonds, bonds.scaffold_bonds, bonds.potentials, c.potentials.ensures, given.same_strands, w.strand_bonds-is) (bond-cells d c.admitted.invariant.admitted options pairs sites))
+          c.lowest_ring.ensures (model_of d) (record {
+            options = options;
+            bonds = rw (bonds.strand_bonds, bonds.scaffold_bonds, bonds.potentials, c.potentials.ensures, given.same_strands, w.strand_bonds-is) (bond-cells d c.admitted.invariant.admitted options pairs sites);
+          })
           (rw (bonds.strand_bonds, given.same_strands, w.strand_bonds-is) (closing-cells d closing.new.cells options closing.ensures.closing_held))
           (rw c.rt.ensures refl)
       | else-this-ne0 w ↦ absurd (c.if-this-ne0-2.true w.if-this-ne0.false)
@@ -38,7 +40,9 @@ returns-else-this-ne0-2-clause-chain g c = λ chain.
     rw (sym c.admitted.view_is) (elim c.if-this-ne0.branch [
       | then-this-ne0 w ↦ absurd (w.if-this-ne0.true c.if-this-ne0-2.false)
       | else-this-ne0 w ↦
-          c.lowest.ensures (model_of d) options
-          (rw (bonds.strand_bonds, bonds.scaffold_bonds, bonds.potentials, c.potentials.ensures, given.same_strands, w.strand_bonds-is) (bond-cells d c.admitted.invariant.admitted options pairs sites))
+          c.lowest.ensures (model_of d) (record {
+            options = options;
+            bonds = rw (bonds.strand_bonds, bonds.scaffold_bonds, bonds.potentials, c.potentials.ensures, given.same_strands, w.strand_bonds-is) (bond-cells d c.admitted.invariant.admitted options pairs sites);
+          })
           (rw c.rt-else-this-ne0-2.ensures refl)
     ])

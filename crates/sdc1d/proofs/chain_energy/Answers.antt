@@ -13,6 +13,6 @@ unfolding chain_product model_of
 returns c =
     let m = model_of c.args.design.now in
     let s = c.args.configuration.now in
-    let sum = c.chain_sum-sum.ensures m (c.fill_terms.ensures c.args.design.now.marks) in
+    let sum = c.chain_sum-sum.ensures m (c.terms_of-terms.ensures c.args.design.now.marks) in
     let energy : c.mul.result.0 ≡ chain_product m s = rw (c.mul.ensures, c.rt.ensures, sum) refl in
     ap₂ (λ (bare product : Float). given (record { bare = bare; times_rt = product })) sum energy ∙ answered-by no_chain ((record { bare = chain_energy m s; times_rt = chain_product m s })) (sym c.energy_reply.ensures.value ∙ c.in_ok-energy_reply.was)

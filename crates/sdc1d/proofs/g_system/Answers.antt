@@ -11,6 +11,6 @@ pub returns : goal.returns
 unfolding state_energy model_of
 returns c =
     let d = c.args.design.now in
-    let sum = c.state_sum-sumg.ensures (model_of d) (c.fill_terms.ensures d.marks) in
+    let sum = c.state_sum-sumg.ensures (model_of d) (c.terms_of-terms.ensures d.marks) in
     let energy : c.mul.result.0 ≡ state_energy (model_of d) c.args.attachments.now = rw (c.mul.ensures, c.rt.ensures, sum) refl in
     ap given energy ∙ answered-by zero (state_energy (model_of d) c.args.attachments.now) (sym c.energy_reply.ensures.value ∙ c.in_ok-energy_reply.was)

@@ -23,11 +23,11 @@ mirror c = cell c.column c.row
 
 -- the first name of an entry, which is always there
 abbrev pub first_of : Entry → LentName
-first_of e = record { mark = 1; start = e.first_start; size = e.first_size }
+first_of e = record { mark = 1; part = e.first }
 
 -- the cell of an entry among these bases
 abbrev pub cell_among : List Name → List ℕ → Entry → Cell
-cell_among bases text e = cell_of bases (part_of text e.first_start e.first_size) (glue_of text e.second)
+cell_among bases text e = cell_of bases (part_of text e.first.start e.first.size) (glue_of text e.second)
 
 -- the cell of entry i among these bases
 abbrev pub cell_at : List Name → List ℕ → List ℕ → List Float → ℕ → Cell

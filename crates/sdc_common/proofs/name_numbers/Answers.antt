@@ -1,15 +1,13 @@
 -- `sdc_common::name_numbers` meets its contract: both lists of names are fit, and the table holds the bases of the strands. Assumes nothing.
 use mathlib.Core.Path.{◌≡◌, ap, sym, ◌∙◌}
 use mathlib.Core.Bool.{false}
-use Prim.Native.Nat.{◌*◌}
-use native.Mathlib.Omega.{arith}
 use lib.ListN.{length}
 use Rattle.reply.specs.declared.Refusal.TheVariants.{WrongSize}
 use Rattle.sdc_common.specs.Lent.{names_of, unfit_names}
-use Rattle.sdc_common.specs.Calls.{unfit_strands, given_numbers, name_numbers, numbers_after}
+use Rattle.sdc_common.specs.Calls.{given_numbers, name_numbers, numbers_after}
 use Rattle.reply.proofs.Asked.{admits, refused, exits}
 use Rattle.sdc_common.proofs.Given.{numbers-given}
-use Rattle.sdc_common.proofs.Fit.{rows-many, fit-names, few-strands, fit-glues}
+use Rattle.sdc_common.proofs.Fit.{rows-many, fit-names, strands-fit, strands-few}
 use Rattle.sdc_common.proofs.name_numbers.Goals as goal
 
 pub returns-in_err-refused_if-clause-result_value : goal.returns-in_err-refused_if-clause-result_value
@@ -41,14 +39,8 @@ returns-in_err-refused_if-2-clause-numbers_after c =
 pub new-bases-requires : goal.new-bases-requires
 new-bases-requires c =
     let a = c.args in
-    let strands = names_of a.strands.now in
-    let fit : unfit_strands a.users a.text.now strands ≡ false = sym c.unfit_strands.ensures ∙ admits WrongSize _ c.in_ok-refused_if.ensures in
-    let few = few-strands a.users a.text.now strands fit in
-    let glues = fit-glues a.users a.text.now strands fit in
-    record {
-      fit_names = fit-names (3 * a.users) a.text.now a.strands.now glues;
-      names_len_bound = omega (arith, rows-many (3 * a.users) a.text.now a.strands.now glues);
-    }
+    let fit = sym c.unfit_strands.ensures ∙ admits WrongSize _ c.in_ok-refused_if.ensures in
+    record { fit_names = strands-fit a.users a.text.now a.strands.now fit; names_len_bound = strands-few a.users a.text.now a.strands.now fit }
 
 pub fill_numbers-requires : goal.fill_numbers-requires
 fill_numbers-requires c =

@@ -1,17 +1,16 @@
 -- `sdc_common::strand_glues` meets its contract: the names are fit, and at most 31 bases have numbers that fit a byte. Assumes nothing.
-use mathlib.Core.Path.{◌≡◌, sym, ◌∙◌}
-use mathlib.Core.Bool.{false, not}
+use mathlib.Core.Path.{sym, ◌∙◌}
+use mathlib.Core.Bool.{not}
 use Prim.Native.Nat.{◌*◌, ◌≤◌}
-use native.Mathlib.Omega.{arith}
 use lib.Dec.{eqb, ltb}
 use lib.ListN.{length}
 use borrow.Author.Tests.{eqb-true, not-false, ltb-true, ltb-false}
 use Rattle.reply.specs.declared.Refusal.TheVariants.{WrongSize, TooManyGlues}
 use Rattle.sdc_common.specs.Lent.{names_of}
-use Rattle.sdc_common.specs.Calls.{unfit_strands, strand_glues, glues_after}
+use Rattle.sdc_common.specs.Calls.{strand_glues, glues_after}
 use Rattle.reply.proofs.Asked.{admits, refused, exits}
 use Rattle.sdc_common.proofs.Given.{glues-many, glues-given}
-use Rattle.sdc_common.proofs.Fit.{rows-many, fit-names, few-strands, fit-glues}
+use Rattle.sdc_common.proofs.Fit.{strands-many, strands-fit, strands-few}
 use Rattle.sdc_common.proofs.strand_glues.Goals as goal
 
 pub returns-in_err-refused_if-clause-result_value : goal.returns-in_err-refused_if-clause-result_value
@@ -43,14 +42,8 @@ returns-in_err-refused_if-2-clause-glues_after c =
 pub new-bases-requires : goal.new-bases-requires
 new-bases-requires c =
     let a = c.args in
-    let strands = names_of a.strands.now in
-    let fit : unfit_strands a.users a.text.now strands ≡ false = sym c.unfit_strands.ensures ∙ admits WrongSize _ c.in_ok-refused_if.ensures in
-    let few = few-strands a.users a.text.now strands fit in
-    let glues = fit-glues a.users a.text.now strands fit in
-    record {
-      fit_names = fit-names (3 * a.users) a.text.now a.strands.now glues;
-      names_len_bound = omega (arith, rows-many (3 * a.users) a.text.now a.strands.now glues);
-    }
+    let fit = sym c.unfit_strands.ensures ∙ admits WrongSize _ c.in_ok-refused_if.ensures in
+    record { fit_names = strands-fit a.users a.text.now a.strands.now fit; names_len_bound = strands-few a.users a.text.now a.strands.now fit }
 
 pub returns-in_err-refused_if-3 : goal.returns-in_err-refused_if-3
 returns-in_err-refused_if-3 c =
@@ -67,13 +60,11 @@ returns-in_err-refused_if-3 c =
 pub fill_glues-requires : goal.fill_glues-requires
 fill_glues-requires c =
     let a = c.args in
-    let strands = names_of a.strands.now in
     let fit = sym c.unfit_strands.ensures ∙ admits WrongSize _ c.in_ok-refused_if.ensures in
-    let glues = fit-glues a.users a.text.now strands fit in
     let lent = eqb-true _ _ (not-false _ (admits WrongSize (not (eqb (length a.glues.now) (3 * a.users))) c.in_ok-refused_if-2.ensures)) in
     record {
-      fit_names = fit-names (3 * a.users) a.text.now a.strands.now glues;
-      glues_len = lent ∙ sym (rows-many (3 * a.users) a.text.now a.strands.now glues);
+      fit_names = strands-fit a.users a.text.now a.strands.now fit;
+      glues_len = lent ∙ sym (strands-many a.users a.text.now a.strands.now fit);
       count_bound = rw (← c.len.ensures) (ltb-false _ _ (admits TooManyGlues (ltb 31 c.len.result) c.in_ok-refused_if-3.ensures));
     }
 

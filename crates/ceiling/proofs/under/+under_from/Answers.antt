@@ -61,7 +61,7 @@ returns-in-Some t c =
     let strand = get_or c.of-strand-items.result.now l.strand-index 0 in
     let option : (strand ≡ 0) ⊎ Friend m a.position strand = rw is (own m a.position (get_or (options_at m a.position) l.strand-index 0) (mem-get_or 0 (options_at m a.position) l.strand-index inside)) in
     let next = c.begin-next in
-    let sum_is_lem = (rw (a.lent.now.same_strands) at next.ensures.sum_value) ∙ begun-is w a.position a.begun.strand strand a.begun.sum here p.strand_in_bounds beside option in
+    let sum_is_lem = next.ensures.sum_value ∙ begun-is w a.position a.begun.strand strand a.begun.sum here (rw a.lent.now.same_strands p.strand_in_bounds) beside option in
     let new = c.under_from-found.ensures m o w e (rw next.ensures.strand_value (beside-next m a.position strand option)) in
     let old = l.invariant m o w e beside in
     step-some m a.limit.ceiling a.position a.begun.strand a.begun.sum l.strand-index a.entries.now l.entries _ _ here inside room is next.ensures.strand_value sum_is_lem old.0 old.1 new _ c.in-Some.is
@@ -82,7 +82,7 @@ loop-strand-preserved t c =
     let strand = get_or c.of-strand-items.result.now l.strand-index 0 in
     let option : (strand ≡ 0) ⊎ Friend m a.position strand = rw is (own m a.position (get_or (options_at m a.position) l.strand-index 0) (mem-get_or 0 (options_at m a.position) l.strand-index inside)) in
     let next = c.begin-next in
-    let sum_is_lem = (rw (a.lent.now.same_strands) at next.ensures.sum_value) ∙ begun-is w a.position a.begun.strand strand a.begun.sum here p.strand_in_bounds beside option in
+    let sum_is_lem = next.ensures.sum_value ∙ begun-is w a.position a.begun.strand strand a.begun.sum here (rw a.lent.now.same_strands p.strand_in_bounds) beside option in
     let new = c.under_from-found.ensures m o w e (rw next.ensures.strand_value (beside-next m a.position strand option)) in
     let old = l.invariant m o w e beside in
     step-none m a.limit.ceiling a.position a.begun.strand a.begun.sum l.strand-index a.entries.now l.entries _ _ here inside room is next.ensures.strand_value sum_is_lem old.0 old.1 new c.in_default.is

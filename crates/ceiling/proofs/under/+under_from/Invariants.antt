@@ -4,7 +4,7 @@ use Prim.Native.Nat.{◌-◌}
 use lib.ListN.{length}
 use Rattle.model.specs.Model.{Model}
 use Rattle.ensemble.specs.Layout.{OptionRows}
-use Rattle.prepared.specs.Layout.{StateCells}
+use Rattle.prepared.specs.Layout.{StateBonds}
 use Rattle.prepared.specs.inner.Sums.{Beside}
 use Rattle.ceiling.proofs.Passing.{rest_from}
 use Rattle.ceiling.proofs.under.+under_from.Given as goal
@@ -14,5 +14,5 @@ decreases-under_from l = length l.lent.now.options.counts.now - l.position
 
 abbrev pub invariant-loop-strand : goal.invariant-loop-strand
 invariant-loop-strand l =
-    (m : Model) → OptionRows m l.lent.options.rows.now l.lent.options.counts.now → StateCells m l.lent.options.strands l.lent.bonds.strand_bonds.cells.now l.lent.bonds.scaffold_bonds.now l.lent.bonds.potentials.now → l.limit.rt ≡ m.rt → Beside m l.position l.begun.strand
+    (m : Model) → OptionRows m l.lent.options.rows.now l.lent.options.counts.now → StateBonds m l.lent.bonds → l.limit.rt ≡ m.rt → Beside m l.position l.begun.strand
     → (l.entries ≡ l.initial.entries) × (rest_from m l.limit.ceiling l.position l.begun.strand l.begun.sum 0 ≡ rest_from m l.limit.ceiling l.position l.begun.strand l.begun.sum l.strand-index)

@@ -1,18 +1,14 @@
-use native.Mathlib.Omega.{arith}
+use mathlib.Core.Path.{◌∙◌}
+use mathlib.Core.Bool.{false, ◌||◌}
 use lib.Dec.{ltb}
-use borrow.Author.Tests.{lt-ltb, le-ltb}
-use Rattle.lists.proofs.Any.{here, later, past}
+use Rattle.std.proofs.Common.{rules, tests}
+use Rattle.std.proofs.lemmas.Iterator.{YieldsList-from_slice}
+use Rattle.std.proofs.lemmas.Iterator.Consumers.{fold_from_yields_List}
+use Rattle.design.proofs.Folded.{fold_any}
 use Rattle.design.proofs.checks.some_above.Goals as goal
-use Rattle.design.proofs.checks.some_above.Goals.{then-most-number, else-most-number}
-
-pub loop-number-preserved : goal.loop-number-preserved
-loop-number-preserved c =
-    let a = c.args in
-    let l = c.loop-number in
-    elim c.if-most-number.branch [
-      | then-most-number w ↦ rw w.above-is (omega arith, here (ltb a.most) a.numbers.now l.number-index l.above 0 (omega arith) (lt-ltb _ _ w.if-most-number.true) l.invariant.1)
-      | else-most-number w ↦ rw w.above-is (omega arith, later (ltb a.most) a.numbers.now l.number-index l.above 0 (omega arith) (le-ltb _ _ w.if-most-number.false) l.invariant.1)
-    ]
 
 pub returns : goal.returns
-returns c = past (ltb c.args.most) c.args.numbers.now c.loop-number.number-index c.loop-number.above (omega arith) c.loop-number.invariant.1
+returns c =
+    let test = ltb c.args.most in
+    fold_from_yields_List _ (λ above number. above || test number) false c.fold.result c.fold.ensures.ran (YieldsList-from_slice c.args.numbers.now cc) (λ above x b q k. (search (rules, tests), search (rules, tests)))
+    ∙ fold_any test c.args.numbers.now

@@ -1,20 +1,12 @@
 use mathlib.Core.Path.{◌≡◌, refl, ap, ◌∙◌}
-use mathlib.Core.List.{List}
-use Prim.Native.Nat.{ℕ, ◌+◌, ◌<◌}
+use Prim.Native.Nat.{ℕ, ◌+◌}
 use native.Mathlib.Omega.{arith}
-use lib.ListN.{length, get_or, set}
-use lib.Seq.{get_or-set_same, get_or-set_other}
-use borrow.Author.Count.{below_more}
+use lib.ListN.{get_or}
 use Rattle.ensemble.specs.declared.energies.Terms.{Terms}
-use Rattle.ensemble.specs.Layout.{terms_at}
+use Rattle.design.proofs.Parts.{places_more}
 use Rattle.design.specs.Design.{scaffold_bond, strand_bond_in, scaffold_bond_in, model_of}
 use Rattle.design.proofs.terms.fill_terms.Invariants.{place}
 use Rattle.design.proofs.terms.fill_terms.Goals as goal
-
--- one place more
-stored : (f : ℕ → Terms) (xs : List Terms) (i : ℕ) {v : Terms} → i < length xs → v ≡ f i → ((k : ℕ) → k < i → terms_at xs k ≡ f k) → (k : ℕ) → k < i + 1 → terms_at (set xs i v) k ≡ f k
-stored f xs i {v} h e before =
-    below_more (λ (k : ℕ). terms_at (set xs i v) k ≡ f k) i (λ k l. get_or-set_other xs i k v _ (λ same. omega arith) ∙ before k l) (get_or-set_same xs i v _ h ∙ e)
 
 pub loop-position-preserved : goal.loop-position-preserved
 loop-position-preserved c =
@@ -24,7 +16,7 @@ loop-position-preserved c =
     let i = l.position in
     let site : c.scaffold_bond.result ≡ scaffold_bond_in d i (get_or s i 0) = c.scaffold_bond.ensures ∙ ap (λ (glue : ℕ). scaffold_bond glue d.glues d.dg d.ds d.ambient (get_or s i 0)) c.scaffold_glue.ensures in
     let pair : c.strand_bond.result ≡ strand_bond_in d (get_or s i 0) (get_or s (i + 1) 0) = c.strand_bond.ensures ∙ ap (strand_bond_in d (get_or s i 0)) c.byte_at-right.ensures in
-    stored (place d s) l.terms i (omega (arith, c.requires)) (rw (site, pair, c.potential_of.ensures) refl) l.invariant
+    places_more (place d s) l.terms _ i (omega (arith, c.requires)) (rw (site, pair, c.potential_of.ensures) refl) l.invariant
 
 pub returns : goal.returns
 unfolding model_of

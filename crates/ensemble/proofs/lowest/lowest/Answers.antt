@@ -10,9 +10,10 @@ use Rattle.ensemble.proofs.Passing.{own-options, found}
 use Rattle.ensemble.proofs.lowest.lowest.Goals as goal
 
 pub returns : goal.returns
-returns c = λ m o b e.
+returns c = λ m w e.
+    let o = w.options in
     let p = c.pass-options in
-    let passed = p.ensures.passed m (options_at m) o b (own-options m) (λ i h. refl) (record { entries = record { are = refl; entries = below_none _ }; choices = λ i h. absurd (not-suc-le-zero h) }) in
+    let passed = p.ensures.passed m (options_at m) w (own-options m) (λ i h. refl) (record { entries = record { are = refl; entries = below_none _ }; choices = λ i h. absurd (not-suc-le-zero h) }) in
     let low = c.lowest_product-lowest in
     let choices = p.new.choices in
     found choices.friends choices.empty p.result.now p.new.energies c.args.rt.0 low.result c.trace.new.configuration e low.ensures.chosen

@@ -7,5 +7,5 @@ use Rattle.ensemble.proofs.positions.mfe_next_vector.Given as goal
 abbrev pub invariant-loop-k : goal.invariant-loop-k
 invariant-loop-k l = record {
   wide : length l.energies ≡ 64;
-  settled : Energies (settled_of l.sites l.potentials l.best) l.friends l.k l.energies;
+  settled : Energies (settled_of l.scaffold_bonds l.potentials l.best) l.friends l.k l.energies;
 }

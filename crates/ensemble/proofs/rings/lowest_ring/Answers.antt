@@ -13,7 +13,7 @@ loop-option-init c =
     record {
       option-known = omega (arith, row.some, row.sized);
       sized = c.ring_from-least.auto.configuration ∙ c.requires.configuration_len;
-      tried = λ m o b closing e. ring-first m (c.ring_from-least.ensures m o b closing e);
+      tried = λ m w closing e. ring-first m (c.ring_from-least.ensures m w closing e);
     }
 
 pub loop-option-preserved : goal.loop-option-preserved
@@ -25,10 +25,10 @@ loop-option-preserved c =
     record {
       option-known = elim c.if-energy-least.branch [ goal.then-energy-least u ↦ rw u.kept-is inside | goal.else-energy-least u ↦ rw u.kept-is l.invariant.option-known ];
       sized = c.ring_from-energy.auto.configuration ∙ l.invariant.sized;
-      tried = λ m o b closing e.
-          let old = l.invariant.tried m o b closing e in
-          let new = c.ring_from-energy.ensures m o b closing e in
-          let in_row : l.option < length (options_at m 0) = rw (← count-is o 0 (rw (sym o.positions) some)) inside in
+      tried = λ m w closing e.
+          let old = l.invariant.tried m w closing e in
+          let new = c.ring_from-energy.ensures m w closing e in
+          let in_row : l.option < length (options_at m 0) = rw (← count-is w.options 0 (rw (sym w.options.positions) some)) inside in
           elim c.if-energy-least.branch [
             | goal.then-energy-least u ↦ rw (u.least-is, u.kept-is) (ring-less m l.option l.kept old in_row new u.if-energy-least.true)
             | goal.else-energy-least u ↦ rw (u.least-is, u.kept-is) (ring-stays m l.option l.kept old in_row new u.if-energy-least.false)
@@ -36,9 +36,9 @@ loop-option-preserved c =
     }
 
 pub returns : goal.returns
-returns c = λ m o b closing e.
+returns c = λ m w closing e.
     let l = c.loop-option in
     let row = c.of-option-end.ensures in
     let some : 0 < length c.args.lent.now.options.counts.now = omega arith in
-    let all = count-is o 0 (rw (sym o.positions) some) in
-    ring-found m l.option l.kept (l.invariant.tried m o b closing e) (omega (arith, c.loop-option-test.false, row.sized, all)) (c.ring_from.ensures m o b closing e)
+    let all = count-is w.options 0 (rw (sym w.options.positions) some) in
+    ring-found m l.option l.kept (l.invariant.tried m w closing e) (omega (arith, c.loop-option-test.false, row.sized, all)) (c.ring_from.ensures m w closing e)

@@ -3,7 +3,7 @@ use mathlib.Core.Path.{◌≡◌}
 use Prim.Native.Nat.{◌<◌}
 use lib.ListN.{length, get_or}
 use Rattle.model.specs.Model.{Model}
-use Rattle.ensemble.specs.Layout.{OptionRows, BondCells}
+use Rattle.ensemble.specs.Lends.{Lends}
 use Rattle.ensemble.specs.Ring.{ClosingCells}
 use Rattle.ensemble.proofs.FirstOccupants.{KeptRing}
 use Rattle.ensemble.proofs.rings.lowest_ring.Given as goal
@@ -12,5 +12,5 @@ abbrev pub invariant-loop-option : goal.invariant-loop-option
 invariant-loop-option l = record {
   option-known : l.kept < get_or l.lent.options.counts.now 0 0;
   sized : length l.configuration ≡ length l.lent.options.counts.now;
-  tried : (m : Model) → OptionRows m l.lent.options.rows.now l.lent.options.counts.now → BondCells m l.lent.options.strands l.lent.bonds.strand_bonds.cells.now l.lent.bonds.scaffold_bonds.now l.lent.bonds.potentials.now → ClosingCells m l.lent.options.strands l.lent.bonds.strand_bonds.cells.now → l.rt.0 ≡ m.rt → KeptRing m l.option l.kept l.least;
+  tried : (m : Model) → Lends m l.lent → ClosingCells m l.lent.options.strands l.lent.bonds.strand_bonds.cells.now → l.rt.0 ≡ m.rt → KeptRing m l.option l.kept l.least;
 }

@@ -20,8 +20,8 @@ any-requires-clause-callable c =
     let l = c.args.lent.now in
     serves_from_places (YieldsList-from_slice c.friends.result.now cc) (λ x q k. search rules)
     (λ x k g e _ _ _ _ _ _ _ _. (
-      friend-below (weights_of l.weights) l.options.rows.now l.options.counts.now (searchable l) c.args.position k x.now (omega (arith, c.requires)) c.friends.ensures g e,
-      λ j h. rw c.friends-next.ensures (friends-below (weights_of l.weights) l.options.rows.now l.options.counts.now (searchable l) (c.args.position + 1) c.requires j (rw c.friends-next.ensures at h)),
+      friend-below (weights_of l.weights) l.options.rows.now l.options.counts.now (searchable l) c.args.position k x.now (omega (arith, c.requires)) c.friends.ensures.row g e,
+      λ j h. rw c.friends-next.ensures.row (friends-below (weights_of l.weights) l.options.rows.now l.options.counts.now (searchable l) (c.args.position + 1) c.requires j (rw c.friends-next.ensures.row at h)),
     ))
 
 pub returns : goal.returns
@@ -29,6 +29,6 @@ returns c =
     let l = c.args.lent.now in
     let p = pairs_out (weights_of l.weights) c.friends-next.result.now in
     any_from_yields_List p _ _ _ c.any.ensures.ran (YieldsList-from_slice c.friends.result.now cc) (λ x b q k. search (rules, tests))
-    ∙ any_is p c.friends.result.now ∙ ap (any p) c.friends.ensures
-    ∙ ap (λ (right : List ℕ). any (pairs_out (weights_of l.weights) right) (friends_at l.options.rows.now l.options.counts.now c.args.position)) c.friends-next.ensures
+    ∙ any_is p c.friends.result.now ∙ ap (any p) c.friends.ensures.row
+    ∙ ap (λ (right : List ℕ). any (pairs_out (weights_of l.weights) right) (friends_at l.options.rows.now l.options.counts.now c.args.position)) c.friends-next.ensures.row
     ∙ pairs-at (weights_of l.weights) l.options.rows.now l.options.counts.now (searchable l) c.args.position c.requires

@@ -15,6 +15,6 @@ returns c =
     let i = c.args.position in
     let friends = friends_at l.options.rows.now l.options.counts.now i in
     let row = c.place_row.result in
-    c.row_out.ensures ∙ ap (any (out_in row.digits.now row.powers.now)) c.friends-friends.ensures
+    c.row_out.ensures ∙ ap (any (out_in row.digits.now row.powers.now)) c.friends-friends.ensures.row
     ∙ any-below (out_in row.digits.now row.powers.now) (place_out w i) l.weights.strands friends (friends-below w l.options.rows.now l.options.counts.now (searchable l) i c.requires) (λ x h. ap unformed (c.place_row.ensures.weights x h))
     ∙ places-at w l.options.rows.now l.options.counts.now (searchable l) i c.requires

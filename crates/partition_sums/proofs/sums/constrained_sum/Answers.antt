@@ -1,7 +1,8 @@
 -- The sum over the states that meet a constraint meets its contract. Assumes nothing.
-use mathlib.Core.Path.{sym, ap, ◌∙◌}
+use mathlib.Core.Path.{◌≡◌, sym, ap, ◌∙◌}
 use native.Mathlib.Omega.{arith}
 use Rattle.partition.specs.Pass.{allowed}
+use Rattle.partition.specs.Sum.{zero_weight}
 use Rattle.partition.specs.Weights.{place_weight, pair_weight}
 use Rattle.partition.specs.Summed.{sum_of_weights}
 use Rattle.partition.specs.inner.Used.{PlaceFit, PairFit, InUse}
@@ -16,7 +17,8 @@ returns-then-contains c =
     let w = weights_of c.args.formed.now.lent.weights in
     let k = c.keep_allowed.ensures in
     let none = none-left-is k ∙ sym (c.contains.ensures.value ∙ any-contains c.keep_allowed.new.kept_counts 0) ∙ c.if-contains.true in
-    zero-sum 400000 (place_weight w) (pair_weight w) _ none ∙ ap (sum_of_weights w) (kept-options k c.requires.a_list_each)
+    let zero : c.default.result ≡ zero_weight = λ i. record { digits = c.default.ensures.0 i; power = c.default.ensures.1 i } in
+    zero ∙ zero-sum 400000 (place_weight w) (pair_weight w) _ none ∙ ap (sum_of_weights w) (kept-options k c.requires.a_list_each)
 
 pub invariant_of-options : goal.invariant_of-options
 invariant_of-options c =

@@ -6,6 +6,6 @@ use Rattle.prepared.proofs.bonds.fill_bonds.Goals as goal
 pub returns : goal.returns
 returns c =
     λ marks admitted options.
-    let d = c.args.design.now in
+    let d = c.args.optioned.now.design.now in
     let empties = c.fill_empties.ensures in
-    state-cells (remarked d marks) admitted options (pairs-kept (strand_bond_in d) (rw (c.requires.same_strands) at c.args.options.now.searchable) empties.kept c.fill_read_strand_bonds.ensures) empties.by_index c.fill_needed_scaffold_bonds.ensures
+    state-cells (remarked d marks) admitted options (pairs-kept (strand_bond_in d) (rw (c.args.optioned.now.same_strands) at c.args.optioned.now.options.searchable) empties.kept c.fill_read_strand_bonds.ensures) empties.by_index c.fill_needed_scaffold_bonds.ensures

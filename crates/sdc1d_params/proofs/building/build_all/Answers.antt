@@ -1,6 +1,5 @@
 -- `sdc1d_params::build_all` meets its contract: a refusal leaves what was lent, and an admitted set is written. Assumes nothing.
 use mathlib.Core.Path.{◌≡◌, refl, sym, ◌∙◌}
-use Prim.Native.Nat.{◌*◌}
 use native.Mathlib.Omega.{arith}
 use lib.Ieee.{of_bits}
 use lib.Seq.{length-take-le}
@@ -8,7 +7,7 @@ use Rattle.reply.specs.First.{first_of}
 use Rattle.reply.specs.declared.Refusal.TheVariants.{TwoStars}
 use Rattle.reply.proofs.Asked.{admits, exits}
 use Rattle.reply.proofs.Bare.{admitted, refusing}
-use Rattle.sdc_common.proofs.Fit.{fit-names, fit-glues}
+use Rattle.sdc_common.proofs.Fit.{strands-fit}
 use Rattle.sdc1d_params.specs.Entries.{entry_rows}
 use Rattle.sdc1d_params.specs.inner.Set.{set_of}
 use Rattle.sdc1d_params.specs.Params.{Outcome, lent_of, param_checks, build_checks}
@@ -48,7 +47,7 @@ check-requires-clause-cells_len c =
 pub refuses_names-requires : goal.refuses_names-requires
 refuses_names-requires c =
     let p = set_of c.args.set.now in
-    fit-names (3 * p.users) p.text c.args.set.now.lent.strands.now (fit-glues p.users p.text p.strands (fit (goal.at.refuses_names-requires c).In_ok-check).strands)
+    strands-fit p.users p.text c.args.set.now.lent.strands.now (fit (goal.at.refuses_names-requires c).In_ok-check).strands
 
 pub returns-in_err-refused_if : goal.returns-in_err-refused_if
 unfolding lent

@@ -1,8 +1,6 @@
 -- `sdc1d_params::check` meets its contract: each return is the first check that holds, and the last leaves what is written. Assumes nothing.
 use mathlib.Core.Path.{◌≡◌, ap, sym, ◌∙◌}
 use mathlib.Core.Bool.{false}
-use Prim.Native.Nat.{◌*◌}
-use native.Mathlib.Omega.{arith}
 use lib.Dec.{ltb}
 use borrow.Author.Tests.{ltb-true, ltb-false}
 use Rattle.lists.specs.Find.{any}
@@ -13,7 +11,7 @@ use Rattle.sdc_common.specs.Numbers.{numbers_among}
 use Rattle.sdc_common.specs.Spelled.{is_unknown}
 use Rattle.sdc_common.specs.Calls.{too_many_bases}
 use Rattle.reply.proofs.Asked.{admits, exits}
-use Rattle.sdc_common.proofs.Fit.{rows-many, fit-names, few-strands, fit-glues}
+use Rattle.sdc_common.proofs.Fit.{rows-many, fit-names, strands-fit, strands-few}
 use Rattle.sdc1d_params.specs.Entries.{has_bad_base, is_short}
 use Rattle.sdc1d_params.specs.Tables.{cells_of, duplicated, out_of_range}
 use Rattle.sdc1d_params.specs.inner.Set.{set_of, as_lent}
@@ -52,12 +50,8 @@ pub new-bases-requires : goal.new-bases-requires
 new-bases-requires c =
     let p = set_of c.args.set.now in
     let strands = (fit (goal.at.new-bases-requires c).In_ok-refused_if).strands in
-    let few = few-strands p.users p.text p.strands strands in
-    let glues = fit-glues p.users p.text p.strands strands in
-    record {
-      fit_names = fit-names (3 * p.users) p.text c.args.set.now.lent.strands.now glues;
-      names_len_bound = omega (arith, rows-many (3 * p.users) p.text c.args.set.now.lent.strands.now glues);
-    }
+    let rows = c.args.set.now.lent.strands.now in
+    record { fit_names = strands-fit p.users p.text rows strands; names_len_bound = strands-few p.users p.text rows strands }
 
 pub fill_numbers-requires : goal.fill_numbers-requires
 fill_numbers-requires c =

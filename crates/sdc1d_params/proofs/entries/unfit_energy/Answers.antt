@@ -7,6 +7,6 @@ use Rattle.sdc1d_params.proofs.entries.unfit_energy.Goals as goal
 
 pub returns-else-leaves : goal.returns-else-leaves
 returns-else-leaves c =
-    let v = c.in-Sequence in
-    let in-text : leaves c.args.text.now v.start v.length ≡ false = sym c.leaves.ensures ∙ c.if-leaves.false in
-    rw c.in-Sequence.is (long-as-lent c.args.text.now v.start v.length in-text)
+    let part = c.in-Sequence.part in
+    let in-text : leaves c.args.text.now part.start part.size ≡ false = sym c.leaves.ensures ∙ c.if-leaves.false in
+    rw c.in-Sequence.is (long-as-lent c.args.text.now part.start part.size in-text)

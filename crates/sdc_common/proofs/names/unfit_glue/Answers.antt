@@ -13,4 +13,4 @@ returns-then-name-ne-PRESENT c = simp (ne_eqb c.args.name.mark 0 c.if-name-ne-AB
 
 pub returns-else-name-ne-PRESENT : goal.returns-else-name-ne-PRESENT
 unfolding unfit_glue
-returns-else-name-ne-PRESENT c = simp (ne_eqb c.args.name.mark 0 c.if-name-ne-ABSENT.true, eq-eqb c.args.name.mark 1 c.if-name-ne-PRESENT.false) c.unfit_name.ensures
+returns-else-name-ne-PRESENT c = simp (ne_eqb c.args.name.mark 0 c.if-name-ne-ABSENT.true, eq-eqb c.args.name.mark 1 c.if-name-ne-PRESENT.false) c.is_unfit_name.ensures

@@ -1,6 +1,6 @@
 -- `statements::statement::fit` meets its contract: the words that are left, from the row so far, give the whole. Assumes nothing.
 use mathlib.Core.Path.{◌≡◌}
-use Prim.Native.Nat.{◌≤◌, ◌-◌, ◌+◌}
+use Prim.Native.Nat.{◌≤◌, ◌+◌}
 use lib.ListN.{length}
 use Rattle.statements.specs.Words.{words_in}
 use Rattle.statements.specs.Statement.{blank, fit}
@@ -8,8 +8,6 @@ use Rattle.statements.proofs.statement.fit.Given as goal
 
 abbrev pub invariant-loop-word : goal.invariant-loop-word
 invariant-loop-word l =
-    (l.at ≤ length l.line) × (l.place ≤ l.at)
-    × (fit l.line l.key 0 (blank l.fn.kind l.fn.number) (words_in l.line (l.key.start + l.key.size)) ≡ fit l.line l.key l.place l.row (words_in l.line l.at))
-
-abbrev pub decreases-loop-word : goal.decreases-loop-word
-decreases-loop-word l = length l.line - l.at
+    let rest = words_in l.word-iterator.line.now l.word-iterator.at in
+    (l.place + length rest ≤ length l.line.text.now + 1)
+    × (fit l.line.text.now l.key 0 (blank l.fn.kind l.line.number) (words_in l.line.text.now (l.key.start + l.key.size)) ≡ fit l.line.text.now l.key l.place l.row rest)

@@ -4,7 +4,7 @@ use Rattle.std.specs.List.{prefix_len}
 use Rattle.statements.specs.Words.{is_blank, not_blank}
 use Rattle.statements.proofs.Bytes.{rest_is, blanks_on, blanks_end, words-past, comment, word_begins, word_size}
 use Rattle.statements.proofs.words.next_word.Goals as goal
-use Rattle.statements.proofs.words.next_word.Goals.{then-start-line-via-then-start-line, then-start-line-via-else-start-line+then-line-start-eq35}
+use Rattle.statements.proofs.words.next_word.Goals.{then-start-line-via-then-start-line, then-start-line-via-else-start-line+then-line-start-eq-COMMENT}
 
 pub returns-then-line-at : goal.returns-then-line-at
 returns-then-line-at c = words-past c.args.line.now c.args.at c.if-line-at.true
@@ -18,9 +18,9 @@ returns-then-start-line c =
     blanks_on line at c.blanks.result n
     ∙ elim c.then-start-line.branch [
       | then-start-line-via-then-start-line w ↦ words-past line start (omega arith)
-      | then-start-line-via-else-start-line+then-line-start-eq35 w ↦
+      | then-start-line-via-else-start-line+then-line-start-eq-COMMENT w ↦
           let inside : start < length line = omega arith in
-          comment line start inside (blanks_end line at c.blanks.result n inside) w.if-line-start-eq35.true
+          comment line start inside (blanks_end line at c.blanks.result n inside) w.if-line-start-eq-COMMENT.true
     ]
 
 pub returns : goal.returns
@@ -37,5 +37,5 @@ returns c =
       on = omega arith;
       some = word_size line start size k inside other;
       inside = omega arith;
-      more = blanks_on line at c.blanks.result n ∙ word_begins line start size k inside other c.if-line-start-eq35.false;
+      more = blanks_on line at c.blanks.result n ∙ word_begins line start size k inside other c.if-line-start-eq-COMMENT.false;
     }

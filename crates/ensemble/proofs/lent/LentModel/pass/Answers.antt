@@ -1,10 +1,11 @@
 use mathlib.Core.Path.{◌≡◌, refl, ◌∙◌}
-use Prim.Native.Nat.{◌<◌, ◌-◌}
+use Prim.Native.Nat.{◌<◌}
 use native.Mathlib.Omega.{arith}
-use lib.ListN.{length, take, length-set, length-take}
+use lib.ListN.{length, length-set}
+use Rattle.std.proofs.Common.{rules}
 use Rattle.model.specs.Model.{positions}
-use Rattle.ensemble.proofs.LentParts.{bounds, known-part}
-use Rattle.ensemble.proofs.OptionRows.{options-are, friends-of}
+use Rattle.ensemble.proofs.LentParts.{bounds}
+use Rattle.ensemble.proofs.OptionRows.{options-are, friends-are}
 use Rattle.ensemble.proofs.Passing.{left-more, table_more}
 use Rattle.ensemble.proofs.lent.LentModel.pass.Goals as goal
 
@@ -15,29 +16,31 @@ loop-position-preserved c =
     let here = c.loop-position-test.true in
     let place = (bounds c.args.self.now.options.searchable i here).place in
     let row = c.of-options in
-    let friends = take (length row.result.now - 1) row.result.now in
+    let friends = c.friends-friends.result.now in
     let none = c.least_for_empty-empty in
     let same = c.args.self.now.same_strands in
     let attached = rw (same) at c.best_energies.ensures in
-    let sites = rw (same) at c.sites.ensures.cells in
+    let sites = rw (same) at c.scaffold_bonds_at.ensures.cells in
     let next = c.mfe_next_vector.new.energies in
     let sized : length next ≡ 64 = omega arith in
-    let in-next : length friends < length next = omega (arith, row.ensures.few, row.ensures.some, length-take (length row.result.now - 1) row.result.now) in
+    let in-next : length friends < length next = omega (arith, c.friends-friends.ensures.sized, row.ensures.sized, row.ensures.few) in
     let in-choice : i < length l.choices.friends = omega arith in
     let in-empty : i < length l.choices.empty = omega arith in
     record {
-      few = row.ensures.few;
-      known = row.ensures.known;
+      few = search rules;
+      known = search rules;
       wide = length-set next (length friends) none.result.energy ∙ sized;
-      passed = λ m options o b they whole start.
-          let old = l.invariant.passed m options o b they whole start in
+      passed = λ m options w they whole start.
+          let o = w.options in
+          let b = w.bonds in
+          let old = l.invariant.passed m options w they whole start in
           let in-model : i < positions m = rw (← o.positions) here in
           let row-is = row.ensures.row ∙ options-are o i in-model in
-          let are = friends-of o i row-is in
-          let known = known-part c.args.self.now.options.strands row.result.now (length row.result.now - 1) row.ensures.known in
+          let are = c.friends-friends.ensures.row ∙ friends-are o i in-model in
+          let known = c.friends-friends.ensures.known in
           record {
             entries = left-more they b i in-model friends are (whole i c.loop-position.auto.position) known l.left.now l.energies old.entries c.best_energies.new.best c.best_energies.new.choice attached none.result none.ensures.chosen
-                c.sites.result.now sites next in-next c.mfe_next_vector.ensures row.result.now (length friends) row-is refl;
+                c.scaffold_bonds_at.result.now sites next in-next c.mfe_next_vector.ensures row.result.now (length friends) row-is refl;
             choices = table_more they b i in-model friends are (whole i c.loop-position.auto.position) known l.left.now l.energies old.entries c.best_energies.new.best c.best_energies.new.choice attached none.result none.ensures.chosen
                 l.choices.friends l.choices.empty in-choice in-empty old.choices;
           };

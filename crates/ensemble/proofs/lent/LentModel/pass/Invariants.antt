@@ -5,7 +5,7 @@ use Prim.Native.Nat.{ℕ, ◌≤◌}
 use lib.ListN.{length}
 use Rattle.model.specs.Model.{Model}
 use Rattle.model.specs.Search.{options_at}
-use Rattle.ensemble.specs.Layout.{OptionRows, BondCells}
+use Rattle.ensemble.specs.Lends.{Lends}
 use Rattle.ensemble.specs.inner.Entries.{Known}
 use Rattle.ensemble.specs.inner.Passed.{OptionsOf, Passed}
 use Rattle.ensemble.proofs.lent.LentModel.pass.Given as goal
@@ -15,6 +15,6 @@ invariant-loop-position l = record {
   few : length l.left ≤ 64;
   known : Known l.self.options.strands l.left;
   wide : length l.energies ≡ 64;
-  passed : (m : Model) (options : ℕ → List ℕ) → OptionRows m l.self.options.rows.now l.self.options.counts.now → BondCells m l.self.options.strands l.self.bonds.strand_bonds.cells.now l.self.bonds.scaffold_bonds.now l.self.bonds.potentials.now → OptionsOf m options → ((i : ℕ) → l.first ≤ i → options i ≡ options_at m i)
+  passed : (m : Model) (options : ℕ → List ℕ) → Lends m l.self → OptionsOf m options → ((i : ℕ) → l.first ≤ i → options i ≡ options_at m i)
       → Passed m options l.first l.initial.left l.initial.energies l.initial.choices.friends l.initial.choices.empty → Passed m options l.position l.left l.energies l.choices.friends l.choices.empty;
 }

@@ -28,7 +28,9 @@ pub lowest_closed-lowest-requires : goal.lowest_closed-lowest-requires
 lowest_closed-lowest-requires c = rw c.args.self.now.same_strands (first-known c.args.self.now.options.searchable c.requires.some c.requires.option_known)
 
 pub returns : goal.returns
-returns c = λ m o b closing e.
+returns c = λ m w closing e.
+    let o = w.options in
+    let b = w.bonds in
     let lent = c.args.self.now in
     let s = lent.options.searchable in
     let few = s.readable.few 0 c.requires.some in
@@ -40,7 +42,7 @@ returns c = λ m o b closing e.
     let f = get_or lent.options.rows.now c.args.option 0 in
     let option = first_member o in-model h in
     let p = c.pass-options in
-    let passed = p.ensures.passed m (with_first m f) o b (ring-options m f option) (later-options m f) (record {
+    let passed = p.ensures.passed m (with_first m f) w (ring-options m f option) (later-options m f) (record {
       entries = left-first m f option b in-model (part lent.options.rows.now c.args.option (c.args.option + 1)) _ (part-one lent.options.rows.now c.args.option inside) c.first_entry.ensures;
       choices = table-first m f option _ _ (c.new-choices.ensures 0);
     }) in

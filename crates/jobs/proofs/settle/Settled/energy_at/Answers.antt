@@ -40,4 +40,4 @@ returns c =
     let below : c.args.rank < count m = omega (arith, s.counted, c.requires.counted, c.requires.rank_lt_states, product_is s.option_rows) in
     let is = c.write_state.ensures m s.option_rows in
     let rt : c.rt.result.0 ≡ m.rt = rw (sym c.admitted.view_is, c.rt.ensures) refl in
-    c.state_energy.ensures m (rw s.lent.same_strands s.state_cells) (rw is (ranked-state m c.args.rank below)) rt ∙ ap (state_energy m) is
+    c.state_energy.ensures m s.state_cells (rw is (ranked-state m c.args.rank below)) rt ∙ ap (state_energy m) is

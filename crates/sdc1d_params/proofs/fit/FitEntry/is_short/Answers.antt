@@ -1,16 +1,13 @@
 -- `sdc1d_params::FitEntry::is_short` meets its contract: the part of the text is as long as was lent. Assumes nothing.
-use mathlib.Core.Path.{◌≡◌, sym, ap, ◌∙◌}
-use mathlib.Core.Bool.{false}
-use Rattle.sdc1d_params.specs.Entries.{unfit_energy, is_short}
-use Rattle.sdc1d_params.specs.declared.entries.GsOrSeq.TheVariants.{Sequence}
-use Rattle.sdc1d_params.proofs.Lengths.{energy-fit}
-use Rattle.sdc1d_params.proofs.Sequences.{short-as-lent}
+use mathlib.Core.Path.{sym, ap, ◌∙◌}
+use Rattle.sdc1d_params.specs.Entries.{is_short}
+use Rattle.sdc1d_params.proofs.Sequences.{sequence-fit, short-as-lent}
 use Rattle.sdc1d_params.proofs.fit.FitEntry.is_short.Goals as goal
 
 pub returns-in-Sequence : goal.returns-in-Sequence
 returns-in-Sequence c =
     let a = c.args in
-    let v = c.in-Sequence in
+    let part = c.in-Sequence.part in
     let is = sym c.gs_or_seq.ensures ∙ c.in-Sequence.is in
-    let fit : unfit_energy a.self.now.text.now (Sequence v.field-0 v.length) ≡ false = sym (ap (unfit_energy a.self.now.text.now) is) ∙ energy-fit a.self.now.text.now a.self.now.entry a.self.now.fit in
-    short-as-lent a.self.now.text.now v.field-0 v.length fit ∙ sym (ap (is_short a.self.now.text.now) is)
+    let fit = sequence-fit a.self.now.text.now a.self.now.entry a.self.now.fit part is in
+    short-as-lent a.self.now.text.now part fit ∙ sym (ap (is_short a.self.now.text.now) is)

@@ -31,8 +31,8 @@ loop-pair-init c =
     record {
       two = ap windows_size begun ∙ c.windows-pair-items.ensures.size;
       letters = rw rest c.args.self.now.bases;
-      energy = rw rest refl;
-      entropy = rw rest refl;
+      energy = rw (rest, c.default-sums.ensures.0) refl;
+      entropy = rw (rest, c.default-sums.ensures.1) refl;
     }
 
 pub base_index-first-requires : goal.base_index-first-requires

@@ -64,7 +64,7 @@ loop-upper-init c =
       one_length = rw (a, b) c.args.self.now.one_length;
       letters = rw (a, b) (c.args.self.now.upper.bases, c.args.self.now.lower.bases);
       room = rw a (omega (arith, c.args.self.now.short));
-      figures = rw (a, b) refl;
+      figures = rw (a, b, c.default.ensures.0, c.default.ensures.1) refl;
       loops = rw (a, b) refl;
     }
 
