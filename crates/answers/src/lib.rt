@@ -89,10 +89,14 @@ impl<W: Write> Printer<'_, W> {
     // A word at fault, its beginning where it is long.
     fn print_word(&mut self, text: &[u8], word: Word) -> io::Result<()> {
         if SHOWN < word.size {
-            self.print_bytes(part(text, word.start, SHOWN))?;
+            let shown = Word {
+                size: SHOWN,
+                ..word
+            };
+            self.print_bytes(part(text, shown))?;
             return write!(self.out, "...");
         }
-        self.print_bytes(part(text, word.start, word.size))
+        self.print_bytes(part(text, word))
     }
 
     // The place of a reason and, on a line of its own, the reason, for people.

@@ -45,7 +45,7 @@ impl SettledDesign<'_> {
     // The bytes of word i of a list; nothing past its end.
     fn word_at(&self, words: &[Word], i: usize) -> &[u8] {
         let word = words.get(i).copied().unwrap_or_default();
-        part(self.text, word.start, word.size)
+        part(self.text, word)
     }
 
     // The name of who sits at a position.

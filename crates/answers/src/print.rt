@@ -1,5 +1,4 @@
 // What is written: texts, numbers, and the bytes of a file as people or a JSON reader can take them.
-use crate::reads::part;
 use std::io;
 use std::io::Write;
 
@@ -23,7 +22,7 @@ impl<W: Write> Printer<'_, W> {
     pub(crate) fn print_fixed(&mut self, x: f64) -> io::Result<()> {
         let mut text = [0u8; 32];
         if let Ok(size) = decimals::write_fixed(x, &mut text) {
-            self.out.write_all(part(&text, 0, size))?;
+            self.out.write_all(text.get(..size).unwrap_or(&[]))?;
         }
         Ok(())
     }
@@ -66,6 +65,7 @@ impl<W: Write> Printer<'_, W> {
 
     // So many blanks.
     pub(crate) fn print_blanks(&mut self, n: usize) -> io::Result<()> {
+        // By number: there are no values, but only how many blanks.
         for _ in 0..n {
             write!(self.out, " ")?;
         }

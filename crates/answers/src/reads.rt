@@ -1,11 +1,13 @@
 // Parts of slices, for every place: what is not there is nothing.
 ghost use Rattle.std.specs.Prelude.{◌≡◌, ◌+◌, [], length, take, drop, if◌then◌else◌, nat_lt};
 
-// The part of a text from a place on; nothing where it would leave the text.
-pub fn part(text: &[u8], start: usize, size: usize) -> &[u8]
-    ensures { result.now ≡ (if nat_lt (length text.now) (start + size) then [] else take size (drop start text.now)) }
+use statements::words::Word;
+
+// The bytes of a word; nothing where it would leave the text.
+pub fn part(text: &[u8], word: Word) -> &[u8]
+    ensures { result.now ≡ (if nat_lt (length text.now) (word.start + word.size) then [] else take word.size (drop word.start text.now)) }
 {
-    text.get(start..)
-        .and_then(|rest| rest.get(..size))
+    text.get(word.start..)
+        .and_then(|rest| rest.get(..word.size))
         .unwrap_or(&[])
 }

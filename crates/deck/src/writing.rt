@@ -26,6 +26,7 @@ pub(crate) fn pack(form: DeckForm, configuration: &[u8], words: &mut [u32]) -> u
         payload: configuration.len() as u32,
     }
     .bits();
+    // Counted by hand: the count is the result.
     let mut count = 1;
     for run in configuration.chunk_by(|left, right| left == right && form.in_runs(*right)) {
         words[count] = Stretch {

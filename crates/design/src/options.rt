@@ -66,7 +66,8 @@ pub fn fill_options(design: &Design, rows: &mut [u8], counts: &mut [u8])
     ensures rows_len_unchanged { length rows.new ≡ length rows.old }
     ensures counts_len_unchanged { length counts.new ≡ length counts.old }
 {
-    // By number: a position's glue and mark are the design's to tell, and a row is a part of one slice.
+    // By number, which the design's glues and marks ask; and of what is written through a `zip` of `iter_mut`, or of rows of `chunks_exact_mut`, nothing is
+    // known where the loop ends.
     for position in 0..design.positions() {
         let row = ROW * position;
         counts[position] = fill_row(design, position, &mut rows[row..row + ROW]);

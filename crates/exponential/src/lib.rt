@@ -37,6 +37,7 @@ fn exp_rest(s: u64) -> u64
     let u = s * 256;
     let mut term = ONE;
     let mut sum = ONE;
+    // By number: term j is the one before it, times u / j.
     for j in 1..=15 {
         term = mul_units(term, u) / j;
         sum += term;

@@ -33,11 +33,10 @@ pub(crate) fn dg_ds_tell(answer: Result<DgDs, Refusal>, dg: &mut f64, ds: &mut f
     ensures dg_after { dg.new ≡ (dg_ds_figures answer).dg }
     ensures ds_after { ds.new ≡ (dg_ds_figures answer).ds }
 {
-    let mut given = DgDs::default();
-    let number = figure_tell(answer, given, &mut given);
+    let given = answer.unwrap_or_default();
     *dg = given.dg.0;
     *ds = given.ds.0;
-    number
+    reply::number(answer)
 }
 
 // The reply number and the one figure of a call whose refusals have no place, a blank figure where it refuses.
@@ -69,10 +68,9 @@ pub(crate) fn ambient_tell(
     ensures strand_excess_after { strand_excess.new ≡ (ambient_figures answer).strand_excess }
     ensures scaffold_excess_after { scaffold_excess.new ≡ (ambient_figures answer).scaffold_excess }
 {
-    let mut ambient = Ambient::default();
-    let number = figure_tell(answer, ambient, &mut ambient);
+    let ambient = answer.unwrap_or_default();
     *rt = ambient.rt.0;
     *strand_excess = ambient.strand_excess.0;
     *scaffold_excess = ambient.scaffold_excess.0;
-    number
+    reply::number(answer)
 }

@@ -1,4 +1,5 @@
 // A design's calls as C functions. A design is lent as sdc1d takes it, marks after the scaffold, the ambient as its three doubles.
+// A design is lent part by part: C has no structs of slices.
 
 ghost use Rattle.std.specs.Prelude.{◌≡◌};
 ghost use Rattle.design.specs.Answers.{strand_bond_answer, scaffold_bond_answer, friends_answer, friends_entries, count_answer, rank_answer, rank_entries, state_energy_answer, chain_energy_answer};

@@ -1,4 +1,5 @@
 // The calls on ring scaffolds as C functions.
+// A design is lent part by part: C has no structs of slices.
 
 ghost use Rattle.std.specs.Prelude.{◌≡◌};
 ghost use Rattle.ring.specs.Answers.{ring_energy_answer, ring_search_answer, ring_search_entries};

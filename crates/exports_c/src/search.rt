@@ -1,4 +1,5 @@
 // The search for the lowest configuration as a C function.
+// A design is lent part by part: C has no structs of slices.
 
 ghost use Rattle.std.specs.Prelude.{◌≡◌};
 ghost use Rattle.mfe.specs.Answers.{search_answer, search_entries};

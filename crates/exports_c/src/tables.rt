@@ -1,4 +1,5 @@
 // Tables of bonds beside a design, and the calls over them, as C functions. The two tables are lent after the ambient.
+// Design and tables are lent part by part: C has no structs of slices.
 
 ghost use Rattle.std.specs.Prelude.{◌≡◌};
 ghost use Rattle.bond_tables.specs.Answers.{fill_answer, filled_strands, filled_scaffold, energy_over_answer, count_over_answer, rank_over_answer, rank_over_entries, search_over_answer, search_over_entries};

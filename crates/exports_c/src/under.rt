@@ -1,4 +1,5 @@
 // The first state under a ceiling as a C function.
+// A design is lent part by part: C has no structs of slices.
 
 ghost use Rattle.std.specs.Prelude.{◌≡◌};
 ghost use Rattle.ceiling.specs.Answers.{ceiling_answer, ceiling_entries};

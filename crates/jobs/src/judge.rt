@@ -35,10 +35,8 @@ fn job_reply(asked: Option<Job>, judged: &Result<Judged, Refusal>) -> Result<(),
         Job::Search => {}
         Job::Count => refused_if(Refusal::TooManyStates, MOST_STATES < states)?,
     }
-    match &judged.admitted {
-        Ok(_) => Ok(()),
-        Err(refusal) => Err(*refusal),
-    }
+    judged.admitted.as_ref().map_err(|refusal| *refusal)?;
+    Ok(())
 }
 
 // The number of a job.

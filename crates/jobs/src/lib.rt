@@ -7,7 +7,7 @@ pub mod job;
 mod judge;
 mod settle;
 
-ghost use Rattle.std.specs.Prelude.{◌≡◌, ◌||◌, not, map, ◌*◌, ◌≤◌, ltb, eqb, length, get_or};
+ghost use Rattle.std.specs.Prelude.{◌≡◌, ◌||◌, not, map, ◌*◌, ◌≤◌, ltb, eqb, length};
 ghost use Rattle.reply.specs.First.{bare};
 ghost use Rattle.ensemble.specs.Layout.{OptionRows};
 ghost use Rattle.design.specs.Design.{positions, strands, model_of};
@@ -40,10 +40,16 @@ fn wrong_stretches(jobs: usize, positions: usize, entries: usize) -> bool
 }
 
 // Whether there are too many jobs, or the replies of a kind or the stretches are not as many as these ask for.
-fn wrong_sheet(jobs: usize, replies: [usize; 3], positions: usize, stretches: usize) -> bool
-    ensures { result ≡ (ltb 64 jobs || (not (eqb (get_or replies 0 0) jobs) || (not (eqb (get_or replies 1 0) jobs) || (not (eqb (get_or replies 2 0) jobs) || not (eqb stretches (jobs * positions)))))) }
+fn wrong_sheet(
+    jobs: usize,
+    numbers: usize,
+    energies: usize,
+    counts: usize,
+    positions: usize,
+    stretches: usize,
+) -> bool
+    ensures { result ≡ (ltb 64 jobs || (not (eqb numbers jobs) || (not (eqb energies jobs) || (not (eqb counts jobs) || not (eqb stretches (jobs * positions)))))) }
 {
-    let [numbers, energies, counts] = replies;
     JOBS < jobs
         || numbers != jobs
         || energies != jobs
@@ -110,8 +116,14 @@ pub fn job_sheet(
     ensures counts_after { counts.new ≡ sheet_counts design.now (sheet jobs.now numbers.old energies.old counts.old stretches.old) }
     ensures stretches_after { stretches.new ≡ sheet_stretches design.now (sheet jobs.now numbers.old energies.old counts.old stretches.old) }
 {
-    let replies = [numbers.len(), energies.len(), counts.len()];
-    let wrong = wrong_sheet(jobs.len(), replies, design.positions(), stretches.len());
+    let wrong = wrong_sheet(
+        jobs.len(),
+        numbers.len(),
+        energies.len(),
+        counts.len(),
+        design.positions(),
+        stretches.len(),
+    );
     refused_if(Refusal::WrongSize, wrong)?;
     let mut rows = [0; OPTIONS];
     let mut options = [0; POSITIONS];

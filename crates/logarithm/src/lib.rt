@@ -68,6 +68,7 @@ fn quotient(d: u64, a: u64) -> u64
 {
     let mut q = 0;
     let mut rest = d;
+    // By number: a digit of the quotient each.
     for _ in 0..6u32 {
         let s = rest * 512;
         q = q * 512 + s / a;
@@ -83,6 +84,7 @@ fn ln_series(u: u64) -> u64
 {
     let mut power = ONE;
     let mut sum = 0;
+    // By number: term j is the power divided by it.
     for j in 1..=8 {
         power = mul_units(power, u);
         sum += power / j;

@@ -18,7 +18,7 @@ fn fill_empties(design: &Design, cells: &mut [f64])
     ensures by_index { (x : ℕ) → x < strands design.now → Holds (strand_bond_in design.now) (strands design.now) cells.new x 0 }
 {
     let strands = design.strands();
-    // By number: a strand is one, and `chunks_mut` takes no rows of no bytes.
+    // By number: a strand is one, and of what is written through rows of `chunks_exact_mut` nothing is known where the loop ends.
     for x in 0..strands {
         cells[x * strands] = design.strand_bond(x as u8, 0);
     }

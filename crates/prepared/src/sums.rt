@@ -56,7 +56,7 @@ pub fn begin(left: Begun, strand: u8, position: usize, bonds: &Bonds) -> Begun
     if strand == 0 {
         return Begun { strand, sum };
     }
-    // One cell, so by its number and no row of `row_of`: a slice would be checked besides.
+    // One cell, so by its number.
     let cell = position * bonds.strand_bonds.strands + usize::from(strand);
     Begun {
         strand,

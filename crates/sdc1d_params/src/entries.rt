@@ -94,14 +94,15 @@ fn unfit_energy(text: &[u8], energy: GsOrSeq) -> bool
     }
 }
 
-// Whether a name of an entry is unfit. The first is always there.
+// Whether a name of an entry is unfit. The first is always there. Two tests in a function, here and below: the check finds those alone, and of more in
+// one `||` it leaves the later ones to a proof.
 fn unfit_pair(text: &[u8], entry: Entry) -> bool
     ensures { result ≡ (unfit_name text.now entry.first.start entry.first.size || unfit_glue text.now entry.second) }
 {
     entry.first.is_unfit_name(text) || unfit_glue(text, entry.second)
 }
 
-// Whether the form or the sequence of an entry is.
+// Whether the form or the sequence of an entry is unfit.
 fn unfit_form(text: &[u8], entry: Entry) -> bool
     ensures { result ≡ (bad_form entry.form || unfit_energy text.now (energy_of entry)) }
 {
@@ -115,8 +116,8 @@ fn unfit_entry(text: &[u8], entry: Entry) -> bool
     unfit_pair(text, entry) || unfit_form(text, entry)
 }
 
-// Whether some entry passes a test. A loop over numbers: handing the test to `any` after a `map` needs no clauses of a closure but a proof twice as
-// long.
+// Whether some entry passes a test. A loop over numbers: `entry_at` makes single entries too, so that a `map` to entries before `any` would bring a
+// second maker of entries beside it, and `any` over the numbers a closure around the test, with clauses that repeat these.
 pub(crate) fn any_entry<F: Fn(Entry) -> bool>(lent: &LentParameters, test: F) -> bool
     requires two_each { length lent.now.energies.now ≡ 2 * entry_rows lent.now.entries.now }
     requires callable { (i : ℕ) → i < entry_rows lent.now.entries.now → F.pre test (entry_at lent.now.entries.now lent.now.energies.now i) }

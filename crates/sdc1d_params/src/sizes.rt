@@ -35,7 +35,8 @@ fn unfit_lengths(users: usize, glues: usize, dg: usize, ds: usize) -> bool
     glues != 3 * (users + 3) || dg != CELLS || ds != CELLS
 }
 
-// Whether names of the strands or of the scaffold are not as they should be.
+// Whether names of the strands or of the scaffold are not as they should be. Two tests in a function, here and below: the check finds those alone, and
+// of more in one `||` it leaves the later ones to a proof.
 fn unfit_lists(set: &ParameterSet, lent: &Lent) -> bool
     ensures { result ≡ (unfit_strands set.now.lent.users set.now.lent.text.now (names_of set.now.lent.strands.now) || unfit_names (length lent.now.scaffold_glues.now) set.now.lent.text.now (names_of set.now.lent.scaffold.now)) }
 {

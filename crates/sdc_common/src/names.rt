@@ -17,7 +17,8 @@ const LONGEST: usize = 64;
 // The numbers of a name's row.
 const ROW: usize = 3;
 
-// A part of a text by its start and its length, which may leave the text.
+// A part of a text by its start and its length, which may leave the text. It is no `statements::words::Word`, which has the same fields: in a row a
+// word of size 0 is none, and a part of size 0 is an empty name.
 #[derive(Clone, Copy, PartialEq, Eq, Debug, Default)]
 pub struct Part {
     pub start: usize,
@@ -116,7 +117,8 @@ pub fn unfit_glue(text: &[u8], name: LentName) -> bool
     name.mark != ABSENT && (name.mark != PRESENT || name.part.is_unfit_name(text))
 }
 
-// Whether the rows are not whole, or not n.
+// Whether the rows are not whole, or not n. A function of two tests: the check finds those alone, and of more in one `||` it leaves the later ones to
+// a proof.
 fn is_miscounted(n: usize, names: &[usize]) -> bool
     ensures { result ≡ (not (eqb (length names.now % 3) 0) || not (eqb (length names.now / 3) n)) }
 {

@@ -5,7 +5,8 @@ use answers::Found;
 use answers::reads::part;
 use answers::reasons::Why;
 use reply::Refusal;
-use sdc_common::names::{Part, stars_of};
+use sdc_common::names::Part;
+use sdc_common::retired::retires;
 use sdc_common::self_and_inverse;
 use sheet::faults::Counts;
 use sheet::once::copied;
@@ -55,7 +56,7 @@ impl FileRows<'_> {
     // A row's sequence, if that by itself is refused so.
     fn sequence_in(&self, row: &Row, refusal: Refusal) -> Option<Word> {
         let bases = bases_of(row)?;
-        let sums = string_dna_dg_ds(part(self.text, bases.start, bases.size));
+        let sums = string_dna_dg_ds(part(self.text, bases));
         (sums.err() == Some(refusal)).then_some(bases)
     }
 
@@ -68,9 +69,9 @@ impl FileRows<'_> {
         self_and_inverse(self.text, name).is_err()
     }
 
-    // Whether a name ends in two or more stars.
+    // Whether a name retires.
     fn is_retired(&self, name: Word) -> bool {
-        1 < stars_of(part(self.text, name.start, name.size))
+        retires(part(self.text, name))
     }
 
     // Whether a row is the quencher's or the reporter's, and names a strand that is not there.

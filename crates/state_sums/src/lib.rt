@@ -111,7 +111,8 @@ pub fn free_sum(design: &Design, weights: &LentWeights<'_>) -> Result<Weight, Re
 }
 
 // The sum over the states that meet a constraint, lists of allowed occupants. An empty list leaves its place free. Replies as the free sum's; the lines
-// that stand in both lend arrays of their own.
+// that stand in both lend arrays of their own. The lists are copied slice by slice: a `Constraint` has the invariant that they fit, which lent lists
+// that may be refused do not meet.
 pub fn constrained_sum(
     design: &Design,
     weights: &LentWeights<'_>,

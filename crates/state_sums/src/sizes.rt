@@ -46,7 +46,11 @@ pub(crate) fn wrong_lists(positions: usize, lists: &LentLists<'_>) -> bool
     } = *lists;
     starts.len() != positions
         || lengths.len() != positions
-        || (0..positions).any(|i| list_outside(numbers.len(), starts[i], lengths[i]))
+        || starts.iter().zip(lengths).any(|(start, length)| list_outside(
+            numbers.len(),
+            *start,
+            *length,
+        ))
 }
 
 // Whether weights or lists do not have a design's sizes.

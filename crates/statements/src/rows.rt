@@ -56,6 +56,7 @@ fn lay_positions(
     requires { i + length (words_in line.now.text.now at) ≤ length rows.old }
     ensures { (result ≡ i + length (words_in line.now.text.now at)) × (rows.new ≡ sets rows.old i (map (position_row kind line.now.text.now line.now.number) (words_in line.now.text.now at))) }
 {
+    // Counted by hand: the count is the result.
     let mut next = i;
     for word in Words::of(line.text, at) {
         rows[next] = Row::blank(kind, line.number).put(0, glue_of(bytes(line.text, word), word));

@@ -157,6 +157,7 @@ fn fit(line: &NumberedLine<'_>, key: Word, kind: Kind) -> Result<Row, Fault>
     ensures { result ≡ fit line.now.text.now key 0 (blank kind line.now.number) (words_in line.now.text.now (key.start + key.size)) }
 {
     let mut row = Row::blank(kind, line.number);
+    // Counted by hand: the count is asked for after the loop.
     let mut place = 0;
     for word in Words::of(line.text, key.end()) {
         row = row.accept(bytes(line.text, word), row.kind.item_at(place), word)?;
