@@ -4,10 +4,10 @@ use native.Mathlib.Omega.{arith}
 use lib.ListN.{length}
 use Rattle.design.specs.Design.{friends_of, positions, strands, model_of}
 use Rattle.design.proofs.Optioned.{rows_more, all-searchable, all-options}
-use Rattle.design.proofs.options.fill_options.Goals as goal
+use Rattle.design.proofs.options.fill_rows.Goals as goal
 
 pub loop-position-preserved : goal.loop-position-preserved
-loop-position-preserved c =
+loop-position-preserved g c =
     let l = c.loop-position in
     let i = l.position in
     let row = c.fill_row.new.row in
@@ -18,7 +18,7 @@ loop-position-preserved c =
 
 pub returns : goal.returns
 unfolding model_of
-returns c =
+returns g c =
     let d = c.args.design.now in
     let l = c.loop-position in
     let all : l.position ≡ positions d = omega arith in
