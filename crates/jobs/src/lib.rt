@@ -32,7 +32,7 @@ use settle::Settled;
 // The most jobs of a sheet.
 const JOBS: usize = 64;
 
-// Whether entries are other than so many for each of some jobs. However many there are said to be, no product is formed.
+// Whether entries are other than so many for each of some jobs. A product that no number holds is the length of no slice.
 fn wrong_stretches(jobs: usize, positions: usize, entries: usize) -> bool
     ensures { result ≡ not (eqb entries (jobs * positions)) }
 {
