@@ -9,3 +9,4 @@ pub mod Double
 pub mod Right
 pub mod Doubled
 pub mod Parts
+pub mod Between
