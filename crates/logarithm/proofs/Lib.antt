@@ -10,3 +10,4 @@ pub mod Right
 pub mod Doubled
 pub mod Parts
 pub mod Between
+pub mod Sized
