@@ -11,3 +11,4 @@ pub mod Doubled
 pub mod Parts
 pub mod Between
 pub mod Sized
+pub mod Told
