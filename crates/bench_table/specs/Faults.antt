@@ -80,5 +80,5 @@ pub record TwoFaults : Type 0 where
   -- strand 0 a friend, and its potential out: 10
   pub null_potential : (x : ℕ) → search_answer (design (1 ∷ []) (0 ∷ []) (0 ∷ 0 ∷ 0 ∷ []) (set zeros 64 (nearest (minus 1 0))) zeros (nan ∷ []) Potentials half) (x ∷ []) ≡ refused_with zero NullBinds None
   -- no positions: the ambient is looked at, no potential is
-  pub ambient_alone : search_answer (design [] [] (0 ∷ 0 ∷ 0 ∷ 0 ∷ 1 ∷ 0 ∷ []) bound zeros wild cold) [] ≡ refused_with zero AmbientOut (Some 0)
+  pub ambient_alone : search_answer (design [] [] (0 ∷ 0 ∷ 0 ∷ 0 ∷ 1 ∷ 0 ∷ []) bound zeros wild Potentials cold) [] ≡ refused_with zero AmbientOut (Some 0)
   pub no_potential : search_answer (design [] [] (0 ∷ 0 ∷ 0 ∷ 0 ∷ 1 ∷ 0 ∷ []) bound zeros wild Potentials half) [] ≡ given zero
