@@ -2,9 +2,7 @@
 //! which the Rust's own partition functions are not held against. The judge has the exact sums.
 
 use super::{Ask, Kind};
-use crate::designs::{
-    ambient_line, blocks, lines_of_both, marked, marks_line, Ambient, Shape, SORTS,
-};
+use crate::designs::{blocks, lines_of_port, marked, raw_lines, Ambient, Shape, SORTS};
 use crate::judge::design::Lent;
 use crate::judge::sums::{self, Lists, Weights};
 use crate::judge::Verdict;
@@ -168,11 +166,6 @@ fn lists_line(lists: &Lists) -> String {
     )
 }
 
-fn design_lines(lent: &Lent, glues: usize) -> String {
-    let lines = lines_of_both(lent, glues);
-    format!("{lines}{}{}", marks_line(lent), ambient_line(lent))
-}
-
 impl Sums {
     /// The free sum where there are no lists.
     fn question(
@@ -207,18 +200,40 @@ impl Sums {
         };
         let lent = marked(random, sort, shape, ambient, marks);
         let powers = Powers::of(random, shape);
-        let mut weights = weights(random, powers, &lent);
+        let lines = lines_of_port(&lent, shape.glues);
+        self.over_weights(random, &lent, lines, powers, with_lists, ask);
+    }
+
+    /// Of a design that these lines send: weights, and lists where there are to be some.
+    fn over_weights(
+        &self,
+        random: &mut Random,
+        lent: &Lent,
+        lines: String,
+        powers: Powers,
+        with_lists: bool,
+        ask: &mut Ask,
+    ) {
+        let mut weights = weights(random, powers, lent);
         if random.once_in(10) {
             spoil(random, &mut weights);
         }
-        let setters = design_lines(&lent, shape.glues) + &weights_lines(&weights);
+        let setters = lines + &weights_lines(&weights);
         self.designs.set(self.designs.get() + 1);
         if with_lists {
             self.constrained.set(self.constrained.get() + 1);
-            let lists = lists(random, &lent);
-            ask(self.question(setters, &lent, &weights, Some(&lists)));
+            let lists = lists(random, lent);
+            ask(self.question(setters, lent, &weights, Some(&lists)));
         } else {
-            ask(self.question(setters, &lent, &weights, None));
+            ask(self.question(setters, lent, &weights, None));
+        }
+    }
+
+    /// Both sums of a design whose sizes are in order, over weights that are near one another.
+    pub(super) fn both(&self, random: &mut Random, lent: &Lent, ask: &mut Ask) {
+        for with_lists in [false, true] {
+            let lines = raw_lines(lent);
+            self.over_weights(random, lent, lines, Powers::Near(-30), with_lists, ask);
         }
     }
 
@@ -272,7 +287,7 @@ impl Sums {
                 } else {
                     changes[6](&mut lent, &mut weights, &mut lists);
                 }
-                let setters = crate::designs::raw_lines(&lent) + &weights_lines(&weights);
+                let setters = raw_lines(&lent) + &weights_lines(&weights);
                 ask(self.question(setters.clone(), &lent, &weights, None));
                 ask(self.question(setters, &lent, &weights, Some(&lists)));
             }
@@ -292,6 +307,7 @@ impl Sums {
             rt: ambient.rt,
             strand_excess: ambient.strand_excess,
             scaffold_excess: ambient.scaffold_excess,
+            ..Lent::default()
         };
         (lent.dg[65], lent.dg[130]) = (-0.5, -2.0);
         lent
