@@ -2,12 +2,13 @@
 
 use crate::{Checks, DOUBLE, WHOLE};
 use mujplesten as mj;
+use std::f64::consts::LN_2;
 
 pub fn logarithms(checks: &mut Checks) {
     let (least, most) = ((-60f64).exp2(), 1024.0f64);
     let worked = [
         (1.0, 0.0),
-        (2.0, 0.6931471805599453),
+        (2.0, LN_2),
         (1e-9, -20.72326583694641),
         (least, -41.58883083359672),
         (most, 6.931471805599453),
@@ -79,7 +80,7 @@ pub fn concentrations(checks: &mut Checks) {
     let (_, expected) = with(logarithms, 0, |design| energy(design, &[1, 2]));
     checks.reply("an energy", number, 0);
     checks.figure("it", given, expected);
-    let near = (given - (3.0 * std::f64::consts::LN_2 - 5.0) * 0.5).abs() <= (-39f64).exp2();
+    let near = (given - (3.0 * LN_2 - 5.0) * 0.5).abs() <= (-39f64).exp2();
     checks.count("it", near, format!("{given}"));
     checks.reply("no kind of amounts", with(amounts, 2, settled).0, 1);
     for out in [(-61f64).exp2(), 0.0, -1.0, f64::NAN, 1024.0f64.next_up()] {
