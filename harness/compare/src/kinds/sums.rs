@@ -200,40 +200,40 @@ impl Sums {
         };
         let lent = marked(random, sort, shape, ambient, marks);
         let powers = Powers::of(random, shape);
-        let lines = lines_of_port(&lent, shape.glues);
-        self.over_weights(random, &lent, lines, powers, with_lists, ask);
-    }
-
-    /// Of a design that these lines send: weights, and lists where there are to be some.
-    fn over_weights(
-        &self,
-        random: &mut Random,
-        lent: &Lent,
-        lines: String,
-        powers: Powers,
-        with_lists: bool,
-        ask: &mut Ask,
-    ) {
-        let mut weights = weights(random, powers, lent);
+        let mut weights = weights(random, powers, &lent);
         if random.once_in(10) {
             spoil(random, &mut weights);
         }
-        let setters = lines + &weights_lines(&weights);
-        self.designs.set(self.designs.get() + 1);
-        if with_lists {
-            self.constrained.set(self.constrained.get() + 1);
-            let lists = lists(random, lent);
-            ask(self.question(setters, lent, &weights, Some(&lists)));
-        } else {
-            ask(self.question(setters, lent, &weights, None));
-        }
+        let lists = with_lists.then(|| lists(random, &lent));
+        let lines = lines_of_port(&lent, shape.glues);
+        self.over(&lent, lines, &weights, lists.as_ref(), ask);
     }
 
-    /// Both sums of a design whose sizes are in order, over weights that are near one another.
-    pub(super) fn both(&self, random: &mut Random, lent: &Lent, ask: &mut Ask) {
-        for with_lists in [false, true] {
-            let lines = raw_lines(lent);
-            self.over_weights(random, lent, lines, Powers::Near(-30), with_lists, ask);
+    /// Of a design that these lines send.
+    fn over(
+        &self,
+        lent: &Lent,
+        lines: String,
+        weights: &Weights,
+        lists: Option<&Lists>,
+        ask: &mut Ask,
+    ) {
+        self.designs.set(self.designs.get() + 1);
+        let constrained = self.constrained.get() + u64::from(lists.is_some());
+        self.constrained.set(constrained);
+        let setters = lines + &weights_lines(weights);
+        ask(self.question(setters, lent, weights, lists));
+    }
+
+    /// Both sums of a design whose sizes are in order, over weights that are in form and over others.
+    pub(super) fn all_of(&self, random: &mut Random, lent: &Lent, ask: &mut Ask) {
+        let mut weights = weights(random, Powers::Near(-30), lent);
+        let lists = lists(random, lent);
+        for _ in 0..2 {
+            for lists in [None, Some(&lists)] {
+                self.over(lent, raw_lines(lent), &weights, lists, ask);
+            }
+            weights.place_powers.fill(i32::MAX);
         }
     }
 

@@ -180,7 +180,7 @@ impl Concentrations {
         self.rings.about(random, lent.clone(), ask);
         let is_sized = lent.count_verdict().number() != 1;
         if is_sized {
-            self.sums.both(random, lent, ask);
+            self.sums.all_of(random, lent, ask);
         }
         if !is_sized || !(WALKED + 1..=MOST_STATES).contains(&lent.count()) {
             ask_under(lent, &[0.0, -1e300, f64::NAN], positions, ask);
