@@ -31,8 +31,9 @@
  *    1 size     a sequence of more than 256 bytes; a lent slice of another length; more than 128
  *               entries or positions; not 1 to 64 strands; a glue above 63; a strand or a position
  *               that the design lacks; more than 61 user strands or 1,024 energy entries; a name of
- *               more than 64 bytes; a name or a sequence that leaves the text; a mark or a form of
- *               another value; marks that are not one for each position; a quencher or reporter that is no user strand;
+ *               more than 64 bytes; a name or a sequence that leaves the text; a mark, a form, a
+ *               build or a kind of amounts of another value; marks that are not one for each
+ *               position; a quencher or reporter that is no user strand;
  *               weights, or lists of a constraint, that are not as many as the design asks for; a list that
  *               leaves the numbers
  *    2 base     a byte other than a, c, g, t in either case
@@ -42,7 +43,7 @@
  *    6 unknown  a scaffold name that is neither the base of a strand glue nor that base with one star
  *    7 glues    the strands use more than 31 base names
  *    8 twice    two energy entries name the same unordered pair of known names
- *    9 range    a number not finite or outside its range, but for those of 16 and 17; a lent bond
+ *    9 range    a number not finite or outside its range, but for those of 15 to 17; a lent bond
  *               above 80,000 in size or not finite; an entry of a configuration above 63 that is to be
  *               written as a deck
  *   10 null     strand 0 has a glue, or row or column 0 of a table a nonzero cell
@@ -50,6 +51,8 @@
  *   12 many     a design of more than 1,048,576 states
  *   13 rank     a rank at or above the number of states, or of short sequences
  *   14 deck     a stored configuration that breaks the word rules
+ *   15 dilute   the concentration of a strand that is a friend somewhere, or an argument of the
+ *               logarithm, not finite or outside 2^-60 to 2^10
  *   16 ambient  RT or an excess temperature of a design not finite or outside its range
  *   17 potential  the potential of a strand that is a friend somewhere not finite or outside its range
  *   18 bare     a sum over the states of a scaffold of no positions
@@ -121,6 +124,9 @@ uint32_t mj_sequence_strength(const uint8_t *s, size_t n, double excess, double 
 uint32_t mj_pair_strength(const uint8_t *a, size_t m, const uint8_t *b, size_t n, double excess,
                           double *strength);
 
+/* The natural logarithm of 2^-60 to 2^10, ends included, within 2^-40 of the exact one. Reply 15. */
+uint32_t mj_ln(double x, double *logarithm);
+
 /* RT and the two excess temperatures at a temperature of 200 to 500 kelvin. Reply 9. */
 uint32_t mj_ambient(double kelvin, double *rt, double *strand_excess, double *scaffold_excess);
 
@@ -185,14 +191,18 @@ uint32_t mj_params(uint32_t build, const uint8_t *text, size_t n, size_t users, 
                    uint8_t *scaffold_glues, size_t scaffold_glues_lent, double *dg, size_t dg_lent,
                    double *ds, size_t ds_lent);
 
-/* Designs. A design is six slices, each a pointer and a length, and the ambient:
+/* Designs. A design is six slices, each a pointer and a length, a number, and the ambient:
  *
  *   scaffold     a glue for each position, 0 to 128 of them
  *   marks        one for each position: 0 open, 1 blocked
  *   glues        three for each strand: west, bottom, east; strand 0 is empty and has none (0, 0, 0)
  *   dg, ds       4,096 cells each, row first: 64 rows of 64; dg within 1024, ds within 8 of 0
- *   potentials   one for each strand, 1 to 64 of them, strand 0 included: the logarithm of its
- *                concentration, within 1024 of 0; looked at only where the strand is a friend
+ *   amounts      one for each strand, 1 to 64 of them, strand 0 included; looked at only where the
+ *                strand is a friend
+ *   given        how the amounts are given: 0 as potentials, within 1024 of 0, each the logarithm of
+ *                the strand's concentration; 1 as concentrations in mol/L, 2^-60 to 2^10. Any other
+ *                number is refused with 1. With concentrations a call answers as with the logarithms
+ *                of mj_ln of them for potentials
  *   rt           1/8 to 8; strand_excess, scaffold_excess within 1024 of 0
  *
  * Every call checks all of the design. A strand is a friend at a position if the position is open and
@@ -203,42 +213,43 @@ uint32_t mj_params(uint32_t build, const uint8_t *text, size_t n, size_t users, 
 #define MJ_DESIGN                                                                              \
     const uint8_t *scaffold, size_t positions, const uint8_t *marks, size_t mark_count,        \
         const uint8_t *glues, size_t glue_count, const double *dg, size_t dg_cells,            \
-        const double *ds, size_t ds_cells, const double *potentials, size_t strands,           \
-        double rt, double strand_excess, double scaffold_excess
+        const double *ds, size_t ds_cells, const double *amounts, size_t strands,              \
+        uint32_t given, double rt, double strand_excess, double scaffold_excess
 
 /* The bond between strand x and strand y to the east of it: an energy over RT
- * (bond_between_strands). Replies 1, 9, 10, 16, 17. */
+ * (bond_between_strands). Replies 1, 9, 10, 15, 16, 17. */
 uint32_t mj_strand_bond(MJ_DESIGN, uint8_t x, uint8_t y, uint64_t *place, double *bond);
 
 /* The bond between the scaffold at a position and a strand (bond_with_scaffold). Replies 1, 9, 10,
- * 16, 17. */
+ * 15, 16, 17. */
 uint32_t mj_scaffold_bond(MJ_DESIGN, size_t position, uint8_t strand, uint64_t *place,
                           double *bond);
 
 /* The friends of a position, in rising order, into 64 lent entries, of which it fills as many as
- * there are friends (count); the rest is kept, and on a refusal all is. Replies 1, 9, 10, 16, 17. */
+ * there are friends (count); the rest is kept, and on a refusal all is. Replies 1, 9, 10, 15, 16,
+ * 17. */
 uint32_t mj_friends(MJ_DESIGN, size_t position, uint8_t *entries, size_t lent, uint64_t *place,
                     uint64_t *count);
 
-/* How many states there are. Replies 1, 9, 10, 12, 16, 17. */
+/* How many states there are. Replies 1, 9, 10, 12, 15, 16, 17. */
 uint32_t mj_states(MJ_DESIGN, uint64_t *place, uint64_t *count);
 
 /* The state at a rank in the order of system_states, into one lent entry for each position; on a
- * refusal all are kept. Replies 1, 9, 10, 12, 13, 16, 17. */
+ * refusal all are kept. Replies 1, 9, 10, 12, 13, 15, 16, 17. */
 uint32_t mj_state(MJ_DESIGN, uint64_t rank, uint8_t *entries, size_t lent, uint64_t *place);
 
-/* The state energy of a configuration (g_system), in kcal/mol. Replies 1, 9, 10, 11, 16, 17. */
+/* The state energy of a configuration (g_system), in kcal/mol. Replies 1, 9, 10, 11, 15, 16, 17. */
 uint32_t mj_state_energy(MJ_DESIGN, const uint8_t *configuration, size_t n, uint64_t *place,
                          double *energy);
 
 /* The chain energy of a configuration: the sum as it is, a plain number, and RT times it, in kcal/mol.
- * Replies 1, 9, 10, 11, 16, 17. */
+ * Replies 1, 9, 10, 11, 15, 16, 17. */
 uint32_t mj_chain_energy(MJ_DESIGN, const uint8_t *configuration, size_t n, uint64_t *place,
                          double *sum, double *energy);
 
 /* The search (mfe_configuration): the configuration with the lowest RT times chain energy, into one
  * lent entry for each position, 0 for an empty place, and that energy in kcal/mol; on a refusal all
- * entries are kept. Replies 1, 9, 10, 16, 17. */
+ * entries are kept. Replies 1, 9, 10, 15, 16, 17. */
 uint32_t mj_search(MJ_DESIGN, uint8_t *configuration, size_t lent, uint64_t *place, double *energy);
 
 /* Tables of bonds beside a design, row first, each row as many cells as there are strands:
@@ -255,37 +266,37 @@ uint32_t mj_search(MJ_DESIGN, uint8_t *configuration, size_t lent, uint64_t *pla
     const double *strand_bonds, size_t strand_cells, const double *scaffold_bonds,             \
         size_t scaffold_cells
 
-/* Fills both tables. Replies 1, 9, 10, 16, 17. */
+/* Fills both tables. Replies 1, 9, 10, 15, 16, 17. */
 uint32_t mj_bond_tables(MJ_DESIGN, double *strand_bonds, size_t strand_cells,
                         double *scaffold_bonds, size_t scaffold_cells, uint64_t *place);
 
-/* As mj_state_energy. Replies 1, 9, 10, 11, 16, 17. */
+/* As mj_state_energy. Replies 1, 9, 10, 11, 15, 16, 17. */
 uint32_t mj_state_energy_over(MJ_DESIGN, MJ_TABLES, const uint8_t *configuration, size_t n,
                               uint64_t *place, double *energy);
 
-/* As mj_states. Replies 1, 9, 10, 12, 16, 17. */
+/* As mj_states. Replies 1, 9, 10, 12, 15, 16, 17. */
 uint32_t mj_states_over(MJ_DESIGN, MJ_TABLES, uint64_t *place, uint64_t *count);
 
-/* As mj_state. Replies 1, 9, 10, 12, 13, 16, 17. */
+/* As mj_state. Replies 1, 9, 10, 12, 13, 15, 16, 17. */
 uint32_t mj_state_over(MJ_DESIGN, MJ_TABLES, uint64_t rank, uint8_t *entries, size_t lent,
                        uint64_t *place);
 
-/* As mj_search. Replies 1, 9, 10, 16, 17. */
+/* As mj_search. Replies 1, 9, 10, 15, 16, 17. */
 uint32_t mj_search_over(MJ_DESIGN, MJ_TABLES, uint8_t *configuration, size_t lent,
                         uint64_t *place, double *energy);
 
 #undef MJ_TABLES
 /* Rings: a scaffold of 3 positions or more whose last position stands beside its first. The ring
  * energy of a configuration is its chain energy plus, where first and last place are both occupied,
- * the strand bond from the last to the first, times RT, in kcal/mol. Replies 1, 9, 10, 11, 16, 17,
- * 20. */
+ * the strand bond from the last to the first, times RT, in kcal/mol. Replies 1, 9, 10, 11, 15, 16,
+ * 17, 20. */
 uint32_t mj_ring_energy(MJ_DESIGN, const uint8_t *configuration, size_t n, uint64_t *place,
                         double *energy);
 
 /* The search for rings: the configuration with the lowest ring energy, into one lent entry for each
  * position, 0 for an empty place, and that energy in kcal/mol; on a refusal all entries are kept. Of
  * several lowest it is one with the first of their occupants at position 0, empty last, and else the
- * one that the chain's search would find. Replies 1, 9, 10, 16, 17, 20. */
+ * one that the chain's search would find. Replies 1, 9, 10, 15, 16, 17, 20. */
 uint32_t mj_ring_search(MJ_DESIGN, uint8_t *configuration, size_t lent, uint64_t *place,
                         double *energy);
 /* The sum over all states of a design of the products of their weights. A weight is digits * 2^power:
@@ -295,7 +306,7 @@ uint32_t mj_ring_search(MJ_DESIGN, uint8_t *configuration, size_t lent, uint64_t
  * with one, has the factor 1 whatever its cell holds, and only weights that some state uses are looked
  * at. The sum is told in the same form with any power, or as 0 * 2^0 for zero; it lies within one part
  * in 2^15 of the exact sum. However many states there are, it takes one pass over the positions.
- * Replies 1, 9, 10, 16, 17, 18, 19. */
+ * Replies 1, 9, 10, 15, 16, 17, 18, 19. */
 uint32_t mj_free_sum(MJ_DESIGN, const uint32_t *place_digits, size_t place_digit_count,
                      const int32_t *place_powers, size_t place_power_count,
                      const uint32_t *pair_digits, size_t pair_digit_count,
@@ -316,7 +327,7 @@ uint32_t mj_constrained_sum(MJ_DESIGN, const uint32_t *place_digits, size_t plac
 
 /* The first state in listing order whose state energy is at most the ceiling, into one lent entry for
  * each position, 0 for an empty place, and its state energy in kcal/mol; on a refusal all entries are
- * kept. A ceiling that is not finite is 9, without a place. Replies 1, 9, 10, 12, 16, 17, 23. */
+ * kept. A ceiling that is not finite is 9, without a place. Replies 1, 9, 10, 12, 15, 16, 17, 23. */
 uint32_t mj_first_state_under(MJ_DESIGN, double ceiling, uint8_t *entries, size_t lent,
                               uint64_t *place, double *energy);
 

@@ -18,6 +18,7 @@ pub(crate) fn trade_word(refusal: Refusal) -> &'static str {
         Refusal::TooManyStates => "many",
         Refusal::RankTooHigh => "rank",
         Refusal::BadDeck => "deck",
+        Refusal::TooDilute => "dilute",
         Refusal::AmbientOut => "ambient",
         Refusal::PotentialOut => "potential",
         Refusal::BareScaffold => "bare",

@@ -3,7 +3,7 @@
 // expects is the line's own number, also where the code has a constant for it.
 #![tactic(auto)]
 
-use design::Design;
+use design::{Amounts, Design};
 use reply::limits::{CELLS, GLUES, SIDES};
 use reply::{Refusal, Refused};
 use sdc1d_params::{Build, Copies, LentParameters};
@@ -93,7 +93,16 @@ fn states_of(scaffold: &[u8], marks: &[u8]) -> Result<u64, Refused> {
     let ds = [0.0; CELLS];
     let potentials = [0.0, -1.0];
     let ambient = Ambient::new(0.5, 0.0, 0.0);
-    let design = Design::new(scaffold, marks, &glues, &dg, &ds, &potentials, ambient);
+    let design = Design::new(
+        scaffold,
+        marks,
+        &glues,
+        &dg,
+        &ds,
+        &potentials,
+        Amounts::Potentials,
+        ambient,
+    );
     sdc1d::number_of_states(&design)
 }
 

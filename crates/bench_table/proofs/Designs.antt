@@ -15,7 +15,7 @@ use Rattle.model.specs.States.{each_before, listing, choices, choice_at, states,
 use Rattle.model.specs.Energy.{state_terms, state_energy, chain_terms, chain_energy, chain_product, walk}
 use Rattle.model.specs.Search.{least_left, left_choice, traced, search_over, search}
 use Rattle.design.specs.Design.{strand_bond, scaffold_bond, befriends, friends_to, model_of}
-use Rattle.design.specs.Checks.{wrong_sizes, cells_out, bad_cell, ambient_out, bad_ambient, somewhere, potentials_out, bad_potential, null_binds}
+use Rattle.design.specs.Checks.{wrong_sizes, cells_out, bad_cell, ambient_out, bad_ambient, somewhere, dilute, potentials_out, bad_potential, null_binds}
 use Rattle.reply.specs.Figures.{given, refused}
 use Rattle.design.specs.Answers.{count_answer, rank_answer, rank_entries}
 use Rattle.mfe.specs.Answers.{search_answer, search_entries}
@@ -24,7 +24,7 @@ use Rattle.bench_table.specs.Readings.{tiny, TwoZeros, close, OneProduct, parted
 
 -- What a line unfolds: the checks of a design, and the model that it gives.
 unfoldable checked : ℕ
-unfolding bare one_position two_positions tiny model_of friends_to befriends scaffold_bond strand_bond tabulate keep any nearest wrong_sizes cells_out bad_cell ambient_out bad_ambient somewhere potentials_out bad_potential null_binds le lt eq ne
+unfolding bare one_position two_positions tiny model_of friends_to befriends scaffold_bond strand_bond tabulate keep any nearest wrong_sizes cells_out bad_cell ambient_out bad_ambient somewhere dilute potentials_out bad_potential null_binds le lt eq ne
 checked = 0
 
 -- and with it the search

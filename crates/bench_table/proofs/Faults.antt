@@ -13,8 +13,9 @@ use Rattle.reply.specs.Figures.{given, refused_with}
 use Rattle.reply.specs.declared.Refusal.TheVariants.{OutOfRange, NullBinds, NotAFriend, TooManyStates, RankTooHigh, AmbientOut, PotentialOut}
 use Rattle.model.specs.States.{choices, count}
 use Rattle.model.specs.Search.{least_left, left_choice, traced, search_over, search}
+use Rattle.design.specs.declared.Amounts.TheVariants.{Potentials}
 use Rattle.design.specs.Design.{design, strand_bond, scaffold_bond, befriends, friends_to, model_of}
-use Rattle.design.specs.Checks.{wrong_sizes, cells_out, bad_cell, ambient_out, bad_ambient, somewhere, potentials_out, bad_potential, null_binds, strangers}
+use Rattle.design.specs.Checks.{wrong_sizes, cells_out, bad_cell, ambient_out, bad_ambient, somewhere, dilute, potentials_out, bad_potential, null_binds, strangers}
 use Rattle.design.specs.Answers.{count_answer, rank_answer, state_energy_answer}
 use Rattle.mfe.specs.Answers.{search_answer}
 use Rattle.bench_table.specs.Designs.{half, zeros}
@@ -23,7 +24,7 @@ use Rattle.bench_table.specs.Faults.{ambient_with, cold, one, bound, null_bound,
 
 -- what a reply unfolds: the checks of a design
 unfoldable checked : ℕ
-unfolding befriends friends_to tabulate keep any first_index nearest wrong_sizes cells_out bad_cell ambient_out bad_ambient somewhere potentials_out bad_potential null_binds strangers le lt eq ne
+unfolding befriends friends_to tabulate keep any first_index nearest wrong_sizes cells_out bad_cell ambient_out bad_ambient somewhere dilute potentials_out bad_potential null_binds strangers le lt eq ne
 checked = 0
 
 -- and with it the states
@@ -108,15 +109,15 @@ ambient-and-potential : (x : ℕ) → search_answer (one bound zeros wild cold) 
 unfolding checked
 ambient-and-potential x = refl
 
-null-potential : (x : ℕ) → search_answer (design (1 ∷ []) (0 ∷ []) (0 ∷ 0 ∷ 0 ∷ []) (set zeros 64 (nearest (minus 1 0))) zeros (nan ∷ []) half) (x ∷ []) ≡ refused_with zero NullBinds None
+null-potential : (x : ℕ) → search_answer (design (1 ∷ []) (0 ∷ []) (0 ∷ 0 ∷ 0 ∷ []) (set zeros 64 (nearest (minus 1 0))) zeros (nan ∷ []) Potentials half) (x ∷ []) ≡ refused_with zero NullBinds None
 unfolding checked
 null-potential x = refl
 
-ambient-alone : search_answer (design [] [] (0 ∷ 0 ∷ 0 ∷ 0 ∷ 1 ∷ 0 ∷ []) bound zeros wild cold) [] ≡ refused_with zero AmbientOut (Some 0)
+ambient-alone : search_answer (design [] [] (0 ∷ 0 ∷ 0 ∷ 0 ∷ 1 ∷ 0 ∷ []) bound zeros wild Potentials cold) [] ≡ refused_with zero AmbientOut (Some 0)
 unfolding checked
 ambient-alone = refl
 
-no-potential : search_answer (design [] [] (0 ∷ 0 ∷ 0 ∷ 0 ∷ 1 ∷ 0 ∷ []) bound zeros wild half) [] ≡ given zero
+no-potential : search_answer (design [] [] (0 ∷ 0 ∷ 0 ∷ 0 ∷ 1 ∷ 0 ∷ []) bound zeros wild Potentials half) [] ≡ given zero
 unfolding searched
 no-potential = refl
 

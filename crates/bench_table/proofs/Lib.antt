@@ -4,3 +4,4 @@ pub mod Decks
 pub mod Table
 pub mod Faults
 pub mod Marked
+pub mod Dilute

@@ -5,6 +5,7 @@ use Rattle.doubles.specs.Decimal.{Decimal, plus, minus, nearest, zero}
 use Rattle.units.specs.declared.Ambient.{Ambient}
 use Rattle.reply.specs.Figures.{given, refused_with}
 use Rattle.reply.specs.declared.Refusal.TheVariants.{OutOfRange, NullBinds, NotAFriend, TooManyStates, RankTooHigh, AmbientOut, PotentialOut}
+use Rattle.design.specs.declared.Amounts.TheVariants.{Potentials}
 use Rattle.design.specs.Design.{Design, design}
 use Rattle.design.specs.Answers.{count_answer, rank_answer, state_energy_answer}
 use Rattle.mfe.specs.Answers.{search_answer}
@@ -21,7 +22,7 @@ cold = ambient_with (plus 0 0) (plus 0 0) (plus 0 0)
 
 -- one position of scaffold glue 1, and strand 1 with bottom glue 1
 abbrev pub one : List Float → List Float → List Float → Ambient → Design
-one dg ds potentials ambient = design (1 ∷ []) (0 ∷ []) (0 ∷ 0 ∷ 0 ∷ 0 ∷ 1 ∷ 0 ∷ []) dg ds potentials ambient
+one dg ds potentials ambient = design (1 ∷ []) (0 ∷ []) (0 ∷ 0 ∷ 0 ∷ 0 ∷ 1 ∷ 0 ∷ []) dg ds potentials Potentials ambient
 
 -- dG −1 where glue 1 meets glue 1, and 0 elsewhere
 abbrev pub bound : List Float
@@ -41,12 +42,12 @@ wild = zero ∷ nan ∷ []
 
 -- 21 positions with one friend each: 2,097,152 states
 abbrev pub long : Ambient → Design
-long ambient = design (replicate 21 1) (replicate 21 0) (0 ∷ 0 ∷ 0 ∷ 0 ∷ 1 ∷ 0 ∷ []) bound zeros mild ambient
+long ambient = design (replicate 21 1) (replicate 21 0) (0 ∷ 0 ∷ 0 ∷ 0 ∷ 1 ∷ 0 ∷ []) bound zeros mild Potentials ambient
 
 -- 8 strands, of which 7 alone is a friend; the potentials of 3 and of 7 are out
 abbrev pub eight : Design
 eight =
-    design (1 ∷ []) (0 ∷ []) (replicate 22 0 ++ 1 ∷ 0 ∷ []) bound zeros (zero ∷ zero ∷ zero ∷ nan ∷ zero ∷ zero ∷ zero ∷ nan ∷ []) half
+    design (1 ∷ []) (0 ∷ []) (replicate 22 0 ++ 1 ∷ 0 ∷ []) bound zeros (zero ∷ zero ∷ zero ∷ nan ∷ zero ∷ zero ∷ zero ∷ nan ∷ []) Potentials half
 
 -- Where the fault lies.
 pub record FaultPlaces : Type 0 where
@@ -77,7 +78,7 @@ pub record TwoFaults : Type 0 where
   pub potential_and_rank : (x : ℕ) → rank_answer (one bound zeros wild half) 2 (x ∷ []) ≡ refused_with tt RankTooHigh None
   pub ambient_and_potential : (x : ℕ) → search_answer (one bound zeros wild cold) (x ∷ []) ≡ refused_with zero AmbientOut (Some 0)
   -- strand 0 a friend, and its potential out: 10
-  pub null_potential : (x : ℕ) → search_answer (design (1 ∷ []) (0 ∷ []) (0 ∷ 0 ∷ 0 ∷ []) (set zeros 64 (nearest (minus 1 0))) zeros (nan ∷ []) half) (x ∷ []) ≡ refused_with zero NullBinds None
+  pub null_potential : (x : ℕ) → search_answer (design (1 ∷ []) (0 ∷ []) (0 ∷ 0 ∷ 0 ∷ []) (set zeros 64 (nearest (minus 1 0))) zeros (nan ∷ []) Potentials half) (x ∷ []) ≡ refused_with zero NullBinds None
   -- no positions: the ambient is looked at, no potential is
-  pub ambient_alone : search_answer (design [] [] (0 ∷ 0 ∷ 0 ∷ 0 ∷ 1 ∷ 0 ∷ []) bound zeros wild cold) [] ≡ refused_with zero AmbientOut (Some 0)
-  pub no_potential : search_answer (design [] [] (0 ∷ 0 ∷ 0 ∷ 0 ∷ 1 ∷ 0 ∷ []) bound zeros wild half) [] ≡ given zero
+  pub ambient_alone : search_answer (design [] [] (0 ∷ 0 ∷ 0 ∷ 0 ∷ 1 ∷ 0 ∷ []) bound zeros wild Potentials cold) [] ≡ refused_with zero AmbientOut (Some 0)
+  pub no_potential : search_answer (design [] [] (0 ∷ 0 ∷ 0 ∷ 0 ∷ 1 ∷ 0 ∷ []) bound zeros wild Potentials half) [] ≡ given zero

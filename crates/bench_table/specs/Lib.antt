@@ -4,3 +4,4 @@ pub mod Table
 pub mod Readings
 pub mod Faults
 pub mod Marked
+pub mod Dilute

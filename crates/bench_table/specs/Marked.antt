@@ -5,6 +5,7 @@ use Rattle.doubles.specs.Decimal.{minus, nearest, zero}
 use Rattle.reply.specs.Figures.{given, refused_with}
 use Rattle.reply.specs.declared.Refusal.TheVariants.{WrongSize, NotAFriend}
 use Rattle.model.specs.States.{states}
+use Rattle.design.specs.declared.Amounts.TheVariants.{Potentials}
 use Rattle.design.specs.Design.{Design, design, model_of}
 use Rattle.design.specs.Answers.{friends_answer, friends_entries, count_answer, state_energy_answer, scaffold_bond_answer}
 use Rattle.mfe.specs.Answers.{search_answer, search_entries}
@@ -14,7 +15,7 @@ use Rattle.bench_table.specs.Designs.{half, zeros}
 unfoldable pub marked : List ℕ → List Float → Design
 unfolding nearest
 marked marks potentials =
-    design (1 ∷ 2 ∷ []) marks (0 ∷ 0 ∷ 0 ∷ 0 ∷ 1 ∷ 0 ∷ 0 ∷ 2 ∷ 0 ∷ []) (set (set zeros 65 (nearest (minus 5 1))) 130 (nearest (minus 2 0))) zeros potentials half
+    design (1 ∷ 2 ∷ []) marks (0 ∷ 0 ∷ 0 ∷ 0 ∷ 1 ∷ 0 ∷ 0 ∷ 2 ∷ 0 ∷ []) (set (set zeros 65 (nearest (minus 5 1))) 130 (nearest (minus 2 0))) zeros potentials Potentials half
 
 -- those of document 01's two positions
 abbrev pub usual : List Float

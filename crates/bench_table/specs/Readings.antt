@@ -5,6 +5,7 @@ use Rattle.std.specs.Float.Ieee.{lt, to_bits}
 use Rattle.doubles.specs.Decimal.{Decimal, plus, minus, nearest, zero}
 use Rattle.units.specs.declared.Ambient.{Ambient}
 use Rattle.model.specs.Energy.{walk, state_energy, chain_energy, chain_product}
+use Rattle.design.specs.declared.Amounts.TheVariants.{Potentials}
 use Rattle.design.specs.Design.{Design, design, model_of}
 use Rattle.reply.specs.Figures.{given}
 use Rattle.mfe.specs.Answers.{search_answer, search_entries}
@@ -19,7 +20,7 @@ unfoldable pub tiny : Design
 unfolding nearest
 tiny =
     design (1 ∷ 2 ∷ []) (0 ∷ 0 ∷ []) (0 ∷ 0 ∷ 0 ∷ 0 ∷ 1 ∷ 3 ∷ 3 ∷ 2 ∷ 0 ∷ []) (set (set (set zeros 65 (nearest (minus 5 324))) 130 (nearest (plus 5 324))) 195 (nearest (plus 1 0))) zeros
-    (zero ∷ nearest (minus 35 324) ∷ nearest (plus 4 323) ∷ []) (no_excess (plus 125 3))
+    (zero ∷ nearest (minus 35 324) ∷ nearest (plus 4 323) ∷ []) Potentials (no_excess (plus 125 3))
 
 -- the search gives 0.0 and the walk −0.0: equal as doubles, not as data
 pub record TwoZeros : Type 0 where
@@ -32,7 +33,7 @@ unfoldable pub close : Design
 unfolding nearest
 close =
     design (1 ∷ []) (0 ∷ []) (0 ∷ 0 ∷ 0 ∷ 0 ∷ 1 ∷ 0 ∷ 0 ∷ 1 ∷ 0 ∷ []) (set zeros 65 (nearest (minus 2 0))) zeros
-    (zero ∷ nearest (minus 1 0) ∷ nearest (minus 9999999999999998 16) ∷ []) (no_excess (plus 7 1))
+    (zero ∷ nearest (minus 1 0) ∷ nearest (minus 9999999999999998 16) ∷ []) Potentials (no_excess (plus 7 1))
 
 -- the second friend has the smaller chain energy, both have one product with RT, and the first is shown: products are compared
 pub record OneProduct : Type 0 where
@@ -45,7 +46,7 @@ unfoldable pub parted : Design
 unfolding nearest
 parted =
     design (1 ∷ 2 ∷ []) (0 ∷ 0 ∷ []) (0 ∷ 0 ∷ 0 ∷ 0 ∷ 1 ∷ 3 ∷ 3 ∷ 2 ∷ 0 ∷ []) (set (set (set zeros 65 (nearest (minus 1 1))) 130 (nearest (minus 1 1))) 195 (nearest (minus 3 1))) zeros
-    (zero ∷ nearest (minus 3 1) ∷ nearest (minus 1 1) ∷ []) (no_excess (plus 1 0))
+    (zero ∷ nearest (minus 3 1) ∷ nearest (minus 1 1) ∷ []) Potentials (no_excess (plus 1 0))
 
 -- the search shows both friends with −0.1, and their state energy is −0.10000000000000003: the two sums round in different orders
 pub record TwoSums : Type 0 where
@@ -60,7 +61,7 @@ unfolding nearest
 lower =
     design (1 ∷ 2 ∷ []) (0 ∷ 0 ∷ []) (0 ∷ 0 ∷ 0 ∷ 0 ∷ 1 ∷ 3 ∷ 3 ∷ 2 ∷ 0 ∷ 3 ∷ 4 ∷ 0 ∷ [])
     (set (set (set (set zeros 65 (nearest (minus 3 1))) 130 (nearest (minus 9 1))) 132 (nearest (minus 4 1))) 195 (nearest (minus 5 1))) zeros
-    (zero ∷ nearest (minus 5 1) ∷ nearest (minus 8 1) ∷ nearest (minus 3 1) ∷ []) (no_excess (plus 1 0))
+    (zero ∷ nearest (minus 5 1) ∷ nearest (minus 8 1) ∷ nearest (minus 3 1) ∷ []) Potentials (no_excess (plus 1 0))
 
 -- the search shows [1, 3], whose state energy is −0.4000000000000001, and that of [1, 2] is lower, −0.40000000000000013
 pub record LowerState : Type 0 where

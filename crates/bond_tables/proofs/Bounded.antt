@@ -24,6 +24,8 @@ use Rattle.model.proofs.Search.{own, search-lowest}
 use Rattle.ensemble.specs.Layout.{BondCells, Found}
 use Rattle.design.specs.Design.{Design, positions, strands, model_of}
 use Rattle.design.specs.Checks.{beyond, Admitted}
+use Rattle.design.specs.Unread.{PotentialsOf}
+use Rattle.design.proofs.Cells.{potential-lent}
 use Rattle.design.specs.Laws.{Doubles}
 use Rattle.design.proofs.Sizes.{sized}
 use Rattle.design.proofs.FriendLaws.{friends-right, friend-tested}
@@ -61,13 +63,13 @@ module _ (d : Design) (t u : List Float) (sizes : wrong_tables d t u ≡ false) 
     option-known i x (inr f) = (friend-tested d i x f).1
 
     -- the cells are those that a search over the model reads
-    pub cells-lent : BondCells (model_over d t u) (strands d) t u d.potentials
+    pub cells-lent : (potentials : List Float) → PotentialsOf d potentials → BondCells (model_over d t u) (strands d) t u potentials
     unfolding model_over
-    cells-lent = record {
+    cells-lent potentials lent = record {
       not_null = (friends-right d).not_null a;
       pairs = λ i x y h o f. get_or-default t (x * strands d + y) nan zero (pair_place x y (option-known i x (own (model_of d) i x o)) (friend-tested d (i + 1) y f).1);
       sites = λ i y h f. let w = friend-tested d i y f in get_or-default u (i * strands d + y) nan zero (site-place i y w.0 w.1);
-      logs = λ i y h f. get_or-default d.potentials y nan zero (friend-tested d i y f).1;
+      logs = λ i y h f. potential-lent d potentials lent i y f;
     }
 
     pub bounded-over : Doubles d → CellDoubles t → CellDoubles u → bonds_out t u ≡ false → Bounded (model_over d t u) (strands d)

@@ -31,7 +31,7 @@ use Rattle.mfe.specs.Answers.{search_checks}
 use Rattle.bond_tables.specs.Tables.{strand_table, scaffold_table, wrong_tables, bonds_out, bond_cell, model_over}
 use Rattle.bond_tables.specs.Answers.{fill_checks, over_checks}
 use Rattle.bond_tables.specs.Filled.{OverAlike, FilledTables}
-use Rattle.bond_tables.proofs.Range.{not-out}
+use Rattle.design.proofs.Range.{not-out}
 use Rattle.bond_tables.proofs.Table.{length-table, table_at, none-in-table}
 use Rattle.bond_tables.proofs.Over.{same-checks}
 use Rattle.reply.specs.Number.{Reply}

@@ -1,5 +1,4 @@
 pub mod Table
-pub mod Range
 pub mod Over
 pub mod Bounded
 pub mod Filled

@@ -85,7 +85,7 @@ told-by r s next full e f = sym e ∙ ap (λ (x : Reply). x or_else next) f
 
 -- the conditions of 1 after the counts
 abbrev other_sizes : Design → Bool
-other_sizes d = wrong_lengths d.glues d.dg d.ds d.potentials || (wrong_marks d.scaffold d.marks || (any high_glue d.scaffold || any high_glue d.glues))
+other_sizes d = wrong_lengths d.glues d.dg d.ds d.amounts || (wrong_marks d.scaffold d.marks || (any high_glue d.scaffold || any high_glue d.glues))
 
 module _ (d : Design) (t u : List Float) where
   -- the code's test of the tables' lengths
@@ -111,13 +111,13 @@ module _ (own_size : Bool) (d : Design) (t u : List Float) (own : List Check) wh
       (sizes-told (ltb 128 (positions d)) (ltb 64 (strands d)) (wrong_tables d t u) own_size (ltb (strands d) 1) (other_sizes d) e)
 
   pub range-told : wrong_tables d t u ≡ false → bonds_out t u ≡ true → (next : Reply)
-      → first_of (ranged_checks own_size true d.scaffold d.marks d.glues d.dg d.ds d.potentials) or_else next ≡ first_of (over_checks own_size d t u own)
+      → first_of (ranged_checks own_size true d.scaffold d.marks d.glues d.dg d.ds d.amounts) or_else next ≡ first_of (over_checks own_size d t u own)
   range-told e f next =
       ranged-refuses own_size (wrong_tables d t u) (sizes_out d) (cells_out d.dg d.ds) (bonds_out t u) (null_binds d.glues d.dg d.ds) (bad_cell d.dg d.ds) (own ++ number_checks d) next e f
 
   pub passed_over : first_of (over_checks own_size d t u own) ≡ Ok tt → PassedOver own_size d t u own
   passed_over h =
-      let ranged = ranged_checks (own_size || wrong_tables d t u) (bonds_out t u) d.scaffold d.marks d.glues d.dg d.ds d.potentials in
+      let ranged = ranged_checks (own_size || wrong_tables d t u) (bonds_out t u) d.scaffold d.marks d.glues d.dg d.ds d.amounts in
       let first = both-pass ranged (own ++ number_checks d) h in
       let second = both-pass own (number_checks d) first.1 in
       let none = none-holds ranged first.0 in
@@ -128,7 +128,7 @@ module _ (own_size : Bool) (d : Design) (t u : List Float) (own : List Check) wh
         size = mine.0;
         tables = mine.1;
         cells = none.1.1.0;
-        design = record { sizes = sizes.1; cells = none.1.0; ambient = numbers.0; potentials = numbers.1.0; null = none.1.1.1.0 };
+        design = record { sizes = sizes.1; cells = none.1.0; concentrations = numbers.0; ambient = numbers.1.0; potentials = numbers.1.1.0; null = none.1.1.1.0 };
         mine = second.0;
       }
 

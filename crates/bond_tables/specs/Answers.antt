@@ -38,7 +38,7 @@ filled_scaffold d strand_cells scaffold_cells = entries_of (first_of (fill_check
 -- have none; what binds to null; the call's own of 11 to 13; and the design's numbers.
 abbrev pub over_checks : Bool → Design → List Float → List Float → List Check → List Check
 over_checks own_size d strand_cells scaffold_cells own =
-    ranged_checks (own_size || wrong_tables d strand_cells scaffold_cells) (bonds_out strand_cells scaffold_cells) d.scaffold d.marks d.glues d.dg d.ds d.potentials ++ (own ++ number_checks d)
+    ranged_checks (own_size || wrong_tables d strand_cells scaffold_cells) (bonds_out strand_cells scaffold_cells) d.scaffold d.marks d.glues d.dg d.ds d.amounts ++ (own ++ number_checks d)
 
 -- a configuration has one entry for each position
 abbrev pub energy_over_checks : Design → List Float → List Float → List ℕ → List Check

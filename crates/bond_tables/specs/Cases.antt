@@ -5,6 +5,7 @@ use Rattle.doubles.specs.Decimal.{plus, minus, nearest, zero}
 use Rattle.reply.specs.Figures.{given, refused_with}
 use Rattle.reply.specs.declared.Refusal.TheVariants.{WrongSize, OutOfRange}
 use Rattle.units.specs.declared.Ambient.{Ambient}
+use Rattle.design.specs.declared.Amounts.TheVariants.{Potentials}
 use Rattle.design.specs.Design.{Design, design}
 use Rattle.bond_tables.specs.Answers.{energy_over_answer, search_over_answer, search_over_entries}
 
@@ -19,7 +20,7 @@ two_positions ds =
     design (1 ∷ 2 ∷ []) (0 ∷ 0 ∷ []) (0 ∷ 0 ∷ 0 ∷ 0 ∷ 1 ∷ 0 ∷ 0 ∷ 2 ∷ 0 ∷ [])
     (set (set (replicate 4096 zero) 65 (nearest (minus 5 1))) 130 (nearest (minus 2 0)))
     (set (replicate 4096 zero) 4095 ds)
-    (zero ∷ zero ∷ zero ∷ []) half
+    (zero ∷ zero ∷ zero ∷ []) Potentials half
 
 -- the strand bonds: strand 0 with strand 0 as given, strand 0 with strand 2 −3, all else 0
 abbrev pub strand_cells : Float → List Float

@@ -26,8 +26,8 @@ use ensemble::lent::LentModel;
 use ensemble::lowest::lowest;
 use ensemble::options::OPTIONS;
 use reply::Refused;
-use reply::limits::POSITIONS;
-use sdc1d::{energy_reply, number_of_states, state_at_rank};
+use reply::limits::{POSITIONS, STRANDS};
+use sdc1d::{energy_admitted, number_of_states, state_at_rank};
 use terms::terms_over;
 use units::KcalPerMol;
 
@@ -49,9 +49,10 @@ pub fn fill_bond_tables(
     ensures scaffold_bonds_after { scaffold_bonds.new ≡ filled_scaffold design.now strand_bonds.old scaffold_bonds.old }
 {
     let own_size = wrong_tables(design, strand_bonds.len(), scaffold_bonds.len());
-    admitted(own_size, design)?;
-    fill_strand_bonds(design, strand_bonds);
-    fill_scaffold_bonds(design, scaffold_bonds);
+    let mut logarithms = [0.0; STRANDS];
+    let admitted = admitted(own_size, design, &mut logarithms)?;
+    fill_strand_bonds(admitted.design, strand_bonds);
+    fill_scaffold_bonds(admitted.design, scaffold_bonds);
     Ok(())
 }
 
@@ -64,14 +65,15 @@ pub fn state_energy_over(
     ensures { energy_figures result ≡ energy_over_answer design.now tables.now.strand_bonds.now tables.now.scaffold_bonds.now configuration.now }
 {
     bonds_reply(configuration.len() != design.positions(), design, tables)?;
-    energy_reply(design, configuration)?;
-    let terms = terms_over(design, tables, configuration);
+    let mut logarithms = [0.0; STRANDS];
+    let admitted = energy_admitted(design, configuration, &mut logarithms)?;
+    let terms = terms_over(&admitted, tables, configuration);
     let places = Places {
         configuration,
         terms: &terms,
     };
     let sumg = places.state_sum();
-    Ok(sumg * design.rt())
+    Ok(sumg * admitted.design.rt())
 }
 
 // How many states there are. They do not hang on bonds: where the tables pass, it is the count over the design.
@@ -118,7 +120,7 @@ fn lowest_over<'a>(
     let bonds = Bonds::new(
         tables.strand_bonds,
         tables.scaffold_bonds,
-        design.potentials(),
+        admitted.potentials(),
     );
     lowest(&LentModel { options, bonds }, design.rt(), configuration)
 }
@@ -142,9 +144,10 @@ pub fn search_over(
 {
     let own_size = configuration.len() != design.positions();
     bonds_reply(own_size, design, tables)?;
-    let admitted = admitted(own_size, design)?;
     design.hold_doubles();
     hold_doubles(tables.strand_bonds);
     hold_doubles(tables.scaffold_bonds);
+    let mut logarithms = [0.0; STRANDS];
+    let admitted = admitted(own_size, design, &mut logarithms)?;
     Ok(lowest_over(&admitted, tables, configuration))
 }

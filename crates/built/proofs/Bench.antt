@@ -26,4 +26,4 @@ not-answered : (build : Build) → (from_params build (one_strand 3) odd).number
 not-answered build e = let z : ◌≡◌ {A = ℕ} 6 0 = sym (refused build) ∙ e in omega arith
 
 pub handed-on : HandedOn
-handed-on = record { made = λ marks potentials ambient. refl; kept = kept; unclaimed = λ build. record { dg = λ e. absurd (not-answered build e); ds = λ e. absurd (not-answered build e) } }
+handed-on = record { made = λ marks amounts given ambient. refl; kept = kept; unclaimed = λ build. record { dg = λ e. absurd (not-answered build e); ds = λ e. absurd (not-answered build e) } }

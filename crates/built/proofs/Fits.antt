@@ -18,6 +18,7 @@ use Rattle.sdc1d_params.specs.Params.{Params, Outcome, writes_of, strand_glues_o
 use Rattle.design.specs.Design.{Design}
 use Rattle.design.specs.Checks.{high_glue, beyond, wrong_marks, wrong_sizes, sizes_out, cells_out, bad_cell, null_glued, null_cells, null_binds, number_checks}
 use Rattle.sdc1d_params.specs.declared.Build.{Build}
+use Rattle.design.specs.declared.Amounts.{Amounts}
 use Rattle.built.specs.Fits.{Fits, design_of, WrittenFits, Symmetric, WrittenSymmetric}
 use Rattle.built.proofs.Passed.{Passed, answered-as, few-users, strands-many, scaffold-short, writes-small}
 use Rattle.std.specs.Prelude.{None, Some}
@@ -41,23 +42,23 @@ fits d s c n =
       cells = c;
       null = n;
       left = λ own_size between after. left-of own_size (sizes_out d) (cells_out d.dg d.ds) (null_binds d.glues d.dg d.ds) (bad_cell d.dg d.ds) (first_of (between ++ (number_checks d ++ after))) s c n;
-      admitted = λ a q. record { sizes = s; cells = c; ambient = a; potentials = q; null = n };
+      admitted = λ concentrations a q. record { sizes = s; cells = c; concentrations = concentrations; ambient = a; potentials = q; null = n };
     }
 
 -- ---- the three checks, from what they look at
 
-module _ (scaffold marks glues : List ℕ) (dg ds potentials : List Float) where
+module _ (scaffold marks glues : List ℕ) (dg ds amounts : List Float) where
   sizes-in :
       length scaffold ≤ 128
-      → 1 ≤ length potentials
-      → length potentials ≤ 64
-      → length glues ≡ 3 * length potentials
+      → 1 ≤ length amounts
+      → length amounts ≤ 64
+      → length glues ≡ 3 * length amounts
       → length dg ≡ 4096
       → length ds ≡ 4096
       → wrong_marks scaffold marks ≡ false
       → any high_glue scaffold ≡ false
       → any high_glue glues ≡ false
-      → wrong_sizes scaffold marks glues dg ds potentials ≡ false
+      → wrong_sizes scaffold marks glues dg ds amounts ≡ false
   unfolding wrong_sizes
   sizes-in short null few three dg-cells ds-cells marked low glues-low =
       simp (le-ltb _ _ short, le-ltb _ _ null, le-ltb _ _ few, eq-eqb _ _ three, eq-eqb _ _ dg-cells, eq-eqb _ _ ds-cells, marked, low, glues-low)
@@ -79,12 +80,12 @@ module _ (p : Params) (lent : Outcome) (passed : Passed p lent) where
   unfolding strand_glues_of
   null-glued = refl
 
-  outcome_fits : (marks : List ℕ) (potentials : List Float) (ambient : Ambient) → wrong_marks (built_from p).scaffold_glues marks ≡ false → length potentials ≡ p.users + 3 → Fits (design_of (built_from p) marks potentials ambient)
-  outcome_fits marks potentials ambient marked many =
+  outcome_fits : (marks : List ℕ) (amounts : List Float) (given : Amounts) (ambient : Ambient) → wrong_marks (built_from p).scaffold_glues marks ≡ false → length amounts ≡ p.users + 3 → Fits (design_of (built_from p) marks amounts given ambient)
+  outcome_fits marks amounts given ambient marked many =
       let small = writes-small p passed.few in
       let users = few-users p lent passed.size in
-      fits (design_of (built_from p) marks potentials ambient)
-      (sizes-in (built_from p).scaffold_glues marks (built_from p).strand_glues (built_from p).dg (built_from p).ds potentials
+      fits (design_of (built_from p) marks amounts given ambient)
+      (sizes-in (built_from p).scaffold_glues marks (built_from p).strand_glues (built_from p).dg (built_from p).ds amounts
       (rw (scaffold-many p) (scaffold-short p lent passed.size))
       (omega arith)
       (omega arith)
@@ -98,10 +99,10 @@ module _ (p : Params) (lent : Outcome) (passed : Passed p lent) where
       (null-in (built_from p).strand_glues (built_from p).dg (built_from p).ds null-glued (dg-null (writes_of p) small) (ds-null (writes_of p) small))
 
 pub written-fits : (build : Build) (p : Params) (lent : Outcome) → WrittenFits build p lent
-written-fits build p lent e marks potentials ambient marked many =
+written-fits build p lent e marks amounts given ambient marked many =
     let a = answered-as p lent build e in
     let same : wrong_marks (built_from p).scaffold_glues marks ≡ false = subst (λ (o : Outcome). wrong_marks o.scaffold_glues marks ≡ false) a.1 marked in
-    subst (λ (o : Outcome). Fits (design_of o marks potentials ambient)) (sym a.1) (outcome_fits p lent a.0 marks potentials ambient same many)
+    subst (λ (o : Outcome). Fits (design_of o marks amounts given ambient)) (sym a.1) (outcome_fits p lent a.0 marks amounts given ambient same many)
 
 pub written-symmetric : (build : Build) (p : Params) (lent : Outcome) → WrittenSymmetric build p lent
 written-symmetric build p lent =

@@ -16,6 +16,7 @@ use Rattle.sdc1d_params.specs.declared.Build.{Build}
 use Rattle.sdc1d_params.specs.declared.Build.TheVariants.{Ordinary, Archive}
 use Rattle.units.specs.declared.Ambient.{Ambient}
 use Rattle.design.specs.Design.{design}
+use Rattle.design.specs.declared.Amounts.{Amounts}
 use Rattle.built.specs.Fits.{design_of, WrittenSymmetric}
 
 -- The text is `a**`. One strand, whose west glue is the `a`; one scaffold position, whose name is the first so many bytes; no energy entry,
@@ -88,7 +89,7 @@ odd = record { number = 0; strand_glues = lent.strand_glues; scaffold_glues = le
 -- Added: what is handed on as what, and what is not said of a refusal.
 pub record HandedOn : Type 0 where
   -- each of the four slices has its place in the design, dG and dS their own
-  pub made : (marks : List ℕ) (potentials : List Float) (ambient : Ambient) → design_of lent marks potentials ambient ≡ design (9 ∷ []) marks (replicate 12 9) lent.dg lent.ds potentials ambient
+  pub made : (marks : List ℕ) (amounts : List Float) (given : Amounts) (ambient : Ambient) → design_of lent marks amounts given ambient ≡ design (9 ∷ []) marks (replicate 12 9) lent.dg lent.ds amounts given ambient
   -- a refused build leaves what was lent, symmetric or not, and `WrittenSymmetric` claims nothing of it
   pub kept : (build : Build) → (from_params build (one_strand 3) odd).dg ≡ odd.dg
   pub unclaimed : (build : Build) → WrittenSymmetric build (one_strand 3) odd

@@ -9,14 +9,15 @@ use Rattle.units.specs.Ambient.{ambient_figures, ambient_at}
 use Rattle.units.specs.declared.Ambient.{Ambient}
 use Rattle.sdc1d_params.specs.Params.{Params, Outcome, from_params}
 use Rattle.sdc1d_params.specs.declared.Build.{Build}
+use Rattle.design.specs.declared.Amounts.{Amounts}
 use Rattle.design.specs.Design.{Design, design, cell}
-use Rattle.design.specs.Checks.{wrong_marks, sizes_out, cells_out, ambient_out, potentials_out, null_binds, number_checks, design_checks, Admitted}
+use Rattle.design.specs.Checks.{wrong_marks, sizes_out, cells_out, dilute, ambient_out, potentials_out, null_binds, number_checks, design_checks, Admitted}
 
 -- the design that is made of what was written, with these marks
-abbrev pub design_of : Outcome → List ℕ → List Float → Ambient → Design
-design_of built marks potentials ambient = design built.scaffold_glues marks built.strand_glues built.dg built.ds potentials ambient
+abbrev pub design_of : Outcome → List ℕ → List Float → Amounts → Ambient → Design
+design_of built marks amounts given ambient = design built.scaffold_glues marks built.strand_glues built.dg built.ds amounts given ambient
 
--- a design that only the checks of its ambient and its potentials can still refuse
+-- a design that only the checks of its concentrations, its ambient and its potentials can still refuse
 pub record Fits (d : Design) : Type 0 where
   -- The counts are within their limits, each slice is as long as it should be, and no glue is above 63.
   pub sizes : sizes_out d ≡ false
@@ -24,22 +25,22 @@ pub record Fits (d : Design) : Type 0 where
   pub cells : cells_out d.dg d.ds ≡ false
   -- Strand 0 has no glue, and rows and columns 0 hold no nonzero cell.
   pub null : null_binds d.glues d.dg d.ds ≡ false
-  -- So what is left of the checks of any call that takes the design is the call's own, the ambient and the potentials,
+  -- So what is left of the checks of any call that takes the design is the call's own, the concentrations, the ambient and the potentials,
   pub left :
       (own_size : Bool) (between after : List Check)
       → first_of (design_checks own_size d between after) ≡ first_of (WrongSize if own_size ∷ (between ++ (number_checks d ++ after)))
-  -- and with these two in range the design is admitted.
-  pub admitted : ambient_out d.ambient ≡ false → potentials_out d ≡ false → Admitted d
+  -- and with these in range the design is admitted.
+  pub admitted : dilute d ≡ false → ambient_out d.ambient ≡ false → potentials_out d ≡ false → Admitted d
 
--- Where `from_params` answers, what it wrote fits, in any ambient, with any marks, one for each position, and any potentials, one for each
+-- Where `from_params` answers, what it wrote fits, in any ambient, with any marks, one for each position, and any amounts, one for each
 -- strand: strand 0, the user strands, quencher and reporter.
 abbrev pub WrittenFits : Build → Params → Outcome → Type 0
 WrittenFits build p lent =
     (from_params build p lent).number ≡ answered
-    → (marks : List ℕ) (potentials : List Float) (ambient : Ambient)
+    → (marks : List ℕ) (amounts : List Float) (given : Amounts) (ambient : Ambient)
     → wrong_marks (from_params build p lent).scaffold_glues marks ≡ false
-    → length potentials ≡ p.users + 3
-    → Fits (design_of (from_params build p lent) marks potentials ambient)
+    → length amounts ≡ p.users + 3
+    → Fits (design_of (from_params build p lent) marks amounts given ambient)
 
 -- Every ambient that `ambient_at` gives, at any double of kelvin, is one that a design takes: RT from 1/8 to 8, excesses within ±1,024.
 abbrev pub AmbientFits : Type 0

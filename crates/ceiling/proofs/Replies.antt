@@ -29,7 +29,7 @@ module _ (d : Design) (ceiling : Float) (entries : List ℕ) where
   own_size = not (eqb (length entries) (positions d))
 
   abbrev ranged : Bool → List Check
-  ranged out = ranged_checks own_size out d.scaffold d.marks d.glues d.dg d.ds d.potentials
+  ranged out = ranged_checks own_size out d.scaffold d.marks d.glues d.dg d.ds d.amounts
 
   pub ceiling-then : {told : Reply} → first_of (ranged (not (finite ceiling))) ≡ told → first_of (ceiling_checks d ceiling entries) ≡ told or_else first_of (counted_checks d ceiling)
   ceiling-then e = reply-append (ranged (not (finite ceiling))) (counted_checks d ceiling) e

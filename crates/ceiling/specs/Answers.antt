@@ -16,7 +16,7 @@ counted_checks d ceiling = own_count_checks d ++ (number_checks d ++ (NoneUnder 
 -- a state is written into one lent entry for each position; a ceiling that is not finite comes after the cells, without a place
 abbrev pub ceiling_checks : Design → Float → List ℕ → List Check
 ceiling_checks d ceiling entries =
-    ranged_checks (not (eqb (length entries) (positions d))) (not (finite ceiling)) d.scaffold d.marks d.glues d.dg d.ds d.potentials ++ counted_checks d ceiling
+    ranged_checks (not (eqb (length entries) (positions d))) (not (finite ceiling)) d.scaffold d.marks d.glues d.dg d.ds d.amounts ++ counted_checks d ceiling
 
 -- the answer of `first_state_under`: the state energy of that state
 abbrev pub ceiling_answer : Design → Float → List ℕ → Figures Float

@@ -20,7 +20,7 @@ use ensemble::states::MOST_STATES;
 use prepared::bonds::fill_bonds;
 use prepared::options::{Counted, count_options};
 use prepared::sums::Begun;
-use reply::limits::POSITIONS;
+use reply::limits::{POSITIONS, STRANDS};
 use reply::{Refusal, Refused, refused_if};
 use under::{Limit, under_from};
 use units::KcalPerMol;
@@ -43,7 +43,7 @@ fn search_states(
     let options = *options;
     let optioned = OptionedDesign { design, options };
     fill_bonds(&optioned, &mut strand_bonds, &mut scaffold_bonds);
-    let bonds = Bonds::new(&strand_bonds, &scaffold_bonds, design.potentials());
+    let bonds = Bonds::new(&strand_bonds, &scaffold_bonds, admitted.potentials());
     let lent = LentModel { options, bonds };
     let limit = Limit {
         rt: design.rt().0,
@@ -69,7 +69,8 @@ fn counted(
     let counts = &mut counts[..design.positions()];
     let Counted { options, states } = count_options(tabled, &mut rows, counts);
     refused_if(Refusal::TooManyStates, MOST_STATES < states)?;
-    let admitted = tabled.admitted()?;
+    let mut logarithms = [0.0; STRANDS];
+    let admitted = tabled.admitted(&mut logarithms)?;
     let found = search_states(&admitted, &options, ceiling, entries);
     Ok(KcalPerMol(found.ok_or(Refusal::NoneUnder)?))
 }

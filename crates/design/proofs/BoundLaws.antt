@@ -1,34 +1,29 @@
 -- The model of an admitted design is bounded: each bond is finite and at most 80,000 in size. Assumes nothing.
-use mathlib.Core.Path.{◌≡◌, refl, sym, ◌∙◌, subst}
-use mathlib.Core.Bool.{Bool, true, false, ◌&&◌, ◌||◌}
-use Prim.Native.Nat.{ℕ, ◌+◌, ◌*◌, ◌<◌, ◌≤◌}
+use mathlib.Core.Path.{◌≡◌}
+use mathlib.Core.Bool.{true, false, ◌||◌}
+use Prim.Native.Nat.{ℕ, ◌+◌, ◌*◌, ◌<◌}
 use native.Mathlib.Omega.{arith}
-use mathlib.Core.List.{List}
 use lib.Dec.{T, lit≤}
-use lib.ListN.{length, get_or}
-use lib.Ieee.{Float, nan, binary64, fits, sub, mul}
+use lib.ListN.{length}
+use lib.Ieee.{Float, binary64, fits, sub, mul}
 use borrow.Author.Tests.{not-false}
 use Rattle.lists.specs.Find.{any}
-use Rattle.lists.proofs.Places.{get_or-default}
 use Rattle.lists.proofs.Tests.{neither}
 use Rattle.lists.proofs.Any.{none_passes, none_below}
 use Rattle.lists.proofs.Build.{length-tabulate}
-use Rattle.doubles.specs.Decimal.{plus, minus, nearest, zero}
+use Rattle.doubles.specs.Decimal.{plus, nearest, zero}
 use Rattle.doubles.specs.Range.{within, in_range}
 use Rattle.doubles.specs.Size.{Within}
 use Rattle.doubles.proofs.Sums.{weaken, sub_within}
 use Rattle.doubles.proofs.Products.{mul-within, div-within}
-use Rattle.doubles.proofs.Bounds.{in-range-within, rt-range}
+use Rattle.doubles.proofs.Bounds.{rt-range}
 use Rattle.model.specs.Model.{Friend}
-use Rattle.design.specs.Design.{Design, positions, strands, scaffold_glue, west, bottom, east, potential, cell, bond_of, strand_bond, scaffold_bond, strand_bond_in, scaffold_bond_in, is_friend, friends_of, model_of}
-use Rattle.design.specs.Checks.{outside, beyond, friend_at, somewhere, unfit, cells_out, ambient_out, potentials_out, Admitted}
+use Rattle.design.specs.Design.{Design, positions, strands, scaffold_glue, west, bottom, east, potential, cell, bond_of, strand_bond, scaffold_bond, strand_bond_in, scaffold_bond_in, friends_of, model_of}
+use Rattle.design.specs.Checks.{outside, beyond, somewhere, unfit, cells_out, ambient_out, potentials_out, Admitted}
 use Rattle.design.specs.Laws.{Doubles, BoundsRight}
 use Rattle.design.proofs.Sizes.{Sized, sized}
 use Rattle.design.proofs.FriendLaws.{friends-right, friend-tested}
-
--- a number that is not beyond a limit is within it
-pub not_beyond : (A : ℕ) → A ≤ 1024 → (x : Float) → T (fits binary64 x) → beyond A x ≡ false → Within binary64 A x
-not_beyond A h x t e = in-range-within A (omega arith) x t (unfold in_range in not-false (within (nearest (minus A 0)) (nearest (plus A 0)) x) e)
+use Rattle.design.proofs.Concentrations.{held, not_beyond, read-passes, friend-looked-at, potential-double}
 
 -- (dG − excess × dS) / RT is at most (1,024 + 1,024 × 8) × 8 in size
 bond-within : (dg ds excess rt : Float) → Within binary64 1024 dg → Within binary64 8 ds → Within binary64 1024 excess → T (fits binary64 rt) → in_range (plus 125 3) (plus 8 0) rt ≡ true
@@ -38,10 +33,6 @@ bond-within dg ds excess rt p q e t r =
     let energy = sub_within binary64 1024 8192 dg (mul binary64 excess ds) p heat (lit≤ tt) in
     let w = rt-range rt t r in
     weaken 80000 (lit≤ tt) (div-within binary64 9216 8 (sub binary64 dg (mul binary64 excess ds)) rt energy w.size.real w.eighths (lit≤ tt))
-
--- a number of a list is a double, whatever would stand past the list's end
-held : (xs : List Float) (k : ℕ) → k < length xs → T (fits binary64 (get_or xs k nan)) → T (fits binary64 (get_or xs k zero))
-held xs k h t = subst (λ (x : Float). T (fits binary64 x)) (get_or-default xs k nan zero h) t
 
 module _ (d : Design) (doubles : Doubles d) (a : Admitted d) where
   z : Sized d
@@ -93,21 +84,11 @@ module _ (d : Design) (doubles : Doubles d) (a : Admitted d) where
 
   -- a friend's potential was looked at
   potential-in : (i x : ℕ) → Friend (model_of d) i x → Within binary64 1024 (potential d x)
-  potential-in i x f = let w = friend-tested d i x f in fit x w.1 (looked-at i x w.0 w.2)
-    where
-      looked-at : (i x : ℕ) → i < positions d → is_friend d i x ≡ true → somewhere d.scaffold d.marks d.glues d.dg d.ds x ≡ true
-      looked-at i x h e = go (somewhere d.scaffold d.marks d.glues d.dg d.ds x) refl
-        where
-          go : (t : Bool) → somewhere d.scaffold d.marks d.glues d.dg d.ds x ≡ t → t ≡ true
-          go true p = refl
-          go false p = let n : is_friend d i x ≡ false = unfold somewhere in none_below (friend_at d.scaffold d.marks d.glues d.dg d.ds x) (positions d) p i h in sym n ∙ e
-
-      fit : (x : ℕ) → x < strands d → somewhere d.scaffold d.marks d.glues d.dg d.ds x ≡ true → Within binary64 1024 (potential d x)
-      fit x h e = not_beyond 1024 (lit≤ tt) (potential d x) (held d.potentials x h (doubles.potentials x h)) (passes (somewhere d.scaffold d.marks d.glues d.dg d.ds x) (beyond 1024 (potential d x)) e (unfold potentials_out in none_below (unfit d.scaffold d.marks d.glues d.dg d.ds d.potentials) (strands d) a.potentials x h))
-        where
-          passes : (s b : Bool) → s ≡ true → (s && b) ≡ false → b ≡ false
-          passes true b p q = q
-          passes false b p q = absurd (let y : ◌≡◌ {A = ℕ} 0 1 = cc in omega arith)
+  potential-in i x f =
+      let known = (friend-tested d i x f).1 in
+      let seen = friend-looked-at d i x f in
+      not_beyond 1024 (lit≤ tt) (potential d x) (potential-double d doubles a.concentrations x known seen)
+      (read-passes (somewhere d.scaffold d.marks d.glues d.dg d.ds x) (beyond 1024 (potential d x)) seen (unfold potentials_out in none_below (unfit d) (strands d) a.potentials x known))
 
 pub bounds-right : (d : Design) → BoundsRight d
 unfolding model_of

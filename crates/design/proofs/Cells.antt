@@ -15,8 +15,9 @@ use Rattle.model.specs.Search.{options_at}
 use Rattle.ensemble.specs.Layout.{OptionRows, BondCells, option_in}
 use Rattle.ensemble.specs.Ring.{ClosingCells}
 use Rattle.ensemble.proofs.OptionRows.{count-is, option_is}
-use Rattle.design.specs.Design.{Design, strands, strand_bond_in, scaffold_bond_in, model_of}
+use Rattle.design.specs.Design.{Design, strands, potential, strand_bond_in, scaffold_bond_in, model_of}
 use Rattle.design.specs.Checks.{Admitted, TablesPass}
+use Rattle.design.specs.Unread.{PotentialsOf}
 use Rattle.design.specs.Filling.{NullNowhere, Holds, PairsHeld, ClosingHeld, SitesHeld}
 use Rattle.design.proofs.FriendLaws.{friends-right, friend-tested, null-not-bound}
 
@@ -47,11 +48,17 @@ module _ {m : Model} {rows counts : List ℕ} (o : OptionRows m rows counts) (i 
 pub null-nowhere : (d : Design) → TablesPass d → NullNowhere d.scaffold d.glues d.dg d.ds
 null-nowhere d t i h = null-not-bound d t i h
 
+-- the lent potential of a friend is the model's
+pub potential-lent : (d : Design) (potentials : List Float) → PotentialsOf d potentials → (i y : ℕ) → Friend (model_of d) i y → get_or potentials y nan ≡ potential d y
+potential-lent d potentials own i y friend =
+    let inside : y < length potentials = rw own.many (friend-tested d i y friend).1 in
+    get_or-default potentials y nan zero inside ∙ sym (own.friends i y friend)
+
 module _ (d : Design) (a : Admitted d) where
   pub bond-cells : {rows counts : List ℕ} {strand_bonds scaffold_bonds : List Float} → OptionRows (model_of d) rows counts → PairsHeld (strand_bond_in d) (strands d) strand_bonds rows counts (length counts - 1)
-      → SitesHeld (scaffold_bond_in d) (strands d) scaffold_bonds rows counts (length counts) → BondCells (model_of d) (strands d) strand_bonds scaffold_bonds d.potentials
+      → SitesHeld (scaffold_bond_in d) (strands d) scaffold_bonds rows counts (length counts) → (potentials : List Float) → PotentialsOf d potentials → BondCells (model_of d) (strands d) strand_bonds scaffold_bonds potentials
   unfolding model_of
-  bond-cells {rows} {counts} {strand_bonds} {scaffold_bonds} o p s =
+  bond-cells {rows} {counts} {strand_bonds} {scaffold_bonds} o p s potentials own =
       let number = o.positions in
       record {
         not_null = (friends-right d).not_null a;
@@ -62,7 +69,7 @@ module _ (d : Design) (a : Admitted d) where
         sites = λ i y h friend.
             let here = friend-place o i h friend in
             rw here.2 at (s i here.0 (omega arith) here.1);
-        logs = λ i y h friend. get_or-default d.potentials y nan zero (friend-tested d i y friend).1;
+        logs = λ i y h friend. potential-lent d potentials own i y friend;
       }
 
 -- what closes a ring is the model's

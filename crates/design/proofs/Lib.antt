@@ -7,10 +7,13 @@ pub mod FriendLaws
 pub mod Blocked
 pub mod Cells
 pub mod Folded
+pub mod Range
+pub mod Concentrations
 pub mod BoundLaws
 pub mod Lowest
 pub mod Replies
 pub mod Places
 pub mod Finite
 pub mod Unread
+pub mod ReadLogarithms
 pub mod NullBonds

@@ -31,7 +31,8 @@ use Rattle.design.specs.Answers.{state_energy_answer, chain_energy_answer}
 use Rattle.design.specs.Laws.{Doubles}
 use Rattle.design.specs.TwoEnergies.{AdmittedNear, FiguresNear}
 use Rattle.design.proofs.Sizes.{Sized, sized}
-use Rattle.design.proofs.BoundLaws.{dg-in, ds-in, rt-in, excesses-in, not_beyond, strand-bond-within, bounds-right}
+use Rattle.design.proofs.Concentrations.{not_beyond}
+use Rattle.design.proofs.BoundLaws.{dg-in, ds-in, rt-in, excesses-in, strand-bond-within, bounds-right}
 use Rattle.std.specs.Prelude.{Ok, Err}
 use Rattle.reply.specs.Number.{Reply}
 use Rattle.design.proofs.Finite.{taken}

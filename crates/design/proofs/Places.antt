@@ -20,10 +20,10 @@ use Rattle.doubles.specs.Decimal as Decimal
 use Rattle.reply.specs.Number.{number_of, reply_number, Reply}
 use Rattle.reply.specs.First.{Check, ◌if◌, ◌if◌at◌, first_of, refused_if, refuses}
 use Rattle.reply.specs.declared.Refusal.{Refusal}
-use Rattle.reply.specs.declared.Refusal.TheVariants.{WrongSize, OutOfRange, NullBinds, AmbientOut, PotentialOut}
+use Rattle.reply.specs.declared.Refusal.TheVariants.{WrongSize, OutOfRange, NullBinds, TooDilute, AmbientOut, PotentialOut}
 use Rattle.units.specs.declared.Ambient.{Ambient}
 use Rattle.design.specs.Design.{Design, positions, strands}
-use Rattle.design.specs.Checks.{beyond, friend_at, somewhere, TablesPass, sizes_out, cells_out, bad_cell, rt_out, strand_excess_out, scaffold_excess_out, ambient_out, bad_ambient, potentials_out, bad_potential, null_binds, number_checks, design_checks}
+use Rattle.design.specs.Checks.{beyond, friend_at, somewhere, TablesPass, sizes_out, cells_out, bad_cell, rt_out, strand_excess_out, scaffold_excess_out, ambient_out, bad_ambient, potentials_out, bad_potential, null_binds, dilute, range_checks, number_checks, design_checks}
 use Rattle.design.specs.Places.{cell_out, ambient_number_out, potential_out, LowestOut, PlacesRight}
 use Rattle.design.proofs.Sizes.{sized}
 use Rattle.std.specs.Prelude.{Option, None, Some, Ok, Err}
@@ -191,10 +191,16 @@ module _ (d : Design) {r : Refusal} {p : Option ℕ} where
       | inr h ↦ last after a h.1
     ]
 
-    numbers : TablesPass d → first_of (number_checks d ++ after) ≡ refuses r p → Cause d r p
-    numbers t e = elim (told (AmbientOut if ambient_out d.ambient at bad_ambient d.ambient) (PotentialOut if potentials_out d at bad_potential d ∷ after) e) [
+    ranges : TablesPass d → first_of (range_checks d ++ after) ≡ refuses r p → Cause d r p
+    ranges t e = elim (told (AmbientOut if ambient_out d.ambient at bad_ambient d.ambient) (PotentialOut if potentials_out d at bad_potential d ∷ after) e) [
       | inl h ↦ ambient h.0 h.1
       | inr h ↦ potentials t h.1
+    ]
+
+    numbers : TablesPass d → first_of (number_checks d ++ after) ≡ refuses r p → Cause d r p
+    numbers t e = elim (told (TooDilute if dilute d) (range_checks d ++ after) e) [
+      | inl h ↦ plainly (λ k. omega arith) (λ k. omega arith) (λ k. omega arith) h.1
+      | inr h ↦ ranges t h.1
     ]
 
     module _ (own_size : Bool) (between : List Check) (b : Placeless between) where

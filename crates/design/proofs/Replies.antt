@@ -50,7 +50,7 @@ tables-of d a = record { sizes = a.sizes; cells = a.cells; null = a.null }
 
 module _ (own_size : Bool) (d : Design) where
   abbrev tables : List Check
-  tables = table_checks own_size d.scaffold d.marks d.glues d.dg d.ds d.potentials
+  tables = table_checks own_size d.scaffold d.marks d.glues d.dg d.ds d.amounts
 
   pub tabled : first_of tables ≡ Ok tt → Tabled own_size d
   tabled h =
@@ -68,14 +68,14 @@ module _ (own_size : Bool) (d : Design) where
         let t = tabled first.0 in
         record {
           size = t.size;
-          design = record { sizes = t.tables.sizes; cells = t.tables.cells; ambient = numbers.0; potentials = numbers.1.0; null = t.tables.null };
+          design = record { sizes = t.tables.sizes; cells = t.tables.cells; concentrations = numbers.0; ambient = numbers.1.0; potentials = numbers.1.1.0; null = t.tables.null };
           own = second.0;
           last = third.1;
         }
 
     -- of an admitted design the call's own checks decide
     pub own-decide : own_size ≡ false → Admitted d → first_of between ≡ Ok tt → first_of (design_checks own_size d between after) ≡ first_of after
-    own-decide e a b = simp (e, a.sizes, a.cells, a.null) (reply-append between (number_checks d ++ after) b ∙ simp (a.ambient, a.potentials))
+    own-decide e a b = simp (e, a.sizes, a.cells, a.null) (reply-append between (number_checks d ++ after) b ∙ simp (a.concentrations, a.ambient, a.potentials))
 
     -- a refusal of the tables is the call's
     pub tables-refuse : {r : Refusal} {p : Option ℕ} → first_of tables ≡ refuses r p → first_of (design_checks own_size d between after) ≡ refuses r p

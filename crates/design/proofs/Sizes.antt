@@ -26,8 +26,8 @@ pub record Sized (d : Design) : Type 0 where
 pub sized : (d : Design) → sizes_out d ≡ false → Sized d
 unfolding wrong_sizes
 sized d e =
-    let counts = neither (wrong_counts d.scaffold d.potentials) (wrong_lengths d.glues d.dg d.ds d.potentials || (wrong_marks d.scaffold d.marks || (any high_glue d.scaffold || any high_glue d.glues))) e in
-    let lengths = neither (wrong_lengths d.glues d.dg d.ds d.potentials) (wrong_marks d.scaffold d.marks || (any high_glue d.scaffold || any high_glue d.glues)) counts.1 in
+    let counts = neither (wrong_counts d.scaffold d.amounts) (wrong_lengths d.glues d.dg d.ds d.amounts || (wrong_marks d.scaffold d.marks || (any high_glue d.scaffold || any high_glue d.glues))) e in
+    let lengths = neither (wrong_lengths d.glues d.dg d.ds d.amounts) (wrong_marks d.scaffold d.marks || (any high_glue d.scaffold || any high_glue d.glues)) counts.1 in
     let marks = neither (wrong_marks d.scaffold d.marks) (any high_glue d.scaffold || any high_glue d.glues) lengths.1 in
     let glues = neither (any high_glue d.scaffold) (any high_glue d.glues) marks.1 in
     let c = neither (ltb 128 (positions d)) (ltb (strands d) 1 || ltb 64 (strands d)) counts.0 in

@@ -1,4 +1,4 @@
--- Designs that differ only in potentials of strands that are nowhere friends are checked alike, and their models differ in nothing that is read.
+-- Designs whose amounts read alike are checked alike, and their models differ in nothing that is read.
 -- Assumes nothing.
 use mathlib.Core.Path.{◌≡◌, refl, sym, ap, ap₂, ◌∙◌}
 use mathlib.Core.Bool.{Bool, true, false, not, ◌&&◌, ◌||◌}
@@ -20,12 +20,15 @@ use Rattle.reply.specs.First.{Check, ◌if◌, first_of}
 use Rattle.reply.specs.Figures.{figures_of, entries_of}
 use Rattle.reply.specs.declared.Refusal.TheVariants.{NotAFriend, TooManyStates, RankTooHigh}
 use Rattle.reply.proofs.Figures.{same-figures, same_entries}
+use Rattle.logarithm.specs.Near.{has_logarithm}
+use Rattle.model.specs.Model.{Friend}
 use Rattle.model.specs.Read.{SameRead, Alike}
 use Rattle.model.proofs.Read.{only-friends-read}
-use Rattle.design.specs.Design.{Design, positions, strands, potential, friends_of, model_of}
-use Rattle.design.specs.Checks.{beyond, friend_at, somewhere, unfit, wrong_sizes, sizes_out, potentials_out, bad_potential, strangers, no_strand, no_position, table_checks, number_checks, design_checks, own_count_checks, own_rank_checks, own_energy_checks, strand_bond_checks, scaffold_bond_checks, friends_checks, count_checks, rank_checks, energy_checks}
+use Rattle.design.specs.Design.{Design, positions, strands, amount, potential_by, potential, friends_of, model_of}
+use Rattle.design.specs.Checks.{beyond, friend_at, somewhere, by_concentration, thin, dilute, unfit, wrong_sizes, sizes_out, potentials_out, bad_potential, strangers, no_strand, no_position, table_checks, number_checks, design_checks, own_count_checks, own_rank_checks, own_energy_checks, strand_bond_checks, scaffold_bond_checks, friends_checks, count_checks, rank_checks, energy_checks}
 use Rattle.design.specs.Answers.{no_chain}
-use Rattle.design.specs.Unread.{with_potentials, ReadAlike, AnswersAlike, UnreadPotentials}
+use Rattle.design.specs.declared.Amounts.{Amounts}
+use Rattle.design.specs.Unread.{with_amounts, ReadAlike, ReadsAlike, AnswersAlike, UnreadAmounts}
 use Rattle.design.proofs.FriendLaws.{tested-friend}
 use Rattle.std.specs.Prelude.{Ok}
 use Rattle.design.proofs.Finite.{taken}
@@ -62,40 +65,62 @@ some_below p n e =
 
 -- ---- the checks
 
-module _ (d : Design) (potentials : List Float) (r : ReadAlike d potentials) where
+-- a strand that is somewhere a friend is one at some position
+found-at : (d : Design) (x : ℕ) → x < strands d → somewhere d.scaffold d.marks d.glues d.dg d.ds x ≡ true → (i : ℕ) × Friend (model_of d) i x
+unfolding somewhere
+found-at d x h e =
+    let at = some_below (friend_at d.scaffold d.marks d.glues d.dg d.ds x) (positions d) e in
+    (at.at, tested-friend d at.at x at.below h at.passes)
+
+-- a test of the strands that are somewhere friends, in two ways that agree on these
+pub tested-alike : (d : Design) (p q : ℕ → Bool) → ((i x : ℕ) → Friend (model_of d) i x → p x ≡ q x) → (x : ℕ) → x < strands d
+    → (somewhere d.scaffold d.marks d.glues d.dg d.ds x && p x) ≡ (somewhere d.scaffold d.marks d.glues d.dg d.ds x && q x)
+tested-alike d p q same x h = go (somewhere d.scaffold d.marks d.glues d.dg d.ds x) (found-at d x h)
+  where
+    go : (t : Bool) → (t ≡ true → (i : ℕ) × Friend (model_of d) i x) → (t && p x) ≡ (t && q x)
+    go true f = let w = f refl in same w.0 x w.1
+    go false f = refl
+
+-- where as many amounts are the same of strands that are somewhere friends, the same are dilute
+pub thin-same : (d : Design) (amounts : List Float) → length amounts ≡ strands d → ((i x : ℕ) → Friend (model_of d) i x → amount d x ≡ get_or amounts x zero) → dilute (with_amounts d amounts d.given) ≡ dilute d
+unfolding dilute
+thin-same d amounts many same =
+    let other = with_amounts d amounts d.given in
+    rw many
+    (ap (λ (t : Bool). by_concentration d.given && t)
+    (any-agree (thin other) (thin d) (strands d)
+    (tested-alike d (λ x. not (has_logarithm (get_or amounts x zero))) (λ x. not (has_logarithm (amount d x))) (λ i x f. ap (λ (c : Float). not (has_logarithm c)) (sym (same i x f))))))
+
+pub reads-alike : (d : Design) (amounts : List Float) → ReadsAlike d amounts
+reads-alike d amounts = record {
+  others = λ many same. record { many = many; dilute = thin-same d amounts many same; friends = λ i x f. ap (potential_by d.given) (same i x f) };
+  logarithms = λ none own. record { many = own.many; dilute = unfold dilute in sym none; friends = own.friends };
+}
+
+module _ (d : Design) (amounts : List Float) (given : Amounts) (r : ReadAlike d amounts given) where
   abbrev other : Design
-  other = with_potentials d potentials
+  other = with_amounts d amounts given
 
   sizes-same : sizes_out other ≡ sizes_out d
   unfolding wrong_sizes
   sizes-same = rw r.many refl
 
-  read_same : (x : ℕ) → x < strands d → somewhere d.scaffold d.marks d.glues d.dg d.ds x ≡ true → potential d x ≡ get_or potentials x zero
-  unfolding somewhere
-  read_same x h e =
-      let at = some_below (friend_at d.scaffold d.marks d.glues d.dg d.ds x) (positions d) e in
-      r.friends at.at x (tested-friend d at.at x at.below h at.passes)
-
-  unfit-same : (x : ℕ) → x < strands d → unfit d.scaffold d.marks d.glues d.dg d.ds potentials x ≡ unfit d.scaffold d.marks d.glues d.dg d.ds d.potentials x
-  unfit-same x h = go (somewhere d.scaffold d.marks d.glues d.dg d.ds x) (read_same x h)
-    where
-      go : (t : Bool) → (t ≡ true → potential d x ≡ get_or potentials x zero) → (t && beyond 1024 (get_or potentials x zero)) ≡ (t && beyond 1024 (potential d x))
-      go true f = ap (beyond 1024) (sym (f refl))
-      go false f = refl
+  unfit-same : (x : ℕ) → x < strands d → unfit other x ≡ unfit d x
+  unfit-same = tested-alike d (λ x. beyond 1024 (potential other x)) (λ x. beyond 1024 (potential d x)) (λ i x f. ap (beyond 1024) (sym (r.friends i x f)))
 
   potentials-same : potentials_out other ≡ potentials_out d
   unfolding potentials_out
-  potentials-same = rw r.many (any-agree (unfit d.scaffold d.marks d.glues d.dg d.ds potentials) (unfit d.scaffold d.marks d.glues d.dg d.ds d.potentials) (strands d) unfit-same)
+  potentials-same = rw r.many (any-agree (unfit other) (unfit d) (strands d) unfit-same)
 
   place_same : bad_potential other ≡ bad_potential d
   unfolding bad_potential
-  place_same = rw r.many (first-agree (unfit d.scaffold d.marks d.glues d.dg d.ds potentials) (unfit d.scaffold d.marks d.glues d.dg d.ds d.potentials) (strands d) (λ k. k) unfit-same)
+  place_same = rw r.many (first-agree (unfit other) (unfit d) (strands d) (λ k. k) unfit-same)
 
   -- ---- the models
 
   same_read : SameRead (model_of d) (model_of other)
   unfolding model_of
-  same_read = record { friends = rw r.many refl; site = refl; pair = refl; rt = refl; potential = λ i x f. r.friends i x f }
+  same_read = record { friends = rw r.many refl; site = refl; pair = refl; rt = refl; potential = r.friends }
 
   pub same-models : Alike (model_of d) (model_of other)
   same-models = only-friends-read (model_of d) (model_of other) same_read
@@ -109,11 +134,11 @@ module _ (d : Design) (potentials : List Float) (r : ReadAlike d potentials) whe
 
   -- ---- the replies
 
-  tables-same : (own_size : Bool) → table_checks own_size d.scaffold d.marks d.glues d.dg d.ds potentials ≡ table_checks own_size d.scaffold d.marks d.glues d.dg d.ds d.potentials
+  tables-same : (own_size : Bool) → table_checks own_size d.scaffold d.marks d.glues d.dg d.ds amounts ≡ table_checks own_size d.scaffold d.marks d.glues d.dg d.ds d.amounts
   tables-same own_size = rw sizes-same refl
 
   numbers-same : number_checks other ≡ number_checks d
-  numbers-same = rw (potentials-same, place_same) refl
+  numbers-same = rw (r.dilute, potentials-same, place_same) refl
 
   -- of a call that asks nothing else of the potentials
   pub same-design-reply : (own_size : Bool) (between after : List Check) → design_checks own_size other between after ≡ design_checks own_size d between after
@@ -165,5 +190,5 @@ module _ (d : Design) (potentials : List Float) (r : ReadAlike d potentials) whe
         (λ e. let w = (taken d s e).state in ap₂ (λ (bare product : Float). record { bare = bare; times_rt = product }) (same-models.chain_energies s w) (same-models.products s w));
   }
 
-pub unread-potentials : UnreadPotentials
-unread-potentials d potentials r = alike d potentials r
+pub unread-amounts : UnreadAmounts
+unread-amounts = record { reads = reads-alike; answers = alike }

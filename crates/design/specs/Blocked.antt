@@ -10,7 +10,7 @@ BlockedEmpty d = (i : ℕ) → blocked d i ≡ true → (s : List ℕ) → State
 
 -- the same design with other marks
 abbrev pub with_marks : Design → List ℕ → Design
-with_marks d marks = design d.scaffold marks d.glues d.dg d.ds d.potentials d.ambient
+with_marks d marks = design d.scaffold marks d.glues d.dg d.ds d.amounts d.given d.ambient
 
 -- every bond is as before, whatever is blocked
 pub record BondsKept (d : Design) (marks : List ℕ) : Type 0 where

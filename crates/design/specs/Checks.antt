@@ -1,26 +1,29 @@
 -- The conditions on which a design, or what is asked of it, is refused, and each call's checks.
-use Rattle.std.specs.Prelude.{◌≡◌, Bool, not, false, cond, ◌&&◌, ◌||◌, List, [], ◌∷◌, ◌++◌, ℕ, ◌+◌, ◌*◌, leb, ltb, eqb, length, get_or, Float}
+use Rattle.std.specs.Prelude.{◌≡◌, Bool, not, true, false, cond, ◌&&◌, ◌||◌, List, [], ◌∷◌, ◌++◌, ℕ, ◌+◌, ◌*◌, leb, ltb, eqb, length, get_or, Float}
 use Rattle.lists.specs.Build.{up_to, tabulate}
 use Rattle.lists.specs.Find.{any, first_index}
-use Rattle.doubles.specs.Decimal.{plus, minus, nearest, zero}
+use Rattle.doubles.specs.Decimal.{plus, minus, nearest}
 use Rattle.doubles.specs.Range.{within}
 use Rattle.reply.specs.First.{Check, ◌if◌, ◌if◌at◌}
 use Rattle.reply.specs.Limits.{most_positions, most_strands, last_glue, glue_count, cell_count, most_states, most_dg, most_ds, most_excess, most_potential, least_rt_thousandths, most_rt}
-use Rattle.reply.specs.declared.Refusal.TheVariants.{WrongSize, OutOfRange, NullBinds, NotAFriend, TooManyStates, RankTooHigh, AmbientOut, PotentialOut}
+use Rattle.reply.specs.declared.Refusal.TheVariants.{WrongSize, OutOfRange, NullBinds, NotAFriend, TooManyStates, RankTooHigh, TooDilute, AmbientOut, PotentialOut}
 use Rattle.units.specs.declared.Ambient.{Ambient}
+use Rattle.logarithm.specs.Near.{has_logarithm}
 use Rattle.model.specs.States.{count}
-use Rattle.design.specs.Design.{Design, positions, strands, blocked_at, west, bottom, east, binding, befriends, model_of}
+use Rattle.design.specs.declared.Amounts.{Amounts}
+use Rattle.design.specs.declared.Amounts.TheVariants.{Potentials, Concentrations}
+use Rattle.design.specs.Design.{Design, positions, strands, amount, potential, blocked_at, west, bottom, east, binding, befriends, model_of}
 
 -- ---- size
 
 -- scaffold 0 to 128 positions; strands 1 to 64, strand 0 included
 abbrev pub wrong_counts : List ℕ → List Float → Bool
-wrong_counts scaffold potentials = ltb most_positions (length scaffold) || (ltb (length potentials) 1 || ltb most_strands (length potentials))
+wrong_counts scaffold amounts = ltb most_positions (length scaffold) || (ltb (length amounts) 1 || ltb most_strands (length amounts))
 
 -- three glues for each strand, and 64 by 64 cells
 abbrev pub wrong_lengths : List ℕ → List Float → List Float → List Float → Bool
-wrong_lengths glues dg ds potentials =
-    not (eqb (length glues) (3 * length potentials)) || (not (eqb (length dg) cell_count) || not (eqb (length ds) cell_count))
+wrong_lengths glues dg ds amounts =
+    not (eqb (length glues) (3 * length amounts)) || (not (eqb (length dg) cell_count) || not (eqb (length ds) cell_count))
 
 -- as many marks as positions, and each 0 or 1
 abbrev pub wrong_marks : List ℕ → List ℕ → Bool
@@ -33,12 +36,12 @@ high_glue glue = ltb last_glue glue
 -- the counts, the lengths, a mark or a glue is outside its limits
 unfoldable pub wrong_sizes : List ℕ → List ℕ → List ℕ → List Float → List Float → List Float → Bool
 unfolding any
-wrong_sizes scaffold marks glues dg ds potentials =
-    wrong_counts scaffold potentials || (wrong_lengths glues dg ds potentials || (wrong_marks scaffold marks || (any high_glue scaffold || any high_glue glues)))
+wrong_sizes scaffold marks glues dg ds amounts =
+    wrong_counts scaffold amounts || (wrong_lengths glues dg ds amounts || (wrong_marks scaffold marks || (any high_glue scaffold || any high_glue glues)))
 
 -- refusal 1 of a design
 abbrev pub sizes_out : Design → Bool
-sizes_out d = wrong_sizes d.scaffold d.marks d.glues d.dg d.ds d.potentials
+sizes_out d = wrong_sizes d.scaffold d.marks d.glues d.dg d.ds d.amounts
 
 -- a strand asked for by number that the design lacks
 abbrev pub no_strand : Design → ℕ → Bool
@@ -99,19 +102,34 @@ unfoldable pub somewhere : List ℕ → List ℕ → List ℕ → List Float →
 unfolding any tabulate befriends
 somewhere scaffold marks glues dg ds strand = any (friend_at scaffold marks glues dg ds strand) (up_to (length scaffold))
 
--- potentials ±1,024; only those of strands that are somewhere friends are looked at
-abbrev pub unfit : List ℕ → List ℕ → List ℕ → List Float → List Float → List Float → ℕ → Bool
-unfit scaffold marks glues dg ds potentials strand = somewhere scaffold marks glues dg ds strand && beyond most_potential (get_or potentials strand zero)
+-- concentrations are lent, and not potentials
+abbrev pub by_concentration : Amounts → Bool
+by_concentration Potentials = false
+by_concentration Concentrations = true
+
+-- concentrations 2^-60 to 2^10 mol/L, ends included; only those of strands that are somewhere friends are looked at
+abbrev pub thin : Design → ℕ → Bool
+thin d strand = somewhere d.scaffold d.marks d.glues d.dg d.ds strand && not (has_logarithm (amount d strand))
+
+-- concentrations are lent, and one that is read is outside
+unfoldable pub dilute : Design → Bool
+unfolding any tabulate somewhere
+dilute d = by_concentration d.given && any (thin d) (up_to (strands d))
+
+-- potentials ±1,024; only those of strands that are somewhere friends are looked at. The logarithm of a concentration that is not thin never is beyond:
+-- specs/Concentrations.antt.
+abbrev pub unfit : Design → ℕ → Bool
+unfit d strand = somewhere d.scaffold d.marks d.glues d.dg d.ds strand && beyond most_potential (potential d strand)
 
 -- a potential that is read is out of its range
 unfoldable pub potentials_out : Design → Bool
 unfolding any tabulate somewhere nearest
-potentials_out d = any (unfit d.scaffold d.marks d.glues d.dg d.ds d.potentials) (up_to (strands d))
+potentials_out d = any (unfit d) (up_to (strands d))
 
 -- the lowest strand whose potential is read and out of its range
 unfoldable pub bad_potential : Design → ℕ
 unfolding first_index tabulate somewhere nearest
-bad_potential d = first_index (unfit d.scaffold d.marks d.glues d.dg d.ds d.potentials) (up_to (strands d))
+bad_potential d = first_index (unfit d) (up_to (strands d))
 
 -- ---- null: strand 0 has a nonzero glue, or row or column 0 of a glue table has a nonzero cell
 
@@ -160,6 +178,7 @@ rank_too_high d rank = leb (count (model_of d)) rank
 pub record Admitted (d : Design) : Type 0 where
   pub sizes : sizes_out d ≡ false
   pub cells : cells_out d.dg d.ds ≡ false
+  pub concentrations : dilute d ≡ false
   pub ambient : ambient_out d.ambient ≡ false
   pub potentials : potentials_out d ≡ false
   pub null : null_binds d.glues d.dg d.ds ≡ false
@@ -174,8 +193,8 @@ pub record TablesPass (d : Design) : Type 0 where
 
 -- the sizes, with the call's own; the cells; what else the call finds out of range, which has no place; what binds to null
 abbrev pub ranged_checks : Bool → Bool → List ℕ → List ℕ → List ℕ → List Float → List Float → List Float → List Check
-ranged_checks own_size own_range scaffold marks glues dg ds potentials =
-    WrongSize if (own_size || wrong_sizes scaffold marks glues dg ds potentials)
+ranged_checks own_size own_range scaffold marks glues dg ds amounts =
+    WrongSize if (own_size || wrong_sizes scaffold marks glues dg ds amounts)
     ∷ OutOfRange if cells_out dg ds at bad_cell dg ds
     ∷ OutOfRange if own_range
     ∷ NullBinds if null_binds glues dg ds
@@ -183,21 +202,25 @@ ranged_checks own_size own_range scaffold marks glues dg ds potentials =
 
 -- the sizes, with the call's own; the cells; what binds to null
 abbrev pub table_checks : Bool → List ℕ → List ℕ → List ℕ → List Float → List Float → List Float → List Check
-table_checks own_size scaffold marks glues dg ds potentials =
-    WrongSize if (own_size || wrong_sizes scaffold marks glues dg ds potentials)
+table_checks own_size scaffold marks glues dg ds amounts =
+    WrongSize if (own_size || wrong_sizes scaffold marks glues dg ds amounts)
     ∷ OutOfRange if cells_out dg ds at bad_cell dg ds
     ∷ NullBinds if null_binds glues dg ds
     ∷ []
 
 -- the ambient, and the potentials that are read
-abbrev pub number_checks : Design → List Check
-number_checks d = AmbientOut if ambient_out d.ambient at bad_ambient d.ambient ∷ PotentialOut if potentials_out d at bad_potential d ∷ []
+abbrev pub range_checks : Design → List Check
+range_checks d = AmbientOut if ambient_out d.ambient at bad_ambient d.ambient ∷ PotentialOut if potentials_out d at bad_potential d ∷ []
 
--- What every call that takes a design checks: its tables; then the call's own of 11 to 15, which read these alone; then its numbers; then the
+-- the concentrations that are read, which have no place, and then the ranges
+abbrev pub number_checks : Design → List Check
+number_checks d = TooDilute if dilute d ∷ range_checks d
+
+-- What every call that takes a design checks: its tables; then the call's own of 11 to 13, which read these alone; then its numbers; then the
 -- call's own from 18 on.
 abbrev pub design_checks : Bool → Design → List Check → List Check → List Check
 design_checks own_size d between after =
-    table_checks own_size d.scaffold d.marks d.glues d.dg d.ds d.potentials ++ (between ++ (number_checks d ++ after))
+    table_checks own_size d.scaffold d.marks d.glues d.dg d.ds d.amounts ++ (between ++ (number_checks d ++ after))
 
 -- what is refused of a strand bond
 abbrev pub strand_bond_checks : Design → ℕ → ℕ → List Check

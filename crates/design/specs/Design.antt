@@ -6,7 +6,10 @@ use Rattle.std.specs.Borrow.{Bor}
 use Rattle.lists.specs.Build.{tabulate, up_to, keep}
 use Rattle.doubles.specs.Decimal.{zero}
 use Rattle.units.specs.declared.Ambient.{Ambient}
+use Rattle.logarithm.specs.Figure.{ln_of}
 use Rattle.model.specs.Model.{Model}
+use Rattle.design.specs.declared.Amounts.{Amounts}
+use Rattle.design.specs.declared.Amounts.TheVariants.{Potentials, Concentrations}
 
 -- Document 01's design: what a call on one is lent.
 pub record Design : Type 0 where
@@ -19,18 +22,20 @@ pub record Design : Type 0 where
   -- the dG and the dS table, 64 by 64, row first
   pub dg : List Float
   pub ds : List Float
-  -- document 01's potentials, one for each strand: the logarithm of its concentration
-  pub potentials : List Float
+  -- one amount for each strand: document 01's potential, which is the logarithm of its concentration, or document 02's concentration in mol/L
+  pub amounts : List Float
+  -- which of the two
+  pub given : Amounts
   pub ambient : Ambient
 
 -- a design out of its parts, in the order in which calls take them
-abbrev pub design : List ℕ → List ℕ → List ℕ → List Float → List Float → List Float → Ambient → Design
-design scaffold marks glues dg ds potentials ambient =
-    record { scaffold = scaffold; marks = marks; glues = glues; dg = dg; ds = ds; potentials = potentials; ambient = ambient }
+abbrev pub design : List ℕ → List ℕ → List ℕ → List Float → List Float → List Float → Amounts → Ambient → Design
+design scaffold marks glues dg ds amounts given ambient =
+    record { scaffold = scaffold; marks = marks; glues = glues; dg = dg; ds = ds; amounts = amounts; given = given; ambient = ambient }
 
 -- the design that a call is lent
-abbrev pub lent : Bor (List ℕ) → Bor (List ℕ) → Bor (List ℕ) → Bor (List Float) → Bor (List Float) → Bor (List Float) → Ambient → Design
-lent scaffold marks glues dg ds potentials ambient = design scaffold.now marks.now glues.now dg.now ds.now potentials.now ambient
+abbrev pub lent : Bor (List ℕ) → Bor (List ℕ) → Bor (List ℕ) → Bor (List Float) → Bor (List Float) → Bor (List Float) → Amounts → Ambient → Design
+lent scaffold marks glues dg ds amounts given ambient = design scaffold.now marks.now glues.now dg.now ds.now amounts.now given ambient
 
 -- how many positions the scaffold has
 abbrev pub positions : Design → ℕ
@@ -38,7 +43,7 @@ positions d = length d.scaffold
 
 -- strand 0 included
 abbrev pub strands : Design → ℕ
-strands d = length d.potentials
+strands d = length d.amounts
 
 -- ---- what the tables hold
 
@@ -70,9 +75,18 @@ scaffold_glue d i = get_or d.scaffold i 0
 abbrev pub blocked_at : List ℕ → ℕ → Bool
 blocked_at marks i = eqb (get_or marks i 0) 1
 
+-- the amount of a strand as it is lent
+abbrev pub amount : Design → ℕ → Float
+amount d strand = get_or d.amounts strand zero
+
+-- the potential that an amount stands for: a potential for itself, a concentration for its logarithm
+abbrev pub potential_by : Amounts → Float → Float
+potential_by Potentials amount = amount
+potential_by Concentrations amount = ln_of amount
+
 -- the potential of a strand
 abbrev pub potential : Design → ℕ → Float
-potential d strand = get_or d.potentials strand zero
+potential d strand = potential_by d.given (amount d strand)
 
 -- ---- bonds
 
@@ -136,10 +150,6 @@ is_friend d i strand = not (blocked d i) && befriends (scaffold_glue d i) d.glue
 -- the friends of a position of a design
 abbrev pub friends_of : Design → ℕ → List ℕ
 friends_of d = friends_in d.scaffold d.marks d.glues d.dg d.ds (strands d)
-
--- a design with other marks
-abbrev pub remarked : Design → List ℕ → Design
-remarked d marks = design d.scaffold marks d.glues d.dg d.ds d.potentials d.ambient
 
 -- the model that a design gives
 unfoldable pub model_of : Design → Model

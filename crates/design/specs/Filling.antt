@@ -1,9 +1,15 @@
--- What the fillers leave in lent rows and cells: the options of each position, and the bonds of the cells that a search reads.
-use Rattle.std.specs.Prelude.{◌≡◌, false, List, ℕ, ◌+◌, ◌*◌, ◌-◌, ◌<◌, ◌≤◌, length, get_or, take, Float}
+-- What the fillers leave in lent rows and cells: the options of each position, the logarithms of concentrations, and the bonds of the cells that a search
+-- reads.
+use Rattle.std.specs.Prelude.{◌≡◌, Bool, false, cond, Result, Ok, Err, List, ℕ, ◌+◌, ◌*◌, ◌-◌, ◌<◌, ◌≤◌, length, get_or, take, Float}
 use Rattle.std.specs.Float.{nan}
+use Rattle.doubles.specs.Decimal.{zero}
+use Rattle.reply.specs.declared.Refusal.{Refusal}
+use Rattle.reply.specs.declared.Refusal.TheVariants.{TooDilute}
+use Rattle.logarithm.specs.Figure.{ln_of}
+use Rattle.logarithm.specs.Near.{has_logarithm}
 use Rattle.model.specs.Model.{options_of}
 use Rattle.ensemble.specs.Layout.{option_in}
-use Rattle.design.specs.Design.{befriends}
+use Rattle.design.specs.Design.{Design, strands, amount, befriends}
 
 -- ---- options
 
@@ -16,6 +22,20 @@ pub record Optioned (friends row : List ℕ) (count : ℕ) : Type 0 where
   pub number : count ≡ length friends + 1
   pub few : count ≤ 64
   pub options : take count row ≡ options_of friends
+
+-- ---- logarithms of concentrations
+
+-- what is read off a concentration: its logarithm; where it has none, the strand of it is refused if it is somewhere a friend, and else nobody asks
+abbrev pub logarithm_read : Bool → Float → Result Float Refusal
+logarithm_read friend concentration = cond (has_logarithm concentration) (Ok (ln_of concentration)) (cond friend (Err TooDilute) (Ok zero))
+
+-- what an entry holds where none is refused
+abbrev pub logarithm_in : Float → Float
+logarithm_in concentration = cond (has_logarithm concentration) (ln_of concentration) zero
+
+-- the entry of each strand holds it
+abbrev pub LogarithmsRead : Design → List Float → Type 0
+LogarithmsRead d logarithms = (strand : ℕ) → strand < strands d → get_or logarithms strand zero ≡ logarithm_in (amount d strand)
 
 -- ---- bonds, in cells of so many strands, row first
 

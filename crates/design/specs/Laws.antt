@@ -32,7 +32,7 @@ pub record FriendsRight (d : Design) : Type 0 where
 pub record Doubles (d : Design) : Type 0 where
   pub dg : (k : ℕ) → k < length d.dg → T (fits binary64 (get_or d.dg k nan))
   pub ds : (k : ℕ) → k < length d.ds → T (fits binary64 (get_or d.ds k nan))
-  pub potentials : (k : ℕ) → k < length d.potentials → T (fits binary64 (get_or d.potentials k nan))
+  pub amounts : (k : ℕ) → k < length d.amounts → T (fits binary64 (get_or d.amounts k nan))
   pub rt : T (fits binary64 d.ambient.rt.0)
   pub strand-excess : T (fits binary64 d.ambient.strand_excess.0)
   pub scaffold-excess : T (fits binary64 d.ambient.scaffold_excess.0)

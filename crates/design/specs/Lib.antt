@@ -7,5 +7,6 @@ pub mod Laws
 pub mod Blocked
 pub mod Finite
 pub mod Unread
+pub mod Concentrations
 pub mod Filling
 pub mod TwoEnergies

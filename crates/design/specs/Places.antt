@@ -21,7 +21,7 @@ ambient_number_out ambient k = get_or (rt_out ambient ∷ strand_excess_out ambi
 
 -- a strand is somewhere a friend, and its potential is out
 abbrev pub potential_out : Design → ℕ → Bool
-potential_out d = unfit d.scaffold d.marks d.glues d.dg d.ds d.potentials
+potential_out d = unfit d
 
 -- the place is one of so many, the number there is out, and none below it is
 pub record LowestOut (out : ℕ → Bool) (many : ℕ) (place : Option ℕ) : Type 0 where

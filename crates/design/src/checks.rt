@@ -7,10 +7,12 @@ ghost use Rattle.reply.specs.First.{first_of, ◌if◌at◌};
 ghost use Rattle.reply.specs.declared.Refusal.TheVariants.{OutOfRange, AmbientOut};
 ghost use Rattle.design.specs.Design.{positions, strands};
 ghost use Rattle.design.specs.Places.{potential_out};
-ghost use Rattle.design.specs.Checks.{sizes_out, outside, cells_out, bad_cell, ambient_out, bad_ambient, null_cells, null_binds, ranged_checks, number_checks, TablesPass, Admitted};
+ghost use Rattle.design.specs.Checks.{sizes_out, outside, cells_out, bad_cell, ambient_out, bad_ambient, null_cells, null_binds, ranged_checks, range_checks, dilute, TablesPass, Admitted};
+ghost use Rattle.design.specs.Unread.{PotentialsOf};
 
 use super::Design;
 use super::friends::BLOCKED;
+use super::reads::number_at;
 use reply::limits::{
     CELLS, DG, DS, EXCESS, LAST_GLUE, LEAST_RT, MOST_RT, POSITIONS, POTENTIAL, SIDES, STRANDS,
 };
@@ -33,9 +35,9 @@ fn wrong_sizes(design: &Design) -> bool
     ensures { result ≡ sizes_out design.now }
 {
     POSITIONS < design.scaffold.len()
-        || design.potentials.len() < 1
-        || STRANDS < design.potentials.len()
-        || design.glues.len() != SIDES * design.potentials.len()
+        || design.amounts.len() < 1
+        || STRANDS < design.amounts.len()
+        || design.glues.len() != SIDES * design.amounts.len()
         || design.dg.len() != CELLS
         || design.ds.len() != CELLS
         || design.marks.len() != design.scaffold.len()
@@ -109,19 +111,22 @@ fn ambient_reply(ambient: Ambient) -> Result<(), Refused>
 }
 
 // Whether a strand is somewhere a friend and its potential out of range.
-fn is_unfit(design: &Design, strand: u8) -> bool
+fn is_unfit(design: &Design, potentials: &[f64], strand: u8) -> bool
+    requires known { strand < strands design.now }
+    requires own { PotentialsOf design.now potentials.now }
     ensures { result ≡ potential_out design.now strand }
 {
-    !doubles::in_range(-POTENTIAL, POTENTIAL, design.potential_of(strand))
-        && design.is_friend_somewhere(strand)
+    let potential = number_at(potentials, usize::from(strand));
+    !doubles::in_range(-POTENTIAL, POTENTIAL, potential) && design.is_friend_somewhere(strand)
 }
 
 // The first such strand.
-fn first_unfit(design: &Design) -> Option<u8>
-    requires { strands design.now ≤ 64 }
+fn first_unfit(design: &Design, potentials: &[f64]) -> Option<u8>
+    requires few { strands design.now ≤ 64 }
+    requires own { PotentialsOf design.now potentials.now }
     ensures { result ≡ find (potential_out design.now) (up_to (strands design.now)) }
 {
-    (0..design.strands() as u8).find(|strand| is_unfit(design, *strand))
+    (0..design.strands() as u8).find(|strand| is_unfit(design, potentials, *strand))
 }
 
 // Whether row or column 0 of a glue table has a nonzero cell.
@@ -145,7 +150,7 @@ fn null_binds(design: &Design) -> bool
 // The first of the checks of a design's tables that holds: their sizes, with what the call itself finds wrong with one, their cells, what else the
 // call finds out of range, and null.
 pub fn ranged_reply(own_size: bool, own_range: bool, design: &Design) -> Result<(), Refused>
-    ensures value { result ≡ first_of (ranged_checks own_size own_range design.now.scaffold design.now.marks design.now.glues design.now.dg design.now.ds design.now.potentials) }
+    ensures value { result ≡ first_of (ranged_checks own_size own_range design.now.scaffold design.now.marks design.now.glues design.now.dg design.now.ds design.now.amounts) }
     ensures own { OnOk result (own_size ≡ false) }
     ensures tables { OnOk result (TablesPass design.now) }
     ensures short { OnOk result (positions design.now ≤ 128) }
@@ -159,15 +164,16 @@ pub fn ranged_reply(own_size: bool, own_range: bool, design: &Design) -> Result<
     Ok(())
 }
 
-// The first of the checks of a design's numbers that holds: its ambient, and the potentials that are read. Of a `TabledDesign` more is known than is asked
-// here.
-pub fn numbers_reply(design: &Design) -> Result<(), Refused>
-    requires { strands design.now ≤ 64 }
-    ensures value { result ≡ first_of (number_checks design.now) }
-    ensures admitted { TablesPass design.now → OnOk result (Admitted design.now) }
+// The first of the checks of a design's ranges that holds: its ambient, and the potentials that are read. The concentrations that are read have been looked
+// at, as they have logarithms.
+pub fn ranges_reply(design: &Design, potentials: &[f64]) -> Result<(), Refused>
+    requires few { strands design.now ≤ 64 }
+    requires own { PotentialsOf design.now potentials.now }
+    ensures value { result ≡ first_of (range_checks design.now) }
+    ensures admitted { TablesPass design.now → dilute design.now ≡ false → OnOk result (Admitted design.now) }
 {
     ambient_reply(design.ambient)?;
-    match first_unfit(design) {
+    match first_unfit(design, potentials) {
         Some(strand) => Err(Refused {
             refusal: Refusal::PotentialOut,
             place: Some(usize::from(strand)),

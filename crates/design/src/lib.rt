@@ -5,6 +5,7 @@ pub mod answers;
 pub mod bonds;
 pub mod checks;
 pub mod friends;
+pub mod logarithms;
 pub mod needed;
 pub mod options;
 pub mod passed;
@@ -19,6 +20,13 @@ ghost use Rattle.design.specs.Laws.{Doubles};
 use std::marker::Model;
 use units::Ambient;
 
+// How the strands' amounts are lent: as potentials, which are the logarithms of concentrations, or as concentrations in mol/L.
+#[derive(Clone, Copy, PartialEq, Eq, Debug)]
+pub enum Amounts {
+    Potentials,
+    Concentrations,
+}
+
 // A design as it is lent: what the Rust reads off `self`, and a mark for each position, which the Rust lacks. Its methods have an answer for every
 // content: past the end of a slice they read 0.
 #[derive(Drop)]
@@ -32,8 +40,9 @@ pub struct Design<'a> {
     // The dG and the dS table: a row and a column for each glue, row first.
     pub dg: &'a [f64],
     pub ds: &'a [f64],
-    // The logarithm of each strand's concentration.
-    pub potentials: &'a [f64],
+    // One for each strand.
+    pub amounts: &'a [f64],
+    pub given: Amounts,
     pub ambient: Ambient,
 }
 
@@ -45,10 +54,11 @@ impl<'a> Design<'a> {
         glues: &'a [u8],
         dg: &'a [f64],
         ds: &'a [f64],
-        potentials: &'a [f64],
+        amounts: &'a [f64],
+        given: Amounts,
         ambient: Ambient,
     ) -> Self
-        ensures { result ≡ design scaffold.now marks.now glues.now dg.now ds.now potentials.now ambient }
+        ensures { result ≡ design scaffold.now marks.now glues.now dg.now ds.now amounts.now given ambient }
     {
         Design {
             scaffold,
@@ -56,7 +66,8 @@ impl<'a> Design<'a> {
             glues,
             dg,
             ds,
-            potentials,
+            amounts,
+            given,
             ambient,
         }
     }
@@ -65,7 +76,7 @@ impl<'a> Design<'a> {
 impl<'a> Model for Design<'a> {
     ghost Value = { Design };
 
-    ghost view = { λ d. design d.scaffold.now d.marks.now d.glues.now d.dg.now d.ds.now d.potentials.now d.ambient };
+    ghost view = { λ d. design d.scaffold.now d.marks.now d.glues.now d.dg.now d.ds.now d.amounts.now d.given d.ambient };
 
-    ghost invariant = { λ d. Doubles (design d.scaffold.now d.marks.now d.glues.now d.dg.now d.ds.now d.potentials.now d.ambient) };
+    ghost invariant = { λ d. Doubles (design d.scaffold.now d.marks.now d.glues.now d.dg.now d.ds.now d.amounts.now d.given d.ambient) };
 }

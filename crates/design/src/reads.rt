@@ -2,7 +2,7 @@
 ghost use Rattle.std.specs.Prelude.{◌≡◌, ◌<◌, get_or};
 ghost use Rattle.doubles.specs.Decimal.{zero};
 ghost use Rattle.design.specs.Laws.{Doubles};
-ghost use Rattle.design.specs.Design.{positions, strands, cell, side, scaffold_glue, potential};
+ghost use Rattle.design.specs.Design.{positions, strands, cell, side, scaffold_glue, amount};
 
 use super::Design;
 use reply::limits::{GLUES, SIDES};
@@ -46,13 +46,6 @@ impl<'a> Design<'a> {
         let _dg = self.dg;
     }
 
-    // The potential of each strand.
-    pub fn potentials(&self) -> &'a [f64]
-        ensures { result.now ≡ self.now.potentials }
-    {
-        self.potentials
-    }
-
     // RT.
     pub fn rt(&self) -> KcalPerMol
         ensures { result ≡ self.now.ambient.rt }
@@ -64,7 +57,7 @@ impl<'a> Design<'a> {
     pub fn strands(&self) -> usize
         ensures { result ≡ strands self.now }
     {
-        self.potentials.len()
+        self.amounts.len()
     }
 
     // How many positions the scaffold has.
@@ -110,10 +103,10 @@ impl<'a> Design<'a> {
         self.side_glue(strand, EAST_GLUE_INDEX)
     }
 
-    // The potential of a strand.
-    pub fn potential_of(&self, strand: u8) -> f64
-        ensures { result ≡ potential self.now strand }
+    // The amount of a strand.
+    pub fn amount_of(&self, strand: u8) -> f64
+        ensures { result ≡ amount self.now strand }
     {
-        number_at(self.potentials, usize::from(strand))
+        number_at(self.amounts, usize::from(strand))
     }
 }

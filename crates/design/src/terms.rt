@@ -1,35 +1,30 @@
 // The terms that the places of a configuration add to its energies.
-ghost use Rattle.std.specs.Prelude.{List, ℕ, ◌≤◌, length};
+ghost use Rattle.std.specs.Prelude.{◌≤◌, length};
+ghost use Rattle.model.specs.Model.{State};
 ghost use Rattle.ensemble.specs.Layout.{PlaceTerms};
-ghost use Rattle.design.specs.Design.{remarked, model_of};
+ghost use Rattle.design.specs.Design.{model_of};
 
-use super::Design;
-use super::reads::byte_at;
+use super::passed::AdmittedDesign;
+use super::reads::{byte_at, number_at};
 use ensemble::energies::Terms;
 use reply::limits::POSITIONS;
 
-// The terms of each place of a configuration; marks are not read.
+// The terms of each place of a state.
 #[tactic(auto, unfolding(crate::specs::Design::model_of))]
-pub fn fill_terms(design: &Design, configuration: &[u8], terms: &mut [Terms])
-    requires configuration_in_bounds { length configuration.now ≤ length terms.old }
-    ensures { (marks : List ℕ) → PlaceTerms (model_of (remarked design.now marks)) configuration.now terms.new }
+pub fn terms_of(admitted: &AdmittedDesign, configuration: &[u8]) -> [Terms; POSITIONS]
+    requires configuration_in_bounds { length configuration.now ≤ 128 }
+    ensures { State (model_of admitted.now) configuration.now → PlaceTerms (model_of admitted.now) configuration.now result }
 {
+    let design = admitted.design;
+    let potentials = admitted.potentials();
+    let mut terms = [Terms::default(); POSITIONS];
     for (position, &strand) in configuration.iter().enumerate() {
         let right = byte_at(configuration, position + 1);
         terms[position] = Terms {
             site: design.scaffold_bond(design.scaffold_glue(position), strand),
             pair: design.strand_bond(strand, right),
-            potential: design.potential_of(strand),
+            potential: number_at(potentials, usize::from(strand)),
         };
     }
-}
-
-// The same in an array of their own.
-pub fn terms_of(design: &Design, configuration: &[u8]) -> [Terms; POSITIONS]
-    requires configuration_in_bounds { length configuration.now ≤ 128 }
-    ensures { (marks : List ℕ) → PlaceTerms (model_of (remarked design.now marks)) configuration.now result }
-{
-    let mut terms = [Terms::default(); POSITIONS];
-    fill_terms(design, configuration, &mut terms);
     terms
 }

@@ -1,11 +1,14 @@
 // A design's calls as C callers have them.
-ghost use Rattle.std.specs.Prelude.{◌≡◌};
-ghost use Rattle.design.specs.Answers.{strand_bond_answer, scaffold_bond_answer, friends_answer, friends_entries, count_answer, rank_answer, rank_entries, state_energy_answer, chain_energy_answer};
+ghost use Rattle.std.specs.Prelude.{◌≡◌, None};
+ghost use Rattle.reply.specs.Figures.{refused_with};
+ghost use Rattle.reply.specs.declared.Refusal.TheVariants.{WrongSize};
+ghost use Rattle.design.specs.Answers.{no_chain, strand_bond_answer, scaffold_bond_answer, friends_answer, friends_entries, count_answer, rank_answer, rank_entries, state_energy_answer, chain_energy_answer};
 ghost use Rattle.exports.specs.Lent.{ambient_of};
 ghost use Rattle.exports.specs.Told.{Told, chain_of};
 
 use super::answers::{tell, tell_chain, tell_energy};
 use design::Design;
+use reply::Refusal;
 use units::Ambient;
 
 // The ambient out of the three doubles that C lends.
@@ -89,6 +92,13 @@ pub fn mj_state_energy(
     ensures { Told (state_energy_answer design.now configuration.now) result place.new energy.new }
 {
     tell_energy(sdc1d::g_system(design, configuration), place, energy)
+}
+
+// What the chain energy tells where the number of the amounts says nothing.
+pub fn tell_unnamed_chain(place: &mut u64, sum: &mut f64, energy: &mut f64) -> u32
+    ensures { Told (refused_with no_chain WrongSize None) result place.new (chain_of sum.new energy.new) }
+{
+    tell_chain(Err(Refusal::WrongSize.into()), place, sum, energy)
 }
 
 // The chain energy of a configuration, as it is and times RT.

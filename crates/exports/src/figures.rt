@@ -1,9 +1,10 @@
 // Answers on sequences, loops and temperatures as C takes them. A refusal has no figure: 0, and of a double all bits.
-// A name says the kind of answer (dg_ds, figure, dg, ambient), then the figure, or `tell`: the reply number is the result, the figures go through
+// A name says the kind of answer (dg_ds, figure, dg, ln, ambient), then the figure, or `tell`: the reply number is the result, the figures go through
 // pointers.
 ghost use Rattle.std.specs.Prelude.{◌≡◌};
 ghost use Rattle.std.specs.Float.Ieee as Ieee;
 ghost use Rattle.std.specs.Float.{binary64};
+ghost use Rattle.logarithm.specs.Answer.{ln_figures};
 ghost use Rattle.units.specs.Ambient.{ambient_figures};
 ghost use Rattle.utils.specs.Answers.{dg_ds_figures, dg_figures};
 ghost use Rattle.exports.specs.Told.{placeless_figures};
@@ -54,6 +55,14 @@ pub(crate) fn dg_tell(answer: Result<KcalPerMol, Refusal>, dg: &mut f64) -> u32
     ensures dg_after { dg.new ≡ (dg_figures answer).dg }
 {
     figure_tell(answer.map(|dg| dg.0), 0.0, dg)
+}
+
+// The reply number and the figure of a logarithm.
+pub(crate) fn ln_tell(answer: Result<f64, Refusal>, figure: &mut f64) -> u32
+    ensures value { result ≡ (ln_figures answer).number }
+    ensures figure_after { figure.new ≡ (ln_figures answer).figure }
+{
+    figure_tell(answer, 0.0, figure)
 }
 
 // The reply number of the ambient, its RT and its two excesses.

@@ -7,6 +7,7 @@
 mod answers;
 pub mod designs;
 mod figures;
+pub mod lent;
 pub mod names;
 pub mod params;
 mod place;
@@ -21,6 +22,7 @@ pub mod under;
 ghost use Rattle.std.specs.Prelude.{◌≡◌};
 ghost use Rattle.std.specs.Float.Ieee as Ieee;
 ghost use Rattle.std.specs.Float.{binary64};
+ghost use Rattle.logarithm.specs.Answer.{ln_answer};
 ghost use Rattle.units.specs.Ambient.{ambient_at};
 ghost use Rattle.utils.specs.Loops.{loop_penalty};
 ghost use Rattle.utils.specs.Single.{string_dna_dg_ds};
@@ -153,4 +155,12 @@ pub fn mj_ambient(
         strand_excess,
         scaffold_excess,
     )
+}
+
+// The natural logarithm of a double from 2^-60 to 2^10. Reply 15.
+pub fn mj_ln(x: f64, logarithm: &mut f64) -> u32
+    ensures value { result ≡ (ln_answer x).number }
+    ensures logarithm_after { logarithm.new ≡ (ln_answer x).figure }
+{
+    figures::ln_tell(logarithm::ln(x), logarithm)
 }

@@ -1,7 +1,10 @@
 // Sums over the states of a design as C callers have them: a sum is told as its digits and its exponent.
-ghost use Rattle.std.specs.Prelude.{◌≡◌};
+ghost use Rattle.std.specs.Prelude.{◌≡◌, None};
+ghost use Rattle.reply.specs.Figures.{refused_with};
+ghost use Rattle.reply.specs.declared.Refusal.TheVariants.{WrongSize};
 ghost use Rattle.design.specs.Design.{strands};
 ghost use Rattle.fractions.specs.Weight.{weight};
+ghost use Rattle.partition.specs.Sum.{zero_weight};
 ghost use Rattle.state_sums.specs.Sizes.{weights_lent, lists_lent};
 ghost use Rattle.state_sums.specs.Answers.{sum_figures, free_answer, constrained_answer};
 ghost use Rattle.exports.specs.Sums.{FreeTold, ConstrainedTold};
@@ -10,7 +13,7 @@ ghost use Rattle.exports.specs.Told.{Told};
 use super::answers::tell;
 use design::Design;
 use fractions::Weight;
-use reply::Refused;
+use reply::{Refusal, Refused};
 use state_sums::{LentLists, LentWeights};
 
 // A sum: its digits and its exponent, both 0 for zero.
@@ -27,6 +30,13 @@ fn tell_sum(
     *digits = sum.digits;
     *power = sum.power;
     number
+}
+
+// What a sum tells where the number of the amounts says nothing.
+pub fn tell_unnamed_sum(place: &mut u64, digits: &mut u32, power: &mut i32) -> u32
+    ensures { Told (refused_with zero_weight WrongSize None) result place.new (weight digits.new power.new) }
+{
+    tell_sum(Err(Refusal::WrongSize.into()), place, digits, power)
 }
 
 // The sum over all states.

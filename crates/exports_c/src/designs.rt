@@ -2,12 +2,14 @@
 // A design is lent part by part: C has no structs of slices.
 
 ghost use Rattle.std.specs.Prelude.{◌≡◌};
-ghost use Rattle.design.specs.Answers.{strand_bond_answer, scaffold_bond_answer, friends_answer, friends_entries, count_answer, rank_answer, rank_entries, state_energy_answer, chain_energy_answer};
-ghost use Rattle.exports.specs.Lent.{lent_at};
+ghost use Rattle.doubles.specs.Decimal.{zero};
+ghost use Rattle.design.specs.Answers.{no_chain, strand_bond_answer, scaffold_bond_answer, friends_answer, friends_entries, count_answer, rank_answer, rank_entries, state_energy_answer, chain_energy_answer};
+ghost use Rattle.exports.specs.Lent.{amounts_numbered, lent_at, answer_in, left_in};
 ghost use Rattle.exports.specs.Told.{Told, chain_of};
 
 use design::Design;
-use exports::designs::ambient;
+use exports::designs::{ambient, tell_unnamed_chain};
+use exports::lent::{amounts_of, tell_unnamed};
 
 // The bond between strand x and strand y to the east of it.
 #[unsafe(no_mangle)]
@@ -17,7 +19,8 @@ pub extern "C" fn mj_strand_bond(
     glues: &[u8],
     dg: &[f64],
     ds: &[f64],
-    potentials: &[f64],
+    amounts: &[f64],
+    given: u32,
     rt: f64,
     strand_excess: f64,
     scaffold_excess: f64,
@@ -26,15 +29,19 @@ pub extern "C" fn mj_strand_bond(
     place: &mut u64,
     bond: &mut f64,
 ) -> u32
-    ensures { Told (strand_bond_answer (lent_at scaffold.entry marks.entry glues.entry dg.entry ds.entry potentials.entry rt strand_excess scaffold_excess) x y) result place.new bond.new }
+    ensures { Told (answer_in (lent_at scaffold.entry marks.entry glues.entry dg.entry ds.entry amounts.entry (amounts_numbered given) rt strand_excess scaffold_excess) zero (λ d. strand_bond_answer d x y)) result place.new bond.new }
 {
+    let Some(given) = amounts_of(given) else {
+        return tell_unnamed(0.0, place, bond);
+    };
     let design = Design {
         scaffold,
         marks,
         glues,
         dg,
         ds,
-        potentials,
+        amounts,
+        given,
         ambient: ambient(rt, strand_excess, scaffold_excess),
     };
     exports::designs::mj_strand_bond(&design, x, y, place, bond)
@@ -48,7 +55,8 @@ pub extern "C" fn mj_scaffold_bond(
     glues: &[u8],
     dg: &[f64],
     ds: &[f64],
-    potentials: &[f64],
+    amounts: &[f64],
+    given: u32,
     rt: f64,
     strand_excess: f64,
     scaffold_excess: f64,
@@ -57,15 +65,19 @@ pub extern "C" fn mj_scaffold_bond(
     place: &mut u64,
     bond: &mut f64,
 ) -> u32
-    ensures { Told (scaffold_bond_answer (lent_at scaffold.entry marks.entry glues.entry dg.entry ds.entry potentials.entry rt strand_excess scaffold_excess) position strand) result place.new bond.new }
+    ensures { Told (answer_in (lent_at scaffold.entry marks.entry glues.entry dg.entry ds.entry amounts.entry (amounts_numbered given) rt strand_excess scaffold_excess) zero (λ d. scaffold_bond_answer d position strand)) result place.new bond.new }
 {
+    let Some(given) = amounts_of(given) else {
+        return tell_unnamed(0.0, place, bond);
+    };
     let design = Design {
         scaffold,
         marks,
         glues,
         dg,
         ds,
-        potentials,
+        amounts,
+        given,
         ambient: ambient(rt, strand_excess, scaffold_excess),
     };
     exports::designs::mj_scaffold_bond(&design, position, strand, place, bond)
@@ -79,7 +91,8 @@ pub extern "C" fn mj_friends(
     glues: &[u8],
     dg: &[f64],
     ds: &[f64],
-    potentials: &[f64],
+    amounts: &[f64],
+    given: u32,
     rt: f64,
     strand_excess: f64,
     scaffold_excess: f64,
@@ -88,16 +101,20 @@ pub extern "C" fn mj_friends(
     place: &mut u64,
     count: &mut u64,
 ) -> u32
-    ensures told { Told (friends_answer (lent_at scaffold.entry marks.entry glues.entry dg.entry ds.entry potentials.entry rt strand_excess scaffold_excess) position entries.old) result place.new count.new }
-    ensures entries_after { entries.new ≡ friends_entries (lent_at scaffold.entry marks.entry glues.entry dg.entry ds.entry potentials.entry rt strand_excess scaffold_excess) position entries.old }
+    ensures told { Told (answer_in (lent_at scaffold.entry marks.entry glues.entry dg.entry ds.entry amounts.entry (amounts_numbered given) rt strand_excess scaffold_excess) 0 (λ d. friends_answer d position entries.old)) result place.new count.new }
+    ensures entries_after { entries.new ≡ left_in (lent_at scaffold.entry marks.entry glues.entry dg.entry ds.entry amounts.entry (amounts_numbered given) rt strand_excess scaffold_excess) entries.old (λ d. friends_entries d position entries.old) }
 {
+    let Some(given) = amounts_of(given) else {
+        return tell_unnamed(0, place, count);
+    };
     let design = Design {
         scaffold,
         marks,
         glues,
         dg,
         ds,
-        potentials,
+        amounts,
+        given,
         ambient: ambient(rt, strand_excess, scaffold_excess),
     };
     exports::designs::mj_friends(&design, position, entries, place, count)
@@ -111,22 +128,27 @@ pub extern "C" fn mj_states(
     glues: &[u8],
     dg: &[f64],
     ds: &[f64],
-    potentials: &[f64],
+    amounts: &[f64],
+    given: u32,
     rt: f64,
     strand_excess: f64,
     scaffold_excess: f64,
     place: &mut u64,
     count: &mut u64,
 ) -> u32
-    ensures { Told (count_answer (lent_at scaffold.entry marks.entry glues.entry dg.entry ds.entry potentials.entry rt strand_excess scaffold_excess)) result place.new count.new }
+    ensures { Told (answer_in (lent_at scaffold.entry marks.entry glues.entry dg.entry ds.entry amounts.entry (amounts_numbered given) rt strand_excess scaffold_excess) 0 (λ d. count_answer d)) result place.new count.new }
 {
+    let Some(given) = amounts_of(given) else {
+        return tell_unnamed(0, place, count);
+    };
     let design = Design {
         scaffold,
         marks,
         glues,
         dg,
         ds,
-        potentials,
+        amounts,
+        given,
         ambient: ambient(rt, strand_excess, scaffold_excess),
     };
     exports::designs::mj_states(&design, place, count)
@@ -140,7 +162,8 @@ pub extern "C" fn mj_state(
     glues: &[u8],
     dg: &[f64],
     ds: &[f64],
-    potentials: &[f64],
+    amounts: &[f64],
+    given: u32,
     rt: f64,
     strand_excess: f64,
     scaffold_excess: f64,
@@ -148,16 +171,20 @@ pub extern "C" fn mj_state(
     entries: &mut [u8],
     place: &mut u64,
 ) -> u32
-    ensures told { Told (rank_answer (lent_at scaffold.entry marks.entry glues.entry dg.entry ds.entry potentials.entry rt strand_excess scaffold_excess) rank entries.old) result place.new tt }
-    ensures entries_after { entries.new ≡ rank_entries (lent_at scaffold.entry marks.entry glues.entry dg.entry ds.entry potentials.entry rt strand_excess scaffold_excess) rank entries.old }
+    ensures told { Told (answer_in (lent_at scaffold.entry marks.entry glues.entry dg.entry ds.entry amounts.entry (amounts_numbered given) rt strand_excess scaffold_excess) tt (λ d. rank_answer d rank entries.old)) result place.new tt }
+    ensures entries_after { entries.new ≡ left_in (lent_at scaffold.entry marks.entry glues.entry dg.entry ds.entry amounts.entry (amounts_numbered given) rt strand_excess scaffold_excess) entries.old (λ d. rank_entries d rank entries.old) }
 {
+    let Some(given) = amounts_of(given) else {
+        return tell_unnamed((), place, &mut ());
+    };
     let design = Design {
         scaffold,
         marks,
         glues,
         dg,
         ds,
-        potentials,
+        amounts,
+        given,
         ambient: ambient(rt, strand_excess, scaffold_excess),
     };
     exports::designs::mj_state(&design, rank, entries, place)
@@ -171,7 +198,8 @@ pub extern "C" fn mj_state_energy(
     glues: &[u8],
     dg: &[f64],
     ds: &[f64],
-    potentials: &[f64],
+    amounts: &[f64],
+    given: u32,
     rt: f64,
     strand_excess: f64,
     scaffold_excess: f64,
@@ -179,15 +207,19 @@ pub extern "C" fn mj_state_energy(
     place: &mut u64,
     energy: &mut f64,
 ) -> u32
-    ensures { Told (state_energy_answer (lent_at scaffold.entry marks.entry glues.entry dg.entry ds.entry potentials.entry rt strand_excess scaffold_excess) configuration.now) result place.new energy.new }
+    ensures { Told (answer_in (lent_at scaffold.entry marks.entry glues.entry dg.entry ds.entry amounts.entry (amounts_numbered given) rt strand_excess scaffold_excess) zero (λ d. state_energy_answer d configuration.now)) result place.new energy.new }
 {
+    let Some(given) = amounts_of(given) else {
+        return tell_unnamed(0.0, place, energy);
+    };
     let design = Design {
         scaffold,
         marks,
         glues,
         dg,
         ds,
-        potentials,
+        amounts,
+        given,
         ambient: ambient(rt, strand_excess, scaffold_excess),
     };
     exports::designs::mj_state_energy(&design, configuration, place, energy)
@@ -201,7 +233,8 @@ pub extern "C" fn mj_chain_energy(
     glues: &[u8],
     dg: &[f64],
     ds: &[f64],
-    potentials: &[f64],
+    amounts: &[f64],
+    given: u32,
     rt: f64,
     strand_excess: f64,
     scaffold_excess: f64,
@@ -210,15 +243,19 @@ pub extern "C" fn mj_chain_energy(
     sum: &mut f64,
     energy: &mut f64,
 ) -> u32
-    ensures { Told (chain_energy_answer (lent_at scaffold.entry marks.entry glues.entry dg.entry ds.entry potentials.entry rt strand_excess scaffold_excess) configuration.now) result place.new (chain_of sum.new energy.new) }
+    ensures { Told (answer_in (lent_at scaffold.entry marks.entry glues.entry dg.entry ds.entry amounts.entry (amounts_numbered given) rt strand_excess scaffold_excess) no_chain (λ d. chain_energy_answer d configuration.now)) result place.new (chain_of sum.new energy.new) }
 {
+    let Some(given) = amounts_of(given) else {
+        return tell_unnamed_chain(place, sum, energy);
+    };
     let design = Design {
         scaffold,
         marks,
         glues,
         dg,
         ds,
-        potentials,
+        amounts,
+        given,
         ambient: ambient(rt, strand_excess, scaffold_excess),
     };
     exports::designs::mj_chain_energy(&design, configuration, place, sum, energy)

@@ -16,6 +16,7 @@ mod under;
 ghost use Rattle.std.specs.Prelude.{◌≡◌};
 ghost use Rattle.std.specs.Float.Ieee as Ieee;
 ghost use Rattle.std.specs.Float.{binary64};
+ghost use Rattle.logarithm.specs.Answer.{ln_answer};
 ghost use Rattle.units.specs.Ambient.{ambient_at};
 ghost use Rattle.utils.specs.Loops.{loop_penalty};
 ghost use Rattle.utils.specs.Single.{string_dna_dg_ds};
@@ -156,4 +157,13 @@ pub extern "C" fn mj_ambient(
     ensures scaffold_excess_after { scaffold_excess.new ≡ (ambient_at kelvin).scaffold_excess }
 {
     exports::mj_ambient(kelvin, rt, strand_excess, scaffold_excess)
+}
+
+// The natural logarithm of a double from 2^-60 to 2^10. Reply 15.
+#[unsafe(no_mangle)]
+pub extern "C" fn mj_ln(x: f64, logarithm: &mut f64) -> u32
+    ensures value { result ≡ (ln_answer x).number }
+    ensures logarithm_after { logarithm.new ≡ (ln_answer x).figure }
+{
+    exports::mj_ln(x, logarithm)
 }

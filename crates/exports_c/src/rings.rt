@@ -2,13 +2,15 @@
 // A design is lent part by part: C has no structs of slices.
 
 ghost use Rattle.std.specs.Prelude.{◌≡◌};
+ghost use Rattle.doubles.specs.Decimal.{zero};
 ghost use Rattle.ring.specs.Answers.{ring_energy_answer, ring_search_answer, ring_search_entries};
-ghost use Rattle.exports.specs.Lent.{lent_at};
+ghost use Rattle.exports.specs.Lent.{amounts_numbered, lent_at, answer_in, left_in, SaidIn};
 ghost use Rattle.exports.specs.Lowest.{LowestRingTold};
 ghost use Rattle.exports.specs.Told.{Told};
 
 use design::Design;
 use exports::designs::ambient;
+use exports::lent::{amounts_of, tell_unnamed};
 
 // The ring energy of a configuration.
 #[unsafe(no_mangle)]
@@ -18,7 +20,8 @@ pub extern "C" fn mj_ring_energy(
     glues: &[u8],
     dg: &[f64],
     ds: &[f64],
-    potentials: &[f64],
+    amounts: &[f64],
+    given: u32,
     rt: f64,
     strand_excess: f64,
     scaffold_excess: f64,
@@ -26,15 +29,19 @@ pub extern "C" fn mj_ring_energy(
     place: &mut u64,
     energy: &mut f64,
 ) -> u32
-    ensures { Told (ring_energy_answer (lent_at scaffold.entry marks.entry glues.entry dg.entry ds.entry potentials.entry rt strand_excess scaffold_excess) configuration.now) result place.new energy.new }
+    ensures { Told (answer_in (lent_at scaffold.entry marks.entry glues.entry dg.entry ds.entry amounts.entry (amounts_numbered given) rt strand_excess scaffold_excess) zero (λ d. ring_energy_answer d configuration.now)) result place.new energy.new }
 {
+    let Some(given) = amounts_of(given) else {
+        return tell_unnamed(0.0, place, energy);
+    };
     let design = Design {
         scaffold,
         marks,
         glues,
         dg,
         ds,
-        potentials,
+        amounts,
+        given,
         ambient: ambient(rt, strand_excess, scaffold_excess),
     };
     exports::rings::mj_ring_energy(&design, configuration, place, energy)
@@ -48,7 +55,8 @@ pub extern "C" fn mj_ring_search(
     glues: &[u8],
     dg: &[f64],
     ds: &[f64],
-    potentials: &[f64],
+    amounts: &[f64],
+    given: u32,
     rt: f64,
     strand_excess: f64,
     scaffold_excess: f64,
@@ -56,17 +64,21 @@ pub extern "C" fn mj_ring_search(
     place: &mut u64,
     energy: &mut f64,
 ) -> u32
-    ensures told { Told (ring_search_answer (lent_at scaffold.entry marks.entry glues.entry dg.entry ds.entry potentials.entry rt strand_excess scaffold_excess) configuration.old) result place.new energy.new }
-    ensures configuration_after { configuration.new ≡ ring_search_entries (lent_at scaffold.entry marks.entry glues.entry dg.entry ds.entry potentials.entry rt strand_excess scaffold_excess) configuration.old }
-    ensures lowest_ring_told { LowestRingTold (lent_at scaffold.entry marks.entry glues.entry dg.entry ds.entry potentials.entry rt strand_excess scaffold_excess) result configuration.new energy.new }
+    ensures told { Told (answer_in (lent_at scaffold.entry marks.entry glues.entry dg.entry ds.entry amounts.entry (amounts_numbered given) rt strand_excess scaffold_excess) zero (λ d. ring_search_answer d configuration.old)) result place.new energy.new }
+    ensures configuration_after { configuration.new ≡ left_in (lent_at scaffold.entry marks.entry glues.entry dg.entry ds.entry amounts.entry (amounts_numbered given) rt strand_excess scaffold_excess) configuration.old (λ d. ring_search_entries d configuration.old) }
+    ensures lowest_ring_told { SaidIn (lent_at scaffold.entry marks.entry glues.entry dg.entry ds.entry amounts.entry (amounts_numbered given) rt strand_excess scaffold_excess) (λ d. LowestRingTold d result configuration.new energy.new) }
 {
+    let Some(given) = amounts_of(given) else {
+        return tell_unnamed(0.0, place, energy);
+    };
     let design = Design {
         scaffold,
         marks,
         glues,
         dg,
         ds,
-        potentials,
+        amounts,
+        given,
         ambient: ambient(rt, strand_excess, scaffold_excess),
     };
     exports::rings::mj_ring_search(&design, configuration, place, energy)

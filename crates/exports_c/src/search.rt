@@ -2,13 +2,15 @@
 // A design is lent part by part: C has no structs of slices.
 
 ghost use Rattle.std.specs.Prelude.{◌≡◌};
+ghost use Rattle.doubles.specs.Decimal.{zero};
 ghost use Rattle.mfe.specs.Answers.{search_answer, search_entries};
-ghost use Rattle.exports.specs.Lent.{lent_at};
+ghost use Rattle.exports.specs.Lent.{amounts_numbered, lent_at, answer_in, left_in, SaidIn};
 ghost use Rattle.exports.specs.Lowest.{LowestTold};
 ghost use Rattle.exports.specs.Told.{Told};
 
 use design::Design;
 use exports::designs::ambient;
+use exports::lent::{amounts_of, tell_unnamed};
 
 // The lowest configuration, into one lent entry for each position, and its energy.
 #[unsafe(no_mangle)]
@@ -18,7 +20,8 @@ pub extern "C" fn mj_search(
     glues: &[u8],
     dg: &[f64],
     ds: &[f64],
-    potentials: &[f64],
+    amounts: &[f64],
+    given: u32,
     rt: f64,
     strand_excess: f64,
     scaffold_excess: f64,
@@ -26,17 +29,21 @@ pub extern "C" fn mj_search(
     place: &mut u64,
     energy: &mut f64,
 ) -> u32
-    ensures told { Told (search_answer (lent_at scaffold.entry marks.entry glues.entry dg.entry ds.entry potentials.entry rt strand_excess scaffold_excess) configuration.old) result place.new energy.new }
-    ensures configuration_after { configuration.new ≡ search_entries (lent_at scaffold.entry marks.entry glues.entry dg.entry ds.entry potentials.entry rt strand_excess scaffold_excess) configuration.old }
-    ensures lowest_told { LowestTold (lent_at scaffold.entry marks.entry glues.entry dg.entry ds.entry potentials.entry rt strand_excess scaffold_excess) result configuration.new energy.new }
+    ensures told { Told (answer_in (lent_at scaffold.entry marks.entry glues.entry dg.entry ds.entry amounts.entry (amounts_numbered given) rt strand_excess scaffold_excess) zero (λ d. search_answer d configuration.old)) result place.new energy.new }
+    ensures configuration_after { configuration.new ≡ left_in (lent_at scaffold.entry marks.entry glues.entry dg.entry ds.entry amounts.entry (amounts_numbered given) rt strand_excess scaffold_excess) configuration.old (λ d. search_entries d configuration.old) }
+    ensures lowest_told { SaidIn (lent_at scaffold.entry marks.entry glues.entry dg.entry ds.entry amounts.entry (amounts_numbered given) rt strand_excess scaffold_excess) (λ d. LowestTold d result configuration.new energy.new) }
 {
+    let Some(given) = amounts_of(given) else {
+        return tell_unnamed(0.0, place, energy);
+    };
     let design = Design {
         scaffold,
         marks,
         glues,
         dg,
         ds,
-        potentials,
+        amounts,
+        given,
         ambient: ambient(rt, strand_excess, scaffold_excess),
     };
     exports::search::mj_search(&design, configuration, place, energy)

@@ -2,12 +2,14 @@
 // A design is lent part by part: C has no structs of slices.
 
 ghost use Rattle.std.specs.Prelude.{◌≡◌};
+ghost use Rattle.doubles.specs.Decimal.{zero};
 ghost use Rattle.ceiling.specs.Answers.{ceiling_answer, ceiling_entries};
-ghost use Rattle.exports.specs.Lent.{lent_at};
+ghost use Rattle.exports.specs.Lent.{amounts_numbered, lent_at, answer_in, left_in};
 ghost use Rattle.exports.specs.Told.{Told};
 
 use design::Design;
 use exports::designs::ambient;
+use exports::lent::{amounts_of, tell_unnamed};
 
 // The first state in listing order whose state energy is at most the ceiling, into one lent entry for each position, and its energy.
 #[unsafe(no_mangle)]
@@ -17,7 +19,8 @@ pub extern "C" fn mj_first_state_under(
     glues: &[u8],
     dg: &[f64],
     ds: &[f64],
-    potentials: &[f64],
+    amounts: &[f64],
+    given: u32,
     rt: f64,
     strand_excess: f64,
     scaffold_excess: f64,
@@ -26,16 +29,20 @@ pub extern "C" fn mj_first_state_under(
     place: &mut u64,
     energy: &mut f64,
 ) -> u32
-    ensures told { Told (ceiling_answer (lent_at scaffold.entry marks.entry glues.entry dg.entry ds.entry potentials.entry rt strand_excess scaffold_excess) ceiling entries.old) result place.new energy.new }
-    ensures entries_after { entries.new ≡ ceiling_entries (lent_at scaffold.entry marks.entry glues.entry dg.entry ds.entry potentials.entry rt strand_excess scaffold_excess) ceiling entries.old }
+    ensures told { Told (answer_in (lent_at scaffold.entry marks.entry glues.entry dg.entry ds.entry amounts.entry (amounts_numbered given) rt strand_excess scaffold_excess) zero (λ d. ceiling_answer d ceiling entries.old)) result place.new energy.new }
+    ensures entries_after { entries.new ≡ left_in (lent_at scaffold.entry marks.entry glues.entry dg.entry ds.entry amounts.entry (amounts_numbered given) rt strand_excess scaffold_excess) entries.old (λ d. ceiling_entries d ceiling entries.old) }
 {
+    let Some(given) = amounts_of(given) else {
+        return tell_unnamed(0.0, place, energy);
+    };
     let design = Design {
         scaffold,
         marks,
         glues,
         dg,
         ds,
-        potentials,
+        amounts,
+        given,
         ambient: ambient(rt, strand_excess, scaffold_excess),
     };
     exports::under::mj_first_state_under(&design, ceiling, entries, place, energy)

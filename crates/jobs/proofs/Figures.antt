@@ -35,8 +35,8 @@ module _ (d : Design) (a : Admitted d) where
   -- its tables and its numbers pass, so that a call's own checks decide
   own_alone : (own : Bool) (between : List Check) → own ≡ false → first_of (design_checks own d between []) ≡ first_of between or_else (Ok tt)
   own_alone own between e =
-      let tables : first_of (table_checks own d.scaffold d.marks d.glues d.dg d.ds d.potentials) ≡ Ok tt = simp (e, a.sizes, a.cells, a.null) in
-      let numbers : first_of (number_checks d) ≡ Ok tt = simp (a.ambient, a.potentials) in
+      let tables : first_of (table_checks own d.scaffold d.marks d.glues d.dg d.ds d.amounts) ≡ Ok tt = simp (e, a.sizes, a.cells, a.null) in
+      let numbers : first_of (number_checks d) ≡ Ok tt = simp (a.concentrations, a.ambient, a.potentials) in
       after-tables own d between tables ∙ ap (λ (r : Reply). first_of between or_else r) numbers
 
   pub energy-admitted : (job : Option Job) → energy_in (model_of d) (Search.search (model_of d)).energy job ≡ energy_for d job
@@ -80,8 +80,8 @@ module _ (d : Design) (a : Admitted d) where
 abbrev pub Unfit : Design → Type 0
 Unfit d =
     (why : Refusal) × (place : Option ℕ)
-    × ((first_of (table_checks false d.scaffold d.marks d.glues d.dg d.ds d.potentials) ≡ refuses why place)
-    ⊎ ((first_of (table_checks false d.scaffold d.marks d.glues d.dg d.ds d.potentials) ≡ Ok tt) × (first_of (number_checks d) ≡ refuses why place)))
+    × ((first_of (table_checks false d.scaffold d.marks d.glues d.dg d.ds d.amounts) ≡ refuses why place)
+    ⊎ ((first_of (table_checks false d.scaffold d.marks d.glues d.dg d.ds d.amounts) ≡ Ok tt) × (first_of (number_checks d) ≡ refuses why place)))
 
 module _ {A : Type 0} where
   blank-figure : (r : Reply) (why : Refusal) (place : Option ℕ) (blank figure : A) → (figures_of (r or_else refuses why place) blank figure).figure ≡ blank
@@ -97,8 +97,8 @@ module _ (d : Design) (u : Unfit d) (own : Bool) (e : own ≡ false) (between : 
   refused-reply : (r : Reply) × (first_of (design_checks own d between []) ≡ r or_else refuses u.0 u.1)
   refused-reply = rw e (go u.2)
     where
-      go : (first_of (table_checks false d.scaffold d.marks d.glues d.dg d.ds d.potentials) ≡ refuses u.0 u.1)
-          ⊎ ((first_of (table_checks false d.scaffold d.marks d.glues d.dg d.ds d.potentials) ≡ Ok tt) × (first_of (number_checks d) ≡ refuses u.0 u.1))
+      go : (first_of (table_checks false d.scaffold d.marks d.glues d.dg d.ds d.amounts) ≡ refuses u.0 u.1)
+          ⊎ ((first_of (table_checks false d.scaffold d.marks d.glues d.dg d.ds d.amounts) ≡ Ok tt) × (first_of (number_checks d) ≡ refuses u.0 u.1))
           → (r : Reply) × (first_of (design_checks false d between []) ≡ r or_else refuses u.0 u.1)
       go (inl t) = (Ok tt, tables-refuse false d between [] t)
       go (inr t) = (first_of between, after-tables false d between t.0 ∙ ap (λ (r : Reply). first_of between or_else r) t.1)

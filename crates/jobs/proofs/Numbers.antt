@@ -87,7 +87,7 @@ module _ (n : ℕ) {states : ℕ} (held : states ≡ min n 1048577) where
 
 module _ (d : Design) {j : Result Judged Refusal} (w : JudgedRight d j) where
   abbrev tables : List Check
-  tables = table_checks false d.scaffold d.marks d.glues d.dg d.ds d.potentials
+  tables = table_checks false d.scaffold d.marks d.glues d.dg d.ds d.amounts
 
   abbrev numbers : ℕ
   numbers = reply_number (first_of (number_checks d))

@@ -69,10 +69,10 @@ passed (Err refusal) f = absurd (true≢false f)
 
 module _ (d : Design) {j : Result Judged Refusal} (w : JudgedRight d j) where
   pub unfit-tables : is_err (tables_of j) ≡ true → Unfit d
-  unfit-tables n = let r = refusal-of (first_of (table_checks false d.scaffold d.marks d.glues d.dg d.ds d.potentials)) w.tables n in (r.0, r.1, inl r.2)
+  unfit-tables n = let r = refusal-of (first_of (table_checks false d.scaffold d.marks d.glues d.dg d.ds d.amounts)) w.tables n in (r.0, r.1, inl r.2)
 
   pub unfit-numbers : is_err (tables_of j) ≡ false → is_err (numbers_of j) ≡ true → Unfit d
   unfit-numbers z n =
       let pass = passed (tables_of j) z in
       let r = refusal-of (first_of (number_checks d)) (w.numbers pass) n in
-      (r.0, r.1, inr (admitted_of (first_of (table_checks false d.scaffold d.marks d.glues d.dg d.ds d.potentials)) (sym w.tables ∙ pass), r.2))
+      (r.0, r.1, inr (admitted_of (first_of (table_checks false d.scaffold d.marks d.glues d.dg d.ds d.amounts)) (sym w.tables ∙ pass), r.2))

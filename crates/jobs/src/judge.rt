@@ -12,8 +12,8 @@ use ensemble::states::MOST_STATES;
 use prepared::options::{Counted, count_options};
 use reply::{Refusal, refused_if};
 
-// What a design whose tables pass is judged for: its options and how many states these give, and itself as an admitted design, or why its ambient or its
-// potentials are refused.
+// What a design whose tables pass is judged for: its options and how many states these give, and itself as an admitted design, or why its concentrations,
+// its ambient or its potentials are refused.
 #[derive(Drop)]
 pub(crate) struct Judged<'a> {
     pub counted: Counted<'a>,
@@ -51,9 +51,11 @@ pub(crate) fn judge<'a>(
     design: &'a Design<'a>,
     rows: &'a mut [u8],
     counts: &'a mut [u8],
+    logarithms: &'a mut [f64],
 ) -> Result<Judged<'a>, Refusal>
     requires rows_len { length rows.old ≡ 8192 }
     requires counts_len { length counts.old ≡ 128 }
+    requires logarithms_len { length logarithms.old ≡ 64 }
     ensures judged_right { JudgedRight design.now result }
     ensures same { IfOk result (λ judged. IfOk judged.admitted (λ admitted. admitted ≡ design.now)) }
     ensures options { IfOk result (λ judged. OptionRows (model_of design.now) judged.counted.options.rows.now judged.counted.options.counts.now × (judged.counted.options.strands ≡ strands design.now)) }
@@ -61,6 +63,8 @@ pub(crate) fn judge<'a>(
     let tabled = tabled(false, design).map_err(|refused| refused.refusal)?;
     let counts = &mut counts[..design.positions()];
     let counted = count_options(&tabled, rows, counts);
-    let admitted = tabled.admitted().map_err(|refused| refused.refusal);
+    let admitted = tabled
+        .admitted(logarithms)
+        .map_err(|refused| refused.refusal);
     Ok(Judged { counted, admitted })
 }

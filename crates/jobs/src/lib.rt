@@ -25,7 +25,7 @@ use fill::{fill_counts, fill_energies, fill_numbers, fill_stretches};
 use judge::{Judged, judge};
 use prepared::bonds::fill_bonds;
 use prepared::options::Counted;
-use reply::limits::POSITIONS;
+use reply::limits::{POSITIONS, STRANDS};
 use reply::{Refusal, refused_if};
 use settle::Settled;
 
@@ -85,7 +85,7 @@ fn answer_jobs(
     let configuration = &mut configuration[..options.counts.len()];
     let optioned = OptionedDesign { design, options };
     fill_bonds(&optioned, &mut strand_bonds, &mut scaffold_bonds);
-    let bonds = Bonds::new(&strand_bonds, &scaffold_bonds, design.potentials());
+    let bonds = Bonds::new(&strand_bonds, &scaffold_bonds, admitted.potentials());
     let lent = LentModel { options, bonds };
     let least = lowest(&lent, design.rt(), configuration);
     let settled = Settled {
@@ -127,7 +127,8 @@ pub fn job_sheet(
     refused_if(Refusal::WrongSize, wrong)?;
     let mut rows = [0; OPTIONS];
     let mut options = [0; POSITIONS];
-    let judged = judge(design, &mut rows, &mut options);
+    let mut logarithms = [0.0; STRANDS];
+    let judged = judge(design, &mut rows, &mut options, &mut logarithms);
     fill_numbers(jobs, &judged, numbers);
     if let Ok(
         Judged {

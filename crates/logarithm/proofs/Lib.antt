@@ -9,3 +9,6 @@ pub mod Double
 pub mod Right
 pub mod Doubled
 pub mod Parts
+pub mod Between
+pub mod Sized
+pub mod Told

@@ -1,3 +1,4 @@
 pub mod Logarithm
 pub mod Figure
 pub mod Near
+pub mod Answer

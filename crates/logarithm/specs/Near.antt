@@ -1,11 +1,12 @@
 -- What it is for a fraction, and for a double, to lie near a logarithm; and which doubles have one.
-use Rattle.std.specs.Prelude.{Bool, true, false, ◌≡◌, ℕ, ◌*◌, ◌^◌, ◌<◌, T, Float}
+use Rattle.std.specs.Prelude.{Bool, true, false, ◌≡◌, ℕ, ◌*◌, ◌^◌, ◌<◌, T, pos, Float}
 use Rattle.std.specs.Float.{nan, inf, fin, binary64}
 use Rattle.std.specs.Float.Ieee.{round, up, down, fits}
 use Rattle.std.specs.Float.Ieee.Scale.{finite}
 use Rattle.std.specs.Float.Ieee.Positive.{num, den}
 use Rattle.fractions.specs.Frac.{Frac, frac, none, plus, LeFrac}
 use Rattle.doubles.specs.Range.{within}
+use Rattle.doubles.specs.Size.{Within}
 use Rattle.logarithm.specs.Logarithm.{lower, upper}
 use Rattle.logarithm.specs.Figure.{ln_of}
 
@@ -51,3 +52,11 @@ has_logarithm x = within least_argument most_argument x
 -- the figure is near the logarithm, for every double between those ends; proofs/Right.antt shows it
 abbrev pub Logarithms : Type 0
 Logarithms = (x : Float) → T (fits binary64 x) → has_logarithm x ≡ true → LnOf x (ln_of x)
+
+-- it is at most 128 in size, far within document 01's range of a potential; proofs/Sized.antt shows it
+abbrev pub LogarithmsSmall : Type 0
+LogarithmsSmall = (x : Float) → T (fits binary64 x) → has_logarithm x ≡ true → Within binary64 128 (ln_of x)
+
+-- that of 1 is 0.0
+abbrev pub LogarithmOfOne : Type 0
+LogarithmOfOne = ln_of (fin false 1 (pos 0)) ≡ fin false 0 (pos 0)

@@ -1,8 +1,13 @@
 // The natural logarithm, near the exact one, which specs/Logarithm.antt defines by fractions.
 #![tactic(auto)]
 
-ghost use Rattle.std.specs.Prelude.{◌≡◌, ◌+◌, ◌-◌, ◌*◌, ◌/◌, ◌^◌, ◌<◌, ◌≤◌};
-ghost use Rattle.logarithm.specs.Figure.{mul_units, ln_series, ln_reduced, ln_ratio, ln_whole};
+ghost use Rattle.std.specs.Prelude.{◌≡◌, ◌+◌, ◌-◌, ◌*◌, ◌/◌, ◌^◌, ◌<◌, ◌≤◌, not, true};
+ghost use Rattle.logarithm.specs.Figure.{mul_units, ln_series, ln_reduced, ln_ratio, ln_whole, ln_of};
+ghost use Rattle.logarithm.specs.Near.{has_logarithm};
+ghost use Rattle.logarithm.specs.Answer.{ln_figures, ln_answer};
+
+use doubles::{HIDDEN, bits, in_range};
+use reply::{Refusal, refused_if};
 
 // ln (32 / 32), ln (33 / 32), .. , ln (64 / 32), in units of 2^-54.
 const STEPS: [u64; 33] = [
@@ -117,4 +122,64 @@ pub fn ln_whole(a: u64, b: u64) -> u64
 {
     let k = (a / b).ilog2();
     ln_ratio(a, b << k, u64::from(k))
+}
+
+// The smallest argument of `ln`, 2^-60.
+const LEAST: f64 = 0.0000000000000000008673617379884035;
+
+// The largest, 2^10.
+const MOST: f64 = 1024.0;
+
+// The field of the exponent of a double from 1 up to 2.
+const FIELD_OF_ONE: u64 = 1023;
+
+// A unit of `ln_ratio` is one part in so many.
+const UNITS: f64 = 70368744177664.0;
+
+// The same as ln_ratio of m / 2^52, its parts divided by 32 beforehand.
+fn from_one(m: u64, k: u64) -> u64
+    requires { (2 ^ 52 ≤ m) × (m < 2 ^ 53) × (k ≤ 60) }
+    ensures { result ≡ ln_ratio m (2 ^ 52) k }
+{
+    let c = m / 140737488355328;
+    reduced(c, quotient(m - c * 140737488355328, m), k)
+}
+
+// The same as ln_ratio of 2^53 / m: a division by a power of two takes no digits.
+fn below_one(m: u64, k: u64) -> u64
+    requires { (2 ^ 52 ≤ m) × (m < 2 ^ 53) × (k ≤ 60) }
+    ensures { result ≡ ln_ratio (2 ^ 53) m k }
+{
+    let c = 288230376151711744 / m;
+    reduced(c, (288230376151711744 - c * m) / 16, k)
+}
+
+// The logarithm of x, which has one. Below 1 it is that of the inverse with its sign turned: so nothing is subtracted, and it lies on one side of the
+// exact one.
+fn ln_between(x: f64) -> f64
+    requires { has_logarithm x ≡ true }
+    ensures { result ≡ ln_of x }
+{
+    let bits = bits(x);
+    let field = bits / HIDDEN;
+    let m = bits % HIDDEN + HIDDEN;
+    if field < FIELD_OF_ONE {
+        return -(below_one(m, FIELD_OF_ONE - 1 - field) as f64 / UNITS);
+    }
+    from_one(m, field - FIELD_OF_ONE) as f64 / UNITS
+}
+
+// Whether x lies from 2^-60 to 2^10, both included.
+fn has_logarithm(x: f64) -> bool
+    ensures { result ≡ has_logarithm x }
+{
+    in_range(LEAST, MOST, x)
+}
+
+// The natural logarithm of a double from 2^-60 to 2^10.
+pub fn ln(x: f64) -> Result<f64, Refusal>
+    ensures { ln_figures result ≡ ln_answer x }
+{
+    refused_if(Refusal::TooDilute, !has_logarithm(x))?;
+    Ok(ln_between(x))
 }

@@ -19,7 +19,7 @@ use Rattle.model.proofs.Search.{search-lowest}
 use Rattle.design.specs.Design.{Design, positions, strands, model_of}
 use Rattle.design.specs.Checks.{Admitted}
 use Rattle.design.specs.Laws.{Doubles}
-use Rattle.design.specs.Unread.{with_potentials}
+use Rattle.design.specs.Unread.{with_amounts}
 use Rattle.design.proofs.Replies.{Passed, passed, own-decide}
 use Rattle.design.proofs.BoundLaws.{bounds-right}
 use Rattle.design.proofs.Finite.{zero_in}
@@ -64,13 +64,13 @@ search-answered d entries doubles = record {
   finite = energy-within d entries doubles;
 }
 
--- ---- potentials that are not read
+-- ---- amounts that are not read
 
 pub unread-by-search : UnreadBySearch
-unread-by-search d potentials entries r =
-    let other = with_potentials d potentials in
-    let checks : search_checks other entries ≡ search_checks d entries = same-design-reply d potentials r (own_size d entries) [] [] in
-    let found : Search.search (model_of d) ≡ Search.search (model_of other) = (same-models d potentials r).searched in
+unread-by-search d amounts given entries r =
+    let other = with_amounts d amounts given in
+    let checks : search_checks other entries ≡ search_checks d entries = same-design-reply d amounts given r (own_size d entries) [] [] in
+    let found : Search.search (model_of d) ≡ Search.search (model_of other) = (same-models d amounts given r).searched in
     record {
       answer = ap₂ (λ (cs : List Check) (r : Search.SearchResult). figures_of (first_of cs) zero r.energy) (sym checks) found;
       written = ap₂ (λ (cs : List Check) (r : Search.SearchResult). entries_of (first_of cs) entries r.configuration) (sym checks) found;

@@ -4,10 +4,11 @@ use Rattle.std.specs.Prelude.{◌≡◌, ◌↔◌, List, ℕ, length, Float}
 use Rattle.std.specs.Float.{binary64}
 use Rattle.doubles.specs.Size.{Within}
 use Rattle.model.specs.LowestConfiguration.{LowestConfiguration}
+use Rattle.design.specs.declared.Amounts.{Amounts}
 use Rattle.design.specs.Design.{Design, positions, model_of}
 use Rattle.design.specs.Checks.{Admitted}
 use Rattle.design.specs.Laws.{Doubles}
-use Rattle.design.specs.Unread.{with_potentials, ReadAlike}
+use Rattle.design.specs.Unread.{with_amounts, ReadAlike}
 use Rattle.mfe.specs.Answers.{search_answer, search_entries}
 
 -- the answer to one design and lent entries
@@ -23,11 +24,11 @@ pub record SearchAnswered (d : Design) (entries : List ℕ) : Type 0 where
 abbrev pub SearchAnswers : Type 0
 SearchAnswers = (d : Design) (entries : List ℕ) → Doubles d → SearchAnswered d entries
 
--- potentials of strands that are nowhere friends are not read
-pub record SearchUnread (d : Design) (potentials : List Float) (entries : List ℕ) : Type 0 where
-  pub answer : search_answer d entries ≡ search_answer (with_potentials d potentials) entries
-  pub written : search_entries d entries ≡ search_entries (with_potentials d potentials) entries
+-- amounts that read alike give the same answer: those of strands that are nowhere friends are not read, and of a concentration its logarithm alone
+pub record SearchUnread (d : Design) (amounts : List Float) (given : Amounts) (entries : List ℕ) : Type 0 where
+  pub answer : search_answer d entries ≡ search_answer (with_amounts d amounts given) entries
+  pub written : search_entries d entries ≡ search_entries (with_amounts d amounts given) entries
 
 -- of every design
 abbrev pub UnreadBySearch : Type 0
-UnreadBySearch = (d : Design) (potentials : List Float) (entries : List ℕ) → ReadAlike d potentials → SearchUnread d potentials entries
+UnreadBySearch = (d : Design) (amounts : List Float) (given : Amounts) (entries : List ℕ) → ReadAlike d amounts given → SearchUnread d amounts given entries

@@ -18,7 +18,7 @@ use ensemble::lowest::lowest;
 use ensemble::options::OPTIONS;
 use ensemble::rings::lowest_ring;
 use reply::Refused;
-use reply::limits::POSITIONS;
+use reply::limits::{POSITIONS, STRANDS};
 use units::KcalPerMol;
 
 // Options and bonds of an admitted design, the bonds in tables with room for so many, and the search over them: of its lowest configuration, or of its
@@ -51,7 +51,7 @@ fn settled<const RING: bool, const STRAND_CELLS: usize, const SCAFFOLD_CELLS: us
     if RING {
         optioned.fill_closing_bonds(&mut strand_bonds);
     }
-    let bonds = Bonds::new(&strand_bonds, &scaffold_bonds, design.potentials());
+    let bonds = Bonds::new(&strand_bonds, &scaffold_bonds, admitted.potentials());
     let lent = LentModel { options, bonds };
     if RING {
         lowest_ring(&lent, design.rt(), configuration)
@@ -88,7 +88,9 @@ pub fn mfe_configuration(design: &Design, configuration: &mut [u8]) -> Result<Kc
     ensures configuration_after { configuration.new ≡ search_entries design.now configuration.old }
     ensures lowest_shown { LowestShown design.now configuration.old configuration.new result }
 {
-    let admitted = admitted(configuration.len() != design.positions(), design)?;
     design.hold_doubles();
+    let own_size = configuration.len() != design.positions();
+    let mut logarithms = [0.0; STRANDS];
+    let admitted = admitted(own_size, design, &mut logarithms)?;
     Ok(searched::<false>(&admitted, configuration))
 }

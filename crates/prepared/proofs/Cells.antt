@@ -11,6 +11,7 @@ use Rattle.ensemble.specs.Layout.{Searchable, OptionRows, option_in}
 use native.Mathlib.Omega.{arith}
 use Rattle.design.specs.Design.{Design, strands, strand_bond_in, scaffold_bond_in, model_of}
 use Rattle.design.specs.Checks.{Admitted}
+use Rattle.design.specs.Unread.{PotentialsOf}
 use Rattle.design.specs.Filling.{Holds, Kept, PairsHeld, SitesHeld}
 use Rattle.design.proofs.Cells.{bond-cells}
 use Rattle.design.proofs.Held.{kept_then, stored-kept}
@@ -25,9 +26,10 @@ pairs-kept bond {strands} {rows} {counts} w kept held i j k h l q =
 module _ (d : Design) (a : Admitted d) where
   pub state-cells : {rows counts : List ℕ} {strand_bonds scaffold_bonds : List Float} → OptionRows (model_of d) rows counts → PairsHeld (strand_bond_in d) (strands d) strand_bonds rows counts (length counts - 1)
       → ((x : ℕ) → x < strands d → Holds (strand_bond_in d) (strands d) strand_bonds x 0)
-      → SitesHeld (scaffold_bond_in d) (strands d) scaffold_bonds rows counts (length counts) → StateCells (model_of d) (strands d) strand_bonds scaffold_bonds d.potentials
+      → SitesHeld (scaffold_bond_in d) (strands d) scaffold_bonds rows counts (length counts)
+      → (potentials : List Float) → PotentialsOf d potentials → StateCells (model_of d) (strands d) strand_bonds scaffold_bonds potentials
   unfolding model_of
-  state-cells o p e s = record { searched = bond-cells d a o p s; empties = e }
+  state-cells o p e s potentials own = record { searched = bond-cells d a o p s potentials own; empties = e }
 
 -- one strand more whose bond with an empty place is stored
 pub empties-more : (bond : ℕ → ℕ → Float) (strands x : ℕ) {before t : List Float} {v : Float} → x < strands → strands * strands ≤ length before → v ≡ bond x 0 → Kept bond strands before t → ((y : ℕ) → y < x → Holds bond strands t y 0)

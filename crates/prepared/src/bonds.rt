@@ -1,8 +1,9 @@
 // The bonds that states and the search read, into lent cells, row first, as wide as there are strands.
-ghost use Rattle.std.specs.Prelude.{◌≡◌, List, ℕ, ◌*◌, ◌<◌, ◌≤◌, length};
+ghost use Rattle.std.specs.Prelude.{◌≡◌, List, ℕ, Float, ◌*◌, ◌<◌, ◌≤◌, length};
 ghost use Rattle.ensemble.specs.Layout.{OptionRows};
-ghost use Rattle.design.specs.Design.{strands, strand_bond_in, remarked, model_of};
+ghost use Rattle.design.specs.Design.{strands, strand_bond_in, model_of};
 ghost use Rattle.design.specs.Checks.{Admitted};
+ghost use Rattle.design.specs.Unread.{PotentialsOf};
 ghost use Rattle.design.specs.Filling.{Kept, Holds};
 ghost use Rattle.prepared.specs.Layout.{StateCells};
 
@@ -30,7 +31,7 @@ pub fn fill_bonds(optioned: &OptionedDesign, strand_bonds: &mut [f64], scaffold_
     requires strands_nonzero { 0 < strands optioned.now.design.now }
     requires strands_in_bounds { strands optioned.now.design.now * strands optioned.now.design.now ≤ length strand_bonds.old }
     requires counts_in_bounds { length optioned.now.options.counts.now * strands optioned.now.design.now ≤ length scaffold_bonds.old }
-    ensures { (marks : List ℕ) → Admitted (remarked optioned.now.design.now marks) → OptionRows (model_of (remarked optioned.now.design.now marks)) optioned.now.options.rows.now optioned.now.options.counts.now → StateCells (model_of (remarked optioned.now.design.now marks)) (strands optioned.now.design.now) strand_bonds.new scaffold_bonds.new optioned.now.design.now.potentials }
+    ensures { (potentials : List Float) → PotentialsOf optioned.now.design.now potentials → Admitted optioned.now.design.now → OptionRows (model_of optioned.now.design.now) optioned.now.options.rows.now optioned.now.options.counts.now → StateCells (model_of optioned.now.design.now) (strands optioned.now.design.now) strand_bonds.new scaffold_bonds.new potentials }
 {
     optioned.fill_read_strand_bonds(strand_bonds);
     fill_empties(optioned.design, strand_bonds);

@@ -96,6 +96,7 @@ impl Design {
             &self.dg,
             &self.ds,
             potentials,
+            design::Amounts::Potentials,
             self.ambient,
         )
     }

@@ -8,7 +8,7 @@ use Rattle.reply.specs.Number.{number_of, answered, Reply}
 use Rattle.reply.specs.First.{answer}
 use Rattle.reply.specs.declared.Refusal.{Refusal}
 use Rattle.reply.specs.declared.Refused.{Refused}
-use Rattle.reply.specs.declared.Refusal.TheVariants.{WrongSize, NotABase, TooShort, UnequalLengths, NoSuchLoop, UnknownName, TooManyGlues, DuplicatePair, OutOfRange, NullBinds, NotAFriend, TooManyStates, RankTooHigh, BadDeck, AmbientOut, PotentialOut, BareScaffold, WeightOut, NotARing, TwoStars, NotAJob, NoneUnder}
+use Rattle.reply.specs.declared.Refusal.TheVariants.{WrongSize, NotABase, TooShort, UnequalLengths, NoSuchLoop, UnknownName, TooManyGlues, DuplicatePair, OutOfRange, NullBinds, NotAFriend, TooManyStates, RankTooHigh, BadDeck, TooDilute, AmbientOut, PotentialOut, BareScaffold, WeightOut, NotARing, TwoStars, NotAJob, NoneUnder}
 use Rattle.reply.proofs.Lowest.{same_number}
 
 pub number-positive : (r : Refusal) → 1 ≤ number_of r
@@ -26,6 +26,7 @@ number-positive NotAFriend = lit≤ tt
 number-positive TooManyStates = lit≤ tt
 number-positive RankTooHigh = lit≤ tt
 number-positive BadDeck = lit≤ tt
+number-positive TooDilute = lit≤ tt
 number-positive AmbientOut = lit≤ tt
 number-positive PotentialOut = lit≤ tt
 number-positive BareScaffold = lit≤ tt

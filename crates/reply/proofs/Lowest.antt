@@ -13,12 +13,12 @@ use Rattle.std.specs.Prelude.{Option, None, Ok, Err}
 use Rattle.reply.specs.Number.{number_of, Reply}
 use Rattle.reply.specs.First.{Check, refuses, first_of, sorted, AppliesAt, Applies, LowestGiven}
 use Rattle.reply.specs.declared.Refusal.{Refusal}
-use Rattle.reply.specs.declared.Refusal.TheVariants.{WrongSize, NotABase, TooShort, UnequalLengths, NoSuchLoop, UnknownName, TooManyGlues, DuplicatePair, OutOfRange, NullBinds, NotAFriend, TooManyStates, RankTooHigh, BadDeck, AmbientOut, PotentialOut, BareScaffold, WeightOut, NotARing, TwoStars, NotAJob, NoneUnder}
+use Rattle.reply.specs.declared.Refusal.TheVariants.{WrongSize, NotABase, TooShort, UnequalLengths, NoSuchLoop, UnknownName, TooManyGlues, DuplicatePair, OutOfRange, NullBinds, NotAFriend, TooManyStates, RankTooHigh, BadDeck, TooDilute, AmbientOut, PotentialOut, BareScaffold, WeightOut, NotARing, TwoStars, NotAJob, NoneUnder}
 
--- the refusal with a given number, whatever stands at 15
+-- the refusal with a given number
 refusal_of : ℕ → Refusal
 refusal_of n =
-    get_or (WrongSize ∷ NotABase ∷ TooShort ∷ UnequalLengths ∷ NoSuchLoop ∷ UnknownName ∷ TooManyGlues ∷ DuplicatePair ∷ OutOfRange ∷ NullBinds ∷ NotAFriend ∷ TooManyStates ∷ RankTooHigh ∷ BadDeck ∷ BadDeck ∷ AmbientOut ∷ PotentialOut ∷ BareScaffold ∷ WeightOut ∷ NotARing ∷ TwoStars ∷ NotAJob ∷ [])
+    get_or (WrongSize ∷ NotABase ∷ TooShort ∷ UnequalLengths ∷ NoSuchLoop ∷ UnknownName ∷ TooManyGlues ∷ DuplicatePair ∷ OutOfRange ∷ NullBinds ∷ NotAFriend ∷ TooManyStates ∷ RankTooHigh ∷ BadDeck ∷ TooDilute ∷ AmbientOut ∷ PotentialOut ∷ BareScaffold ∷ WeightOut ∷ NotARing ∷ TwoStars ∷ NotAJob ∷ [])
     (n - 1)
     NoneUnder
 
@@ -38,6 +38,7 @@ numbered NotAFriend = refl
 numbered TooManyStates = refl
 numbered RankTooHigh = refl
 numbered BadDeck = refl
+numbered TooDilute = refl
 numbered AmbientOut = refl
 numbered PotentialOut = refl
 numbered BareScaffold = refl

@@ -20,6 +20,7 @@ reply-table =
       many = refl;
       rank = refl;
       deck = refl;
+      dilute = refl;
       ambient = refl;
       potential = refl;
       bare = refl;

@@ -1,7 +1,7 @@
 -- The table of replies of documents 01 and 02: the number of each refusal, and 0 for an answer.
 use Rattle.std.specs.Prelude.{ℕ, Result, Ok, Err}
 use Rattle.reply.specs.declared.Refusal.{Refusal}
-use Rattle.reply.specs.declared.Refusal.TheVariants.{WrongSize, NotABase, TooShort, UnequalLengths, NoSuchLoop, UnknownName, TooManyGlues, DuplicatePair, OutOfRange, NullBinds, NotAFriend, TooManyStates, RankTooHigh, BadDeck, AmbientOut, PotentialOut, BareScaffold, WeightOut, NotARing, TwoStars, NotAJob, NoneUnder}
+use Rattle.reply.specs.declared.Refusal.TheVariants.{WrongSize, NotABase, TooShort, UnequalLengths, NoSuchLoop, UnknownName, TooManyGlues, DuplicatePair, OutOfRange, NullBinds, NotAFriend, TooManyStates, RankTooHigh, BadDeck, TooDilute, AmbientOut, PotentialOut, BareScaffold, WeightOut, NotARing, TwoStars, NotAJob, NoneUnder}
 use Rattle.reply.specs.declared.Refused.{Refused}
 
 -- the number of a refusal; 1 to 14 are document 01's, higher ones document 02's; src/lib.rt has its trade word beside each
@@ -20,6 +20,7 @@ number_of NotAFriend = 11
 number_of TooManyStates = 12
 number_of RankTooHigh = 13
 number_of BadDeck = 14
+number_of TooDilute = 15
 number_of AmbientOut = 16
 number_of PotentialOut = 17
 number_of BareScaffold = 18

@@ -1,7 +1,7 @@
 -- The table of replies as numerals, under the trade words, to be held line by line against document 01's table (to 14) and document 02's (from 15).
 use Rattle.std.specs.Prelude.{◌≡◌, Ok}
 use Rattle.reply.specs.Number.{number_of, reply_number}
-use Rattle.reply.specs.declared.Refusal.TheVariants.{WrongSize, NotABase, TooShort, UnequalLengths, NoSuchLoop, UnknownName, TooManyGlues, DuplicatePair, OutOfRange, NullBinds, NotAFriend, TooManyStates, RankTooHigh, BadDeck, AmbientOut, PotentialOut, BareScaffold, WeightOut, NotARing, TwoStars, NotAJob, NoneUnder}
+use Rattle.reply.specs.declared.Refusal.TheVariants.{WrongSize, NotABase, TooShort, UnequalLengths, NoSuchLoop, UnknownName, TooManyGlues, DuplicatePair, OutOfRange, NullBinds, NotAFriend, TooManyStates, RankTooHigh, BadDeck, TooDilute, AmbientOut, PotentialOut, BareScaffold, WeightOut, NotARing, TwoStars, NotAJob, NoneUnder}
 
 -- the numbers that the definitions give are the table's; proofs/Table.antt shows it
 pub record ReplyTable : Type 0 where
@@ -20,6 +20,7 @@ pub record ReplyTable : Type 0 where
   pub many : number_of TooManyStates ≡ 12
   pub rank : number_of RankTooHigh ≡ 13
   pub deck : number_of BadDeck ≡ 14
+  pub dilute : number_of TooDilute ≡ 15
   pub ambient : number_of AmbientOut ≡ 16
   pub potential : number_of PotentialOut ≡ 17
   pub bare : number_of BareScaffold ≡ 18

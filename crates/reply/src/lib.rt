@@ -41,6 +41,8 @@ pub enum Refusal {
     RankTooHigh,
     // deck: a stored configuration that breaks the word rules
     BadDeck,
+    // dilute: a concentration that a design reads, or the logarithm's argument, is not between 2^-60 and 2^10
+    TooDilute,
     // ambient: RT or an excess of a design's ambient is out of range
     AmbientOut,
     // potential: a potential that a design reads is out of range
@@ -98,6 +100,7 @@ impl Refusal {
             Refusal::TooManyStates => 12,
             Refusal::RankTooHigh => 13,
             Refusal::BadDeck => 14,
+            Refusal::TooDilute => 15,
             Refusal::AmbientOut => 16,
             Refusal::PotentialOut => 17,
             Refusal::BareScaffold => 18,

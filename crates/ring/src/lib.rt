@@ -11,8 +11,9 @@ use design::passed::admitted;
 use design::terms::terms_of;
 use ensemble::energies::Places;
 use mfe::searched;
+use reply::limits::STRANDS;
 use reply::{Refusal, Refused, refused_if};
-use sdc1d::energy_reply;
+use sdc1d::energy_admitted;
 use units::KcalPerMol;
 
 // A ring has no fewer positions.
@@ -22,9 +23,11 @@ const LEAST_RING: usize = 3;
 pub fn ring_energy(design: &Design, configuration: &[u8]) -> Result<KcalPerMol, Refused>
     ensures { energy_figures result ≡ ring_energy_answer design.now configuration.now }
 {
-    energy_reply(design, configuration)?;
+    let mut logarithms = [0.0; STRANDS];
+    let admitted = energy_admitted(design, configuration, &mut logarithms)?;
+    let design = admitted.design;
     refused_if(Refusal::NotARing, design.positions() < LEAST_RING)?;
-    let terms = terms_of(design, configuration);
+    let terms = terms_of(&admitted, configuration);
     let places = Places {
         configuration,
         terms: &terms,
@@ -42,8 +45,10 @@ pub fn ring_configuration(design: &Design, configuration: &mut [u8]) -> Result<K
     ensures configuration_after { configuration.new ≡ ring_search_entries design.now configuration.old }
     ensures lowest_ring_shown { LowestRingShown design.now configuration.old configuration.new result }
 {
-    let admitted = admitted(configuration.len() != design.positions(), design)?;
-    refused_if(Refusal::NotARing, design.positions() < LEAST_RING)?;
     design.hold_doubles();
+    let own_size = configuration.len() != design.positions();
+    let mut logarithms = [0.0; STRANDS];
+    let admitted = admitted(own_size, design, &mut logarithms)?;
+    refused_if(Refusal::NotARing, admitted.design.positions() < LEAST_RING)?;
     Ok(searched::<true>(&admitted, configuration))
 }

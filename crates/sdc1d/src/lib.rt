@@ -5,17 +5,19 @@
 
 mod strangers;
 
-ghost use Rattle.std.specs.Prelude.{◌≡◌, ◌≤◌, length, OnOk};
+ghost use Rattle.std.specs.Prelude.{◌≡◌, ◌≤◌, length, IfOk, OnOk};
 ghost use Rattle.reply.specs.First.{first_of};
 ghost use Rattle.reply.specs.Figures.{reply_figures};
+ghost use Rattle.model.specs.Model.{State};
+ghost use Rattle.design.specs.Design.{model_of};
 ghost use Rattle.design.specs.Checks.{energy_checks};
+ghost use Rattle.design.specs.Passed.{reply_of};
 ghost use Rattle.design.specs.Answers.{bond_figures, count_figures, energy_figures, chain_figures, strand_bond_answer, scaffold_bond_answer, friends_answer, friends_entries, count_answer, rank_answer, rank_entries, state_energy_answer, chain_energy_answer};
 
 use design::Design;
 use design::answers::ChainEnergy;
-use design::checks::numbers_reply;
 use design::options::write_friends;
-use design::passed::{admitted, tabled};
+use design::passed::{AdmittedDesign, admitted, tabled};
 use design::terms::terms_of;
 use ensemble::energies::Places;
 use ensemble::options::OPTIONS;
@@ -32,7 +34,8 @@ pub fn bond_between_strands(design: &Design, x: u8, y: u8) -> Result<f64, Refuse
 {
     let strands = design.strands();
     let lacking = strands <= usize::from(x) || strands <= usize::from(y);
-    admitted(lacking, design)?;
+    let mut logarithms = [0.0; STRANDS];
+    let AdmittedDesign { design, .. } = admitted(lacking, design, &mut logarithms)?;
     Ok(design.strand_bond(x, y))
 }
 
@@ -41,7 +44,8 @@ pub fn bond_with_scaffold(design: &Design, position: usize, strand: u8) -> Resul
     ensures { bond_figures result ≡ scaffold_bond_answer design.now position strand }
 {
     let lacking = design.positions() <= position || design.strands() <= usize::from(strand);
-    admitted(lacking, design)?;
+    let mut logarithms = [0.0; STRANDS];
+    let AdmittedDesign { design, .. } = admitted(lacking, design, &mut logarithms)?;
     Ok(design.scaffold_bond(design.scaffold_glue(position), strand))
 }
 
@@ -51,7 +55,8 @@ pub fn friends_btm(design: &Design, position: usize, entries: &mut [u8]) -> Resu
     ensures entries_after { entries.new ≡ friends_entries design.now position entries.old }
 {
     let unfit = design.positions() <= position || entries.len() != STRANDS;
-    admitted(unfit, design)?;
+    let mut logarithms = [0.0; STRANDS];
+    let AdmittedDesign { design, .. } = admitted(unfit, design, &mut logarithms)?;
     if design.is_blocked(position) {
         return Ok(0);
     }
@@ -68,7 +73,8 @@ pub fn number_of_states(design: &Design) -> Result<u64, Refused>
     let counts = &mut counts[..design.positions()];
     let Counted { states, .. } = count_options(&tabled, &mut rows, counts);
     refused_if(Refusal::TooManyStates, MOST_STATES < states)?;
-    tabled.admitted()?;
+    let mut logarithms = [0.0; STRANDS];
+    tabled.admitted(&mut logarithms)?;
     Ok(states)
 }
 
@@ -84,41 +90,51 @@ pub fn state_at_rank(design: &Design, rank: u64, entries: &mut [u8]) -> Result<(
     let Counted { options, states } = count_options(&tabled, &mut rows, counts);
     refused_if(Refusal::TooManyStates, MOST_STATES < states)?;
     refused_if(Refusal::RankTooHigh, states <= rank)?;
-    tabled.admitted()?;
+    let mut logarithms = [0.0; STRANDS];
+    tabled.admitted(&mut logarithms)?;
     write_state(options.rows, options.counts, states, rank, entries);
     Ok(())
 }
 
-// What is refused of a configuration whose energy is asked for.
-pub fn energy_reply(design: &Design, configuration: &[u8]) -> Result<(), Refused>
-    ensures value { result ≡ first_of (energy_checks design.now configuration.now) }
+// The design as an admitted one, of a configuration that is one of its states; or what is refused of a configuration whose energy is asked for.
+pub fn energy_admitted<'a>(
+    design: &'a Design<'a>,
+    configuration: &[u8],
+    logarithms: &'a mut [f64],
+) -> Result<AdmittedDesign<'a>, Refused>
+    requires { 64 ≤ length logarithms.old }
+    ensures value { reply_of result ≡ first_of (energy_checks design.now configuration.now) }
+    ensures same { IfOk result (λ admitted. admitted ≡ design.now) }
+    ensures state { OnOk result (State (model_of design.now) configuration.now) }
     ensures few { OnOk result (length configuration.now ≤ 128) }
 {
-    tabled(configuration.len() != design.positions(), design)?;
+    let tabled = tabled(configuration.len() != design.positions(), design)?;
     refused_if(Refusal::NotAFriend, has_stranger(design, configuration))?;
-    numbers_reply(design)
+    tabled.admitted(logarithms)
 }
 
 // The state energy of a configuration: one occupant for each position, 0 for an empty place.
 pub fn g_system(design: &Design, attachments: &[u8]) -> Result<KcalPerMol, Refused>
     ensures { energy_figures result ≡ state_energy_answer design.now attachments.now }
 {
-    energy_reply(design, attachments)?;
-    let terms = terms_of(design, attachments);
+    let mut logarithms = [0.0; STRANDS];
+    let admitted = energy_admitted(design, attachments, &mut logarithms)?;
+    let terms = terms_of(&admitted, attachments);
     let places = Places {
         configuration: attachments,
         terms: &terms,
     };
     let sumg = places.state_sum();
-    Ok(sumg * design.rt())
+    Ok(sumg * admitted.design.rt())
 }
 
 // The chain energy of a configuration, as it is and times RT.
 pub fn chain_energy(design: &Design, configuration: &[u8]) -> Result<ChainEnergy, Refused>
     ensures { chain_figures result ≡ chain_energy_answer design.now configuration.now }
 {
-    energy_reply(design, configuration)?;
-    let terms = terms_of(design, configuration);
+    let mut logarithms = [0.0; STRANDS];
+    let admitted = energy_admitted(design, configuration, &mut logarithms)?;
+    let terms = terms_of(&admitted, configuration);
     let places = Places {
         configuration,
         terms: &terms,
@@ -126,6 +142,6 @@ pub fn chain_energy(design: &Design, configuration: &[u8]) -> Result<ChainEnergy
     let sum = places.chain_sum();
     Ok(ChainEnergy {
         bare: sum,
-        times_rt: sum * design.rt(),
+        times_rt: sum * admitted.design.rt(),
     })
 }

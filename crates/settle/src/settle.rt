@@ -4,7 +4,7 @@ use crate::reads::{first, first_mut};
 use crate::rows::{FileRows, at_line, on_line};
 use answers::reasons::{FileFault, Why};
 use answers::{Found, Spot};
-use design::Design;
+use design::{Amounts, Design};
 use mfe::mfe_configuration;
 use reply::limits::{POSITIONS, STRANDS};
 use reply::{Refusal, Refused};
@@ -152,6 +152,7 @@ impl FileRows<'_> {
             &tables.dg,
             &tables.ds,
             first(&potentials, users.saturating_add(3)),
+            Amounts::Potentials,
             ambient,
         );
         let mut configuration = [0u8; POSITIONS];

@@ -24,7 +24,7 @@ use partition_sums::constraint::Constraint;
 use partition_sums::forms::weights_out;
 use partition_sums::lent::{Formed, Lent};
 use partition_sums::weights::Weights;
-use reply::limits::POSITIONS;
+use reply::limits::{POSITIONS, STRANDS};
 use reply::{Refusal, Refused, refused_if};
 use sizes::{wrong_cells, wrong_sizes};
 
@@ -95,14 +95,16 @@ fn formed<'a, 'b>(
     Ok(Formed { lent })
 }
 
-// The sum over all states of a design. Replies 1, 9, 10, 16, 17, 18, 19.
+// The sum over all states of a design. Replies 1, 9, 10, 15, 16, 17, 18, 19.
 pub fn free_sum(design: &Design, weights: &LentWeights<'_>) -> Result<Weight, Refused>
     ensures result_value { sum_figures result ≡ free_answer design.now (weights_lent (strands design.now) weights.now) }
     ensures free_shown { FreeShown design.now (weights_lent (strands design.now) weights.now) (sum_figures result) }
 {
     let positions = design.positions();
     let weights = weights.of_design(design);
-    let admitted = admitted(wrong_cells(positions, &weights), design)?;
+    let own_size = wrong_cells(positions, &weights);
+    let mut logarithms = [0.0; STRANDS];
+    let admitted = admitted(own_size, design, &mut logarithms)?;
     refused_if(Refusal::BareScaffold, positions == 0)?;
     let mut rows = [0u8; OPTIONS];
     let mut counts = [0u8; POSITIONS];
@@ -123,7 +125,9 @@ pub fn constrained_sum(
 {
     let positions = design.positions();
     let weights = weights.of_design(design);
-    let admitted = admitted(wrong_sizes(positions, &weights, lists), design)?;
+    let own_size = wrong_sizes(positions, &weights, lists);
+    let mut logarithms = [0.0; STRANDS];
+    let admitted = admitted(own_size, design, &mut logarithms)?;
     refused_if(Refusal::BareScaffold, positions == 0)?;
     let constraint = Constraint {
         numbers: lists.numbers,

@@ -114,6 +114,7 @@ fn count(positions: usize) -> Row {
         rt: ambient.rt,
         strand_excess: ambient.strand_excess,
         scaffold_excess: ambient.scaffold_excess,
+        ..Lent::default()
     };
     lent.dg[65] = -8.0;
     let both = Rc::new(Both::new(lent));

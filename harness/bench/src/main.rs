@@ -3,6 +3,7 @@
 
 mod both;
 mod builds;
+mod concentrations;
 mod designs;
 mod measure;
 mod rings;
@@ -20,6 +21,7 @@ fn main() {
         designs::rows(),
         searches::rows(),
         tables::rows(),
+        concentrations::rows(),
     ];
     let rows: Vec<Row> = groups.into_iter().flatten().collect();
     let samples = measure::SAMPLES;
@@ -45,6 +47,7 @@ fn main() {
         searches::remarks(),
         rings::remarks(),
         sums::remarks(),
+        concentrations::remarks(),
     ];
     for remark in remarks.into_iter().flatten() {
         println!("{remark}");

@@ -105,6 +105,7 @@ pub fn settling(positions: usize, strands: usize, friends: usize) -> Both {
         rt: at.rt,
         strand_excess: at.strand_excess,
         scaffold_excess: at.scaffold_excess,
+        ..Lent::default()
     };
     for group in 1..=groups {
         lent.dg[65 * group] = random.double(-12.0, -11.0);

@@ -13,14 +13,17 @@ pub struct Design<'a> {
     pub dg: &'a [f64],
     pub ds: &'a [f64],
     /// One for each strand.
-    pub potentials: &'a [f64],
+    pub amounts: &'a [f64],
+    /// How they are given: 0 as potentials, 1 as concentrations.
+    pub given: u32,
     pub rt: f64,
     pub strand_excess: f64,
     pub scaffold_excess: f64,
 }
 
 /// Declares functions that take a design and then what is named, and hands a `Design` over to
-/// each: six pointers with their lengths, and three doubles. Each answers the reply number.
+/// each: six pointers with their lengths, how amounts are given, and three doubles. Each answers the
+/// reply number.
 macro_rules! functions_of_a_design {
     ($($name:ident($($own:ident: $kind:ty),*);)*) => {
         mod c {
@@ -36,8 +39,9 @@ macro_rules! functions_of_a_design {
                     dg_cells: usize,
                     ds: *const f64,
                     ds_cells: usize,
-                    potentials: *const f64,
+                    amounts: *const f64,
                     strands: usize,
+                    given: u32,
                     rt: f64,
                     strand_excess: f64,
                     scaffold_excess: f64
@@ -58,8 +62,9 @@ macro_rules! functions_of_a_design {
                 design.dg.len(),
                 design.ds.as_ptr(),
                 design.ds.len(),
-                design.potentials.as_ptr(),
-                design.potentials.len(),
+                design.amounts.as_ptr(),
+                design.amounts.len(),
+                design.given,
                 design.rt,
                 design.strand_excess,
                 design.scaffold_excess

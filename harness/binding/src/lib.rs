@@ -9,6 +9,7 @@
 
 mod deck;
 mod design;
+mod logarithm;
 mod names;
 mod params;
 mod sequences;
@@ -22,6 +23,7 @@ pub use design::{
     chain_energy, first_state_under, friends, ring_energy, ring_search, scaffold_bond, search,
     state, state_energy, states, strand_bond, Design,
 };
+pub use logarithm::ln;
 pub use names::{name, strand_glues};
 pub use params::{params, Built, Params};
 pub use sequences::{

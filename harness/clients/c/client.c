@@ -161,6 +161,28 @@ static void strengths(void)
     refused_excess(1024.0 + 1024.0 * DBL_EPSILON);
 }
 
+static void a_logarithm(double x, uint32_t number, double expected)
+{
+    double logarithm = unwritten;
+    reply("a logarithm", mj_ln(x, &logarithm), number);
+    count("its figure", number == 0 ? fabs(logarithm - expected) <= 0x1p-40 : logarithm == 0.0);
+}
+
+static void logarithms(void)
+{
+    a_logarithm(1.0, 0, 0.0);
+    a_logarithm(2.0, 0, 0.6931471805599453);
+    a_logarithm(1e-9, 0, -20.72326583694641);
+    a_logarithm(0x1p-60, 0, -41.58883083359672);
+    a_logarithm(0x1p10, 0, 6.931471805599453);
+    a_logarithm(0x0.fffffffffffff8p-60, 15, 0.0);
+    a_logarithm(0x1.0000000000001p10, 15, 0.0);
+    a_logarithm(0.0, 15, 0.0);
+    a_logarithm(-1.0, 15, 0.0);
+    a_logarithm((double)NAN, 15, 0.0);
+    a_logarithm((double)INFINITY, 15, 0.0);
+}
+
 static void an_ambient(double kelvin, uint32_t number, double product, double excess)
 {
     double rt = unwritten, strand_excess = unwritten, scaffold_excess = unwritten;
@@ -268,7 +290,7 @@ static double dg[64][64], ds[64][64];
 static double potentials[3] = {0.0, -1.0, -1.0};
 
 #define DESIGN                                                                                     \
-    scaffold, 2, blocked, 2, glues, 9, dg[0], 4096, ds[0], 4096, potentials, 3, 0.5, 0.0, 0.0
+    scaffold, 2, blocked, 2, glues, 9, dg[0], 4096, ds[0], 4096, potentials, 3, 0, 0.5, 0.0, 0.0
 
 static void bonds_and_friends(void)
 {
@@ -378,7 +400,7 @@ static void an_unfit_ambient(double rt, double strand_excess, double scaffold_ex
     uint64_t place = unread;
     double energy = unwritten;
     reply("an ambient",
-          mj_search(scaffold, 2, blocked, 2, glues, 9, dg[0], 4096, ds[0], 4096, potentials, 3,
+          mj_search(scaffold, 2, blocked, 2, glues, 9, dg[0], 4096, ds[0], 4096, potentials, 3, 0,
                     rt, strand_excess, scaffold_excess, state, 2, &place, &energy),
           16);
     count("its place", place == which);
@@ -465,6 +487,42 @@ static void blocked_positions(void)
     potentials[1] = -1.0;
 }
 
+/* Concentrations of the two strands, and then the same design with their logarithms for potentials. */
+static void concentrations(void)
+{
+    static const uint8_t both[2] = {1, 2}, stranger[2] = {2, 2};
+    double amounts[3] = {NAN, 0x1p-3, 1.0};
+    double logs[3] = {NAN, unwritten, unwritten};
+    uint8_t state[2] = {9, 9}, settled[2] = {9, 9};
+    uint64_t place = unread, n = unread;
+    double energy = unwritten, told = unwritten;
+    reply("a logarithm", mj_ln(amounts[1], &logs[1]), 0);
+    reply("a logarithm", mj_ln(amounts[2], &logs[2]), 0);
+#define GIVEN(of_strands, given)                                                                   \
+    scaffold, 2, blocked, 2, glues, 9, dg[0], 4096, ds[0], 4096, of_strands, 3, given, 0.5, 0.0, 0.0
+    reply("an energy", mj_state_energy(GIVEN(logs, 0), both, 2, &place, &energy), 0);
+    reply("with concentrations", mj_state_energy(GIVEN(amounts, 1), both, 2, &place, &told), 0);
+    figure("as with their logarithms", told, energy);
+    count("near -1.46", fabs(told - (-5.0 + 3.0 * 0.6931471805599453) * 0.5) <= 0x1p-39);
+    reply("a search", mj_search(GIVEN(logs, 0), settled, 2, &place, &energy), 0);
+    reply("with concentrations", mj_search(GIVEN(amounts, 1), state, 2, &place, &told), 0);
+    count("as with their logarithms", memcmp(state, settled, 2) == 0);
+    figure("its energy", told, energy);
+    reply("another kind of amounts", mj_states(GIVEN(amounts, 2), &place, &n), 1);
+    amounts[1] = 0x1p-61;
+    memset(state, 9, sizeof state);
+    reply("a dilute strand", mj_search(GIVEN(amounts, 1), state, 2, &place, &told), 15);
+    count("no place", place == MJ_NOWHERE);
+    figure("no energy", told, 0.0);
+    count("entries kept", state[0] == 9 && state[1] == 9);
+    reply("a stranger before it", mj_state_energy(GIVEN(amounts, 1), stranger, 2, &place, &told), 11);
+    reply("a rank before it", mj_state(GIVEN(amounts, 1), 4, state, 2, &place), 13);
+    blocked[0] = 1;
+    reply("nowhere a friend", mj_search(GIVEN(amounts, 1), state, 2, &place, &told), 0);
+    blocked[0] = 0;
+#undef GIVEN
+}
+
 /* One strand with glues a, b* and c**, at the start of the text; after them two bases. */
 static const char text[] = "ab*c**AC";
 static const size_t strand[] = { 1, 0, 1, 1, 1, 2, 1, 3, 3 };
@@ -525,8 +583,8 @@ static void sums(void)
     reply("a weight out of form", mj_free_sum(DESIGN, WEIGHTS, &place, &digits, &power), 19);
     count("its place", place == MJ_NOWHERE);
     reply("no positions",
-          mj_free_sum(scaffold, 0, blocked, 0, glues, 9, dg[0], 4096, ds[0], 4096, potentials, 3, 0.5,
-                      0.0, 0.0, place_digits, 0, place_powers, 0, pair_digits, 9, pair_powers, 9,
+          mj_free_sum(scaffold, 0, blocked, 0, glues, 9, dg[0], 4096, ds[0], 4096, potentials, 3, 0,
+                      0.5, 0.0, 0.0, place_digits, 0, place_powers, 0, pair_digits, 9, pair_powers, 9,
                       &place, &digits, &power), 18);
 #undef WEIGHTS
 }
@@ -576,7 +634,7 @@ static void a_ring(double potential, const double of_positions[3], double pair,
         energies[i + 1][4] = of_positions[i];
     energies[5][5] = pair;
 #define RING(n) \
-    positions, n, open, n, strands, 6, energies[0], 4096, none[0], 4096, logs, 2, 0.5, 0.0, 0.0
+    positions, n, open, n, strands, 6, energies[0], 4096, none[0], 4096, logs, 2, 0, 0.5, 0.0, 0.0
     reply("a ring", mj_ring_search(RING(3), state, 3, &place, &energy), 0);
     count("its place", place == MJ_NOWHERE);
     count("its configuration", memcmp(state, expected, 3) == 0);
@@ -610,6 +668,7 @@ int main(void)
     two_sequences();
     loops();
     strengths();
+    logarithms();
     ambients();
     short_sequences();
     decks();
@@ -618,6 +677,7 @@ int main(void)
     unfit_ambients();
     bond_tables();
     blocked_positions();
+    concentrations();
     rings();
     sums();
     names();

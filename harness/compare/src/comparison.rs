@@ -39,8 +39,10 @@ impl Comparison {
         if self.lost.is_some() {
             return;
         }
-        let oracle = &mut self.oracle;
-        if let Err(how) = kind.prepare(&mut |lines| oracle.ask(lines)) {
+        let (oracle, port) = (&mut self.oracle, &mut self.port);
+        let prepared = kind.prepare(&mut |lines| oracle.ask(lines));
+        let prepared = prepared.and_then(|()| kind.prepare_by_port(&mut |lines| port.ask(lines)));
+        if let Err(how) = prepared {
             self.tally.complain(&how);
             self.lost = Some(how);
             return;

@@ -1,7 +1,7 @@
 //! Designs for the generators, and the lines that set them.
 
 use crate::doubles::{not_finite, of_any_size};
-use crate::judge::design::{Lent, CELLS};
+use crate::judge::design::{Lent, CELLS, CONCENTRATIONS, POTENTIALS};
 use crate::judge::sequences::STACKS;
 use crate::random::Random;
 use protocol::{bits, joined};
@@ -110,10 +110,10 @@ pub fn marked(
         glues: vec![0; 3],
         dg: vec![0.0; CELLS],
         ds: vec![0.0; CELLS],
-        potentials: vec![],
         rt: ambient.rt,
         strand_excess: ambient.strand_excess,
         scaffold_excess: ambient.scaffold_excess,
+        ..Lent::default()
     };
     for _ in 3..3 * shape.strands {
         lent.glues.push(glue(random, shape));
@@ -236,7 +236,8 @@ fn duplex(random: &mut Random) -> (f64, f64) {
     (dg + 1.96, ds + 0.0057)
 }
 
-/// Lines for oracle and port, without the temperature: cells of +0.0 are left out.
+/// Lines for oracle and port, without the temperature: cells of +0.0 are left out. The amounts are the
+/// potentials.
 pub fn lines_of_both(lent: &Lent, glues: usize) -> String {
     let mut lines = format!("mode id\nd.new {} {glues}\n", lent.strands());
     for (strand, potential) in lent.potentials.iter().enumerate() {
@@ -264,8 +265,27 @@ pub fn lines_of_both(lent: &Lent, glues: usize) -> String {
     lines
 }
 
+/// All lines for the port: the Rust knows no marks and no concentrations, and its ambient is made of a
+/// temperature.
+pub fn lines_of_port(lent: &Lent, glues: usize) -> String {
+    let lines = lines_of_both(lent, glues);
+    let (marks, amounts) = (marks_line(lent), amounts_line(lent));
+    format!("{lines}{marks}{amounts}{}", ambient_line(lent))
+}
+
+/// The port's line for concentrations in place of the potentials.
+fn amounts_line(lent: &Lent) -> String {
+    match lent.given {
+        CONCENTRATIONS => {
+            let concentrations = lent.concentrations.iter().map(|x| bits(*x));
+            format!("d.concentrations {}\n", joined(concentrations, " "))
+        }
+        _ => String::new(),
+    }
+}
+
 /// The port's line for the marks, where not all are 0.
-pub fn marks_line(lent: &Lent) -> String {
+fn marks_line(lent: &Lent) -> String {
     match lent.has_blocked() {
         true => format!("d.marks {}\n", joined(&lent.marks, " ")),
         false => String::new(),
@@ -273,7 +293,7 @@ pub fn marks_line(lent: &Lent) -> String {
 }
 
 /// The port's line for the ambient.
-pub fn ambient_line(lent: &Lent) -> String {
+fn ambient_line(lent: &Lent) -> String {
     let ambient = [lent.rt, lent.strand_excess, lent.scaffold_excess];
     format!("d.ambient {}\n", joined(ambient.map(bits), " "))
 }
@@ -282,6 +302,9 @@ pub fn ambient_line(lent: &Lent) -> String {
 pub fn raw_lines(lent: &Lent) -> String {
     let strands = lent.strands();
     let mut lines = format!("d.new {strands} 64\n{}", ambient_line(lent));
+    if lent.given != POTENTIALS {
+        line(&mut lines, format_args!("d.given {}", lent.given));
+    }
     if !lent.scaffold.is_empty() {
         line(
             &mut lines,
@@ -304,9 +327,9 @@ pub fn raw_lines(lent: &Lent) -> String {
         }
     }
     for (name, doubles) in [
-        ("dg", &lent.dg),
+        ("dg", &lent.dg[..]),
         ("ds", &lent.ds),
-        ("potentials", &lent.potentials),
+        ("amounts", lent.amounts()),
     ] {
         for (index, x) in set(doubles) {
             line(

@@ -4,8 +4,8 @@
 //!   is compared.
 //! * `judge`: document 01's refusals, and answers that the Rust lacks, from the document alone.
 //! * `question`: what is asked and expected, and when an answer differs.
-//! * `comparison`, `program`, `tally`: the run; `parting`: how far two energies part in it; `sums`: how far sums
-//!   over states part from the exact ones.
+//! * `comparison`, `program`, `tally`: the run; `parting`: how far two energies part in it; `sums`,
+//!   `logarithms`: how far sums over states and logarithms part from the exact ones.
 //! * `random`, `bases`, `doubles`, `decks`, `designs`, `ambients`, `parameters`: what the
 //!   generators draw from.
 //! * `replay`: the fixed list of answers for the Rattle program of that name.
@@ -18,6 +18,7 @@ pub mod designs;
 pub mod doubles;
 pub mod judge;
 pub mod kinds;
+pub mod logarithms;
 pub mod parameters;
 pub mod parting;
 pub mod program;

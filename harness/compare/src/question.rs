@@ -2,6 +2,7 @@
 
 use crate::judge::Verdict;
 use crate::kinds::Kind;
+use crate::logarithms;
 use crate::sums::Asked;
 use protocol::Reply;
 use std::rc::Rc;
@@ -28,6 +29,8 @@ pub enum Expected {
     Near { exact: Option<f64>, slack: f64 },
     /// A sum over states, within one part in 2^15 of the exact one.
     Sum(Rc<Asked>),
+    /// A logarithm, within 2^-40 of the exact one.
+    Logarithm(Rc<logarithms::Asked>),
 }
 
 impl Question {
@@ -81,7 +84,8 @@ impl Question {
     pub fn expected_number(&self) -> u32 {
         match &self.expected {
             Expected::Judged(verdict) => verdict.number(),
-            Expected::Figures(_) | Expected::Near { .. } | Expected::Sum(_) => 0,
+            Expected::Figures(_) | Expected::Near { .. } => 0,
+            Expected::Sum(_) | Expected::Logarithm(_) => 0,
         }
     }
 
@@ -92,6 +96,7 @@ impl Question {
             Expected::Figures(figures) => format!("ok {figures}"),
             Expected::Near { exact, slack } => format!("ok, near {exact:?}, by {slack:e}"),
             Expected::Sum(asked) => format!("ok, within one part in 2^15 of {:?}", asked.exact),
+            Expected::Logarithm(asked) => format!("ok, within 2^-40 of {:?}", asked.exact),
         }
     }
 
@@ -115,6 +120,10 @@ impl Question {
                 _ => Some("one does not answer"),
             },
             Expected::Sum(asked) => match port {
+                Reply::Ok(figures) => asked.difference(figures),
+                _ => Some("the port does not answer"),
+            },
+            Expected::Logarithm(asked) => match port {
                 Reply::Ok(figures) => asked.difference(figures),
                 _ => Some("the port does not answer"),
             },

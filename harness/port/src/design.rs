@@ -1,8 +1,9 @@
 //! The lines `d.*`, questions about the design that they set, and the lines `raw.*`, which lend
 //! slices of any length and content.
 //!
-//! A concentration is the potential itself, as in the oracle's mode `id`. The setters make the
-//! design; `d.build` checks nothing, so that every question meets what was set.
+//! The concentration of `d.strand` is the potential itself, as in the oracle's mode `id`;
+//! `d.concentrations` lends others in place of all of them. The setters make the design; `d.build` checks
+//! nothing, so that every question meets what was set.
 
 use crate::slices::{list, Filled};
 use crate::sums::Weights;
@@ -16,6 +17,9 @@ const FRIENDS: usize = 64;
 /// A table is this many rows of this many cells.
 const GLUES: usize = 64;
 
+/// How amounts are given that are concentrations; potentials are 0.
+const CONCENTRATIONS: u32 = 1;
+
 /// The search, or that for rings.
 type Search = fn(mj::Design, &mut [u8], &mut u64, &mut f64) -> u32;
 
@@ -27,7 +31,8 @@ pub struct Lent {
     glues: Vec<u8>,
     dg: Vec<f64>,
     ds: Vec<f64>,
-    potentials: Vec<f64>,
+    amounts: Vec<f64>,
+    given: u32,
     rt: f64,
     strand_excess: f64,
     scaffold_excess: f64,
@@ -40,7 +45,7 @@ impl Lent {
     pub fn answer(&mut self, words: Words) -> Result<Option<Reply>, Complaint> {
         match words[0] {
             "mode" if words[1..] == ["id"] => Ok(None),
-            "mode" => Err("the port's concentrations are potentials".to_string()),
+            "mode" => Err("the port takes the mode id alone".to_string()),
             "d.build" => Ok(Some(Reply::Ok("built".to_string()))),
             "raw.len" | "raw.set" => self.set_raw(words).map(|()| None),
             "w.place" | "w.pair" => self.weights.set(words).map(|()| None),
@@ -59,7 +64,7 @@ impl Lent {
                     glues: vec![0; 3 * strands],
                     dg: vec![0.0; GLUES * GLUES],
                     ds: vec![0.0; GLUES * GLUES],
-                    potentials: vec![0.0; strands],
+                    amounts: vec![0.0; strands],
                     ..Lent::default()
                 };
             }
@@ -75,6 +80,17 @@ impl Lent {
                     .iter()
                     .map(|word| whole(word))
                     .collect::<Result<_, _>>()?
+            }
+            "d.concentrations" => {
+                self.amounts = words[1..]
+                    .iter()
+                    .map(|word| double(word))
+                    .collect::<Result<_, _>>()?;
+                self.given = CONCENTRATIONS;
+            }
+            "d.given" => {
+                expect_words(words, &[1])?;
+                self.given = whole(words[1])?;
             }
             "d.dg" | "d.ds" => {
                 expect_words(words, &[3])?;
@@ -104,7 +120,7 @@ impl Lent {
         for side in 0..3 {
             put(&mut self.glues, 3 * strand + side, whole(words[2 + side])?)?;
         }
-        put(&mut self.potentials, strand, double(words[5])?)
+        put(&mut self.amounts, strand, double(words[5])?)
     }
 
     /// `raw.len SLICE LENGTH` cuts a slice or fills it up with zeros; `raw.set SLICE INDEX VALUE`
@@ -129,7 +145,7 @@ impl Lent {
         let doubles = match words[1] {
             "dg" => &mut self.dg,
             "ds" => &mut self.ds,
-            "potentials" => &mut self.potentials,
+            "amounts" => &mut self.amounts,
             other => return Err(format!("no such slice {other}")),
         };
         if set {
@@ -146,7 +162,8 @@ impl Lent {
             glues: &self.glues,
             dg: &self.dg,
             ds: &self.ds,
-            potentials: &self.potentials,
+            amounts: &self.amounts,
+            given: self.given,
             rt: self.rt,
             strand_excess: self.strand_excess,
             scaffold_excess: self.scaffold_excess,
@@ -160,7 +177,7 @@ impl Lent {
             _ => &[0],
         };
         expect_words(words, counts)?;
-        let (positions, strands) = (self.scaffold.len(), self.potentials.len());
+        let (positions, strands) = (self.scaffold.len(), self.amounts.len());
         match words[0] {
             "sbond" => Ok(self.strand_bond(whole(words[1])?, whole(words[2])?)),
             "cbond" => Ok(self.scaffold_bond(whole(words[1])?, whole(words[2])?)),
@@ -182,7 +199,6 @@ impl Lent {
             "ring" => Ok(self.ring_energy(&configuration(words[1])?)),
             "ring.mfe" => Ok(self.ring_searched(whole(words[1])?).0),
             "ring.level" => Ok(level(self.ring_searched(positions))),
-            "mfe.level" => Ok(self.level()),
             "under" => Ok(self.under(whole(words[1])?, double(words[2])?)),
             other => Err(format!("no such line {other}")),
         }
@@ -285,14 +301,6 @@ impl Lent {
         let bits = energy.to_bits();
         let told = format!("{bits:016x} {}", joined(&*slice, ","));
         counted(number, place, told, bits == 0 && entries.is_kept())
-    }
-
-    /// The search's energy with 0.0 for either zero, since the walk's is compared as a double.
-    fn level(&self) -> Reply {
-        match self.searched(self.scaffold.len()) {
-            (Reply::Ok(_), energy) => reply(0, &[energy + 0.0]),
-            (other, _) => other,
-        }
     }
 
     /// One figure of every state, in the order of ranks.

@@ -3,6 +3,7 @@
 
 mod deck;
 mod design;
+mod logarithm;
 mod names;
 mod params;
 mod sequences;
@@ -25,13 +26,14 @@ fn main() -> std::io::Result<()> {
     })
 }
 
-/// `None` after a setter. What is neither about sequences, temperatures, decks, names nor parameters
-/// is about the design that lines have set so far, and the tables beside it.
+/// `None` after a setter. What is neither about sequences, logarithms, temperatures, decks, names nor
+/// parameters is about the design that lines have set so far, and the tables beside it.
 fn answer(lent: &mut Lent, tables: &mut Tables, words: Words) -> Result<Option<Reply>, Complaint> {
     match words[0] {
         word if word.starts_with("t.") => tables.answer(lent, words),
         "seq" | "published" | "pair" | "loop" | "strengthx" => sequences::answer(words).map(Some),
         "short" => short::answer(words).map(Some),
+        "ln" => logarithm::answer(words).map(Some),
         "ambient" => temperature::answer(words).map(Some),
         "deck.read" | "deck.write" | "deck.move" => deck::answer(words).map(Some),
         "params" => params::answer(words).map(Some),

@@ -56,7 +56,7 @@ impl Tables {
 
     /// Fills both, and tells one as the oracle tells all bonds of that sort: rows of cells.
     fn fill(&mut self, design: mj::Design, which: &str) -> Result<Reply, Complaint> {
-        let strands = design.potentials.len();
+        let strands = design.amounts.len();
         let mut pairs = Filled::doubles(strands * strands);
         let mut sites = Filled::doubles(design.scaffold.len() * strands);
         let mut place = WHOLE;

@@ -4,7 +4,9 @@ use crate::guarded::{Figure, Guarded};
 use crate::{near, sums, Tally};
 use compare::designs::{blocks, marked, Ambient, Shape, SORTS};
 use compare::doubles::not_finite;
-use compare::judge::design::Lent;
+use compare::judge::design::{Lent, CONCENTRATIONS, POTENTIALS};
+use compare::judge::logarithm::is_dilute;
+use compare::logarithms::{in_range, out_of_range};
 use compare::random::Random;
 use mujplesten as mj;
 
@@ -16,17 +18,18 @@ const LONG: usize = 24;
 
 pub struct Designs(Vec<Lent>);
 
-/// The lengths of scaffold, glues, both tables, potentials and marks.
+/// The lengths of scaffold, glues, both tables, amounts and marks.
 type Lengths = [usize; 6];
 
-fn lent(lent: &Lent, lengths: Lengths) -> mj::Design<'_> {
+fn lent(lent: &Lent, lengths: Lengths, given: u32) -> mj::Design<'_> {
     mj::Design {
         scaffold: &lent.scaffold[..lengths[0]],
         marks: &lent.marks[..lengths[5]],
         glues: &lent.glues[..lengths[1]],
         dg: &lent.dg[..lengths[2]],
         ds: &lent.ds[..lengths[3]],
-        potentials: &lent.potentials[..lengths[4]],
+        amounts: &lent.amounts()[..lengths[4]],
+        given,
         rt: lent.rt,
         strand_excess: lent.strand_excess,
         scaffold_excess: lent.scaffold_excess,
@@ -50,12 +53,16 @@ impl Designs {
             };
             let mut one = marked(random, sort, &shape, ambient, marks);
             spoil(random, &mut one);
+            if random.once_in(3) {
+                give_concentrations(random, &mut one);
+            }
             one.scaffold.push(0);
             one.marks.push(0);
             one.glues.push(0);
             one.dg.push(0.0);
             one.ds.push(0.0);
             one.potentials.push(0.0);
+            one.concentrations.push(1.0);
             designs.push(one);
         }
         Designs(designs)
@@ -68,7 +75,7 @@ impl Designs {
             whole.glues.len() - 1,
             whole.dg.len() - 1,
             whole.ds.len() - 1,
-            whole.potentials.len() - 1,
+            whole.amounts().len() - 1,
             whole.marks.len() - 1,
         ];
         let mut lengths = wanted;
@@ -76,8 +83,12 @@ impl Designs {
             let which = random.below(6);
             lengths[which] = near(random, wanted[which]);
         }
+        let given = match random.once_in(20) {
+            true => random.pick(&[0, 1, 2, 257, u32::MAX]),
+            false => whole.given,
+        };
         let asked = Asked {
-            design: lent(whole, lengths),
+            design: lent(whole, lengths, given),
             positions: wanted[0],
             strands: wanted[4],
         };
@@ -104,6 +115,17 @@ fn spoil(random: &mut Random, one: &mut Lent) {
     }
 }
 
+/// In one of eight some are out of range.
+fn give_concentrations(random: &mut Random, one: &mut Lent) {
+    let some_out = random.once_in(8);
+    let concentration = |_| match some_out && random.once_in(4) {
+        true => random.pick(&out_of_range()),
+        false => in_range(random),
+    };
+    one.concentrations = (0..one.potentials.len()).map(concentration).collect();
+    one.given = CONCENTRATIONS;
+}
+
 fn out(x: f64, low: f64, high: f64) -> bool {
     !(low..=high).contains(&x)
 }
@@ -121,7 +143,7 @@ pub struct Asked<'a> {
 
 impl Asked<'_> {
     /// The place of a number that has one is the first that is out: a cell, a number of the ambient.
-    /// Of the potentials it is one that is out, and not strand 0's.
+    /// Of the potentials it is one that is out, and not strand 0's; of concentrations there is none.
     pub fn is_placed(&self, place: &Figure<u64>, number: u32) -> bool {
         let (design, told) = (self.design, place.told());
         let fits = match number {
@@ -131,9 +153,14 @@ impl Asked<'_> {
                 let excesses = excesses.map(|x| out(x, -1024.0, 1024.0));
                 first([out(design.rt, 0.125, 8.0)].into_iter().chain(excesses)) == Some(told)
             }
+            15 => {
+                let dilute = design.amounts.iter().any(|x| is_dilute(*x));
+                told == mj::NOWHERE && design.given == CONCENTRATIONS && dilute
+            }
             17 => {
-                let potential = design.potentials.get(told as usize);
-                told > 0 && potential.is_some_and(|x| out(*x, -1024.0, 1024.0))
+                let potential = design.amounts.get(told as usize);
+                let is_out = potential.is_some_and(|x| out(*x, -1024.0, 1024.0));
+                told > 0 && design.given == POTENTIALS && is_out
             }
             _ => told == mj::NOWHERE,
         };

@@ -1,10 +1,12 @@
-//! Sequences, those by rank, loops, strengths, temperatures and decks.
+//! Sequences, those by rank, loops, strengths, logarithms, temperatures and decks.
 
 use crate::guarded::{Figure, Guarded};
 use crate::{near, Tally};
 use compare::bases::{spoil, strand};
 use compare::decks::{self, any_configuration};
 use compare::doubles::{not_finite, of_any_size};
+use compare::judge::logarithm::is_dilute;
+use compare::logarithms::{in_range, out_of_range};
 use compare::random::Random;
 use mujplesten as mj;
 
@@ -33,7 +35,7 @@ pub fn call(random: &mut Random, tally: &mut Tally) {
     let (a, b) = (any_sequence(random), any_sequence(random));
     let excess = any_double(random);
     let [mut x, mut y, mut z] = [Figure::double(), Figure::double(), Figure::double()];
-    match random.below(9) {
+    match random.below(10) {
         0 => {
             let number = mj::sequence(&a, x.lent(), y.lent());
             let one_by_one = (
@@ -90,6 +92,13 @@ pub fn call(random: &mut Random, tally: &mut Tally) {
             tally.call("published", number, number == 0 || none);
         }
         7 => short(random, tally),
+        8 => {
+            let (inside, outside) = (in_range(random), random.pick(&out_of_range()));
+            let argument = random.pick(&[inside, excess, outside]);
+            let number = mj::ln(argument, x.lent());
+            let fit = x.is_fit(number) && (number == 15) == is_dilute(argument);
+            tally.call("ln", number, fit);
+        }
         _ => deck(random, tally),
     }
 }

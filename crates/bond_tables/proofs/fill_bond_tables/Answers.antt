@@ -35,7 +35,8 @@ returns-clause-strand_bonds_after c =
     let u = a.scaffold_bonds.now in
     let reply = fill-told d t u c.wrong_tables-own_size.ensures c.in_ok-admitted.ensures.value in
     let sizes = table-sizes d t u (passed (wrong_tables d t u) d [] [] reply).size in
-    let pairs = c.fill_strand_bonds.ensures in
+    let is = c.admitted-2.view_is ∙ c.in_ok-admitted.ensures.same in
+    let pairs = rw is at c.fill_strand_bonds.ensures in
     table_is (strands d) (strands d) (strand_bond_in d) _ (pairs.sized ∙ sizes.0) (λ x y h k. pairs.above x y h k) ∙ written-by t (strand_table d) reply
 
 pub returns-clause-scaffold_bonds_after : goal.returns-clause-scaffold_bonds_after
@@ -46,5 +47,6 @@ returns-clause-scaffold_bonds_after c =
     let u = a.scaffold_bonds.now in
     let reply = fill-told d t u c.wrong_tables-own_size.ensures c.in_ok-admitted.ensures.value in
     let sizes = table-sizes d t u (passed (wrong_tables d t u) d [] [] reply).size in
-    let sites = c.fill_scaffold_bonds.ensures in
+    let is = c.admitted-2.view_is ∙ c.in_ok-admitted.ensures.same in
+    let sites = rw is at c.fill_scaffold_bonds.ensures in
     table_is (positions d) (strands d) (scaffold_bond_in d) _ (sites.sized ∙ sizes.1) (λ i x h k. sites.above i x h k) ∙ written-by u (scaffold_table d) reply

@@ -13,8 +13,9 @@ returns c =
     let u = c.args.tables.now.scaffold_bonds.now in
     let fit = tables-fit d t u (rw c.admitted.view_is c.requires.strand_bonds_len) (rw c.admitted.view_is c.requires.scaffold_bonds_len) in
     let bonds = c.new-bonds.ensures in
+    let own = rw (sym c.admitted.view_is) at c.potentials.ensures in
     let given = rw (c.tabled.ensures ∙ sym c.admitted.view_is) at c.options_of-options.ensures in
     rw (sym c.admitted.view_is) (c.lowest.ensures (model_over d t u) (record {
       options = given.option_rows _ refl;
-      bonds = rw (bonds.strand_bonds, bonds.scaffold_bonds, bonds.potentials, c.potentials.ensures, given.same_strands) (cells-lent d t u fit c.admitted.invariant.admitted);
+      bonds = rw (bonds.strand_bonds, bonds.scaffold_bonds, bonds.potentials, given.same_strands) (cells-lent d t u fit c.admitted.invariant.0.admitted c.potentials.result.now own);
     }) (rw c.rt.ensures refl))

@@ -33,6 +33,9 @@ returns c =
     let s = c.args.configuration.now in
     let own = rw c.positions.ensures at (c.bonds_reply.ensures.value (own_energy_checks d s)) in
     let reply = told-by c.bonds_reply.result (Ok tt) (first_of (energy_checks d s)) (first_of (energy_over_checks d t u s)) own c.in_ok-bonds_reply.was in
-    let sum = c.state_sum-sumg.ensures (model_over d t u) c.terms_over-terms.ensures in
-    let energy : c.mul.result.0 ≡ state_energy (model_over d t u) s = rw (c.mul.ensures, c.rt.ensures, sum) refl in
-    ap given energy ∙ answered-by zero (state_energy (model_over d t u) s) (reply ∙ sym c.energy_reply.ensures.value ∙ c.in_ok-energy_reply.was)
+    let told = c.in_ok-admitted.ensures in
+    let terms = rw told.same at (c.terms_over-terms.ensures) told.state in
+    let sum = c.state_sum-sumg.ensures (model_over d t u) terms in
+    let is : c.admitted.inside.design.now ≡ d = c.admitted.view_is ∙ told.same in
+    let energy : c.mul.result.0 ≡ state_energy (model_over d t u) s = rw (c.mul.ensures, c.rt.ensures, is, sum) refl in
+    ap given energy ∙ answered-by zero (state_energy (model_over d t u) s) (reply ∙ sym told.value)

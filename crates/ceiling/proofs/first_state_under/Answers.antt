@@ -22,7 +22,7 @@ returns-in_err-tabled c =
     let d = a.design.now in
     let e = a.entries.now in
     let told : c.is_finite.result ≡ finite a.ceiling.0 = c.is_finite.ensures.value ∙ same a.ceiling.0 in
-    let reply : first_of (ranged_checks (own_size d a.ceiling.0 e) (not (finite a.ceiling.0)) d.scaffold d.marks d.glues d.dg d.ds d.potentials) ≡ Err _ =
+    let reply : first_of (ranged_checks (own_size d a.ceiling.0 e) (not (finite a.ceiling.0)) d.scaffold d.marks d.glues d.dg d.ds d.amounts) ≡ Err _ =
     rw (c.positions.ensures, told) at (sym c.in_err-tabled.ensures.value) in record {
       result_value = ceiling-refused d a.ceiling.0 e c.from_residual.result c.from_residual.ensures.1 reply;
       entries_after = ceiling-kept d a.ceiling.0 e reply;
@@ -34,7 +34,7 @@ returns c =
     let d = a.design.now in
     let e = a.entries.now in
     let told : c.is_finite.result ≡ finite a.ceiling.0 = c.is_finite.ensures.value ∙ same a.ceiling.0 in
-    let reply : first_of (ranged_checks (own_size d a.ceiling.0 e) (not (finite a.ceiling.0)) d.scaffold d.marks d.glues d.dg d.ds d.potentials) ≡ Ok tt =
+    let reply : first_of (ranged_checks (own_size d a.ceiling.0 e) (not (finite a.ceiling.0)) d.scaffold d.marks d.glues d.dg d.ds d.amounts) ≡ Ok tt =
     rw (c.positions.ensures, told) at (sym c.in_ok-tabled.ensures.value) in
     let r = rw c.in_ok-tabled.ensures.same at c.counted.ensures in
     let all = ceiling-counted d a.ceiling.0 e reply r.result_value r.entries_after in record {

@@ -1,7 +1,7 @@
 use Rattle.jobs.proofs.Stretches.{stretches-same}
 use Rattle.jobs.proofs.Figures.{energies-admitted, counts-admitted, stretch-admitted}
 use Rattle.jobs.specs.inner.Settled.{energy_of_word, stretches_in}
-use Rattle.design.specs.Design.{Design, positions, strands, model_of}
+use Rattle.design.specs.Design.{Design, positions, model_of}
 use Rattle.design.specs.Checks.{Admitted}
 use Rattle.ensemble.proofs.OptionRows.{product_is}
 use Rattle.mfe.proofs.Shown.{placed}
@@ -19,11 +19,11 @@ pub invariant_of-settled : goal.invariant_of-settled
 invariant_of-settled c =
     let bonds = c.new-bonds.ensures in
     let p = c.requires in
-    let d = c.admitted.inside.design.now in
+    let own = rw (sym c.admitted.view_is) at c.potentials.ensures in
     record {
       same_strands = p.same_strands;
       option_rows = p.option_rows;
-      state_cells = rw (bonds.strand_bonds, bonds.scaffold_bonds, bonds.potentials, bonds.strands, c.potentials.ensures, sym c.admitted.view_is) (c.fill_bonds.ensures d.marks c.admitted.invariant.admitted (rw c.admitted.view_is p.option_rows));
+      state_cells = rw (bonds.strand_bonds, bonds.scaffold_bonds, bonds.potentials, bonds.strands, c.potentials.ensures.many, sym c.admitted.view_is) (c.fill_bonds.ensures c.potentials.result.now own c.admitted.invariant.0.admitted (rw c.admitted.view_is p.option_rows));
       counted = c.args.counted.now.counted;
     }
 
@@ -42,15 +42,15 @@ returns c =
     let a = c.args in
     let p = c.requires in
     let d : Design = a.admitted.now in
-    let admitted : Admitted d = rw (sym c.admitted.view_is) c.admitted.invariant.admitted in
+    let admitted : Admitted d = rw (sym c.admitted.view_is) c.admitted.invariant.0.admitted in
     let short = a.counted.now.options.searchable.short in
     let n = length a.counted.now.options.counts.now in
     let shown = c.lowest-least.new.configuration in
     let number : length shown ≡ n = c.lowest-least.auto.configuration ∙ (omega (arith, length-take n (replicate {A = ℕ} 128 0))) in
     let bonds = c.new-bonds.ensures in
-    let inside = c.admitted.inside.design.now in
-    let cells : StateBonds (model_of d) c.new-bonds.result = rw (bonds.strand_bonds, bonds.scaffold_bonds, bonds.potentials, bonds.strands, c.potentials.ensures, sym c.admitted.view_is) (c.fill_bonds.ensures inside.marks c.admitted.invariant.admitted (rw c.admitted.view_is p.option_rows)) in
-    let same : c.new-bonds.result.strand_bonds.strands ≡ a.counted.now.options.strands = bonds.strands ∙ ap length c.potentials.ensures ∙ ap strands c.admitted.view_is ∙ sym p.same_strands in
+    let own = rw (sym c.admitted.view_is) at c.potentials.ensures in
+    let cells : StateBonds (model_of d) c.new-bonds.result = rw (bonds.strand_bonds, bonds.scaffold_bonds, bonds.potentials, bonds.strands, c.potentials.ensures.many, sym c.admitted.view_is) (c.fill_bonds.ensures c.potentials.result.now own c.admitted.invariant.0.admitted (rw c.admitted.view_is p.option_rows)) in
+    let same : c.new-bonds.result.strand_bonds.strands ≡ a.counted.now.options.strands = bonds.strands ∙ c.potentials.ensures.many ∙ sym p.same_strands in
     let found = c.lowest-least.ensures (model_of d) (record { options = p.option_rows; bonds = rw (sym same) cells.searched }) (rw (sym c.admitted.view_is, c.rt.ensures) refl) in
     let held = a.counted.now.counted ∙ ap (λ (n : ℕ). min n 1048577) (product_is p.option_rows) in
     let size : length (Search.search (model_of d)).configuration ≡ positions d = ap length (sym found.shown) ∙ number ∙ placed d p.option_rows in

@@ -46,6 +46,6 @@ judged_reply j None = Err NotAJob
 
 -- what is judged is the design's: its tables, and where they pass its number of states and its numbers
 pub record JudgedRight (d : Design) (j : Result Judged Refusal) : Type 0 where
-  pub tables : tables_of j ≡ bare (first_of (table_checks false d.scaffold d.marks d.glues d.dg d.ds d.potentials))
+  pub tables : tables_of j ≡ bare (first_of (table_checks false d.scaffold d.marks d.glues d.dg d.ds d.amounts))
   pub states : tables_of j ≡ Ok tt → states_of j ≡ min (count (model_of d)) 1048577
   pub numbers : tables_of j ≡ Ok tt → numbers_of j ≡ bare (first_of (number_checks d))

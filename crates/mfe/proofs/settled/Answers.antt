@@ -13,6 +13,7 @@ returns-then-this-ne0-2-clause-ring g c = λ closed.
     let given = rw (c.tabled.ensures ∙ sym c.admitted.view_is) at c.options_of-options.ensures in
     let options = given.option_rows (model_of d) refl in
     let bonds = c.new-bonds.ensures in
+    let own = rw (sym c.admitted.view_is) at c.potentials.ensures in
     let filled = c.fill_read_strand_bonds in
     let sites = c.fill_needed_scaffold_bonds.ensures in
     rw (sym c.admitted.view_is) (elim c.if-this-ne0.branch [
@@ -21,7 +22,7 @@ returns-then-this-ne0-2-clause-ring g c = λ closed.
           let pairs = pairs-kept (strand_bond_in d) (rw given.same_strands at c.options_of-options.result.searchable) filled.new.cells closing.new.cells closing.ensures.kept filled.ensures in
           c.lowest_ring.ensures (model_of d) (record {
             options = options;
-            bonds = rw (bonds.strand_bonds, bonds.scaffold_bonds, bonds.potentials, c.potentials.ensures, given.same_strands, w.strand_bonds-is) (bond-cells d c.admitted.invariant.admitted options pairs sites);
+            bonds = rw (bonds.strand_bonds, bonds.scaffold_bonds, bonds.potentials, given.same_strands, w.strand_bonds-is) (bond-cells d c.admitted.invariant.0.admitted options pairs sites c.potentials.result.now own);
           })
           (rw (bonds.strand_bonds, given.same_strands, w.strand_bonds-is) (closing-cells d closing.new.cells options closing.ensures.closing_held))
           (rw c.rt.ensures refl)
@@ -35,6 +36,7 @@ returns-else-this-ne0-2-clause-chain g c = λ chain.
     let given = rw (c.tabled.ensures ∙ sym c.admitted.view_is) at c.options_of-options.ensures in
     let options = given.option_rows (model_of d) refl in
     let bonds = c.new-bonds.ensures in
+    let own = rw (sym c.admitted.view_is) at c.potentials.ensures in
     let pairs = c.fill_read_strand_bonds.ensures in
     let sites = c.fill_needed_scaffold_bonds.ensures in
     rw (sym c.admitted.view_is) (elim c.if-this-ne0.branch [
@@ -42,7 +44,7 @@ returns-else-this-ne0-2-clause-chain g c = λ chain.
       | else-this-ne0 w ↦
           c.lowest.ensures (model_of d) (record {
             options = options;
-            bonds = rw (bonds.strand_bonds, bonds.scaffold_bonds, bonds.potentials, c.potentials.ensures, given.same_strands, w.strand_bonds-is) (bond-cells d c.admitted.invariant.admitted options pairs sites);
+            bonds = rw (bonds.strand_bonds, bonds.scaffold_bonds, bonds.potentials, given.same_strands, w.strand_bonds-is) (bond-cells d c.admitted.invariant.0.admitted options pairs sites c.potentials.result.now own);
           })
           (rw c.rt-else-this-ne0-2.ensures refl)
     ])

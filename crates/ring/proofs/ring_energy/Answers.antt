@@ -21,9 +21,12 @@ unfolding ring_energy model_of
 returns c =
     let d = c.args.design.now in
     let s = c.args.configuration.now in
-    let chain = sym c.energy_reply.ensures.value ∙ c.in_ok-energy_reply.was in
-    let ring : 3 ≤ positions d = ltb-false (positions d) 3 (bare-false (ltb (positions d) 3) NotARing (rw c.positions.ensures at c.in_ok-refused_if.ensures)) in
+    let told = c.in_ok-admitted.ensures in
+    let chain = sym told.value in
+    let is : c.admitted.inside.design.now ≡ d = c.admitted.view_is ∙ told.same in
+    let terms = rw told.same at (c.terms_of-terms.ensures) told.state in
+    let ring : 3 ≤ positions d = ltb-false (positions d) 3 (bare-false (ltb (positions d) 3) NotARing (rw (c.positions.ensures, is) at c.in_ok-refused_if.ensures)) in
     let admitted = reply-append (energy_checks d s) (own_ring_checks d) chain ∙ ring-passes d ring in
-    let sum = c.ring_sum-sum.ensures (model_of d) (c.terms_of-terms.ensures d.marks) (λ _ _. c.strand_bond-closing.ensures) in
-    let energy : c.mul.result.0 ≡ ring_energy (model_of d) s = rw (c.mul.ensures, c.rt.ensures, sum) refl in
+    let sum = c.ring_sum-sum.ensures (model_of d) terms (λ _ _. rw is at c.strand_bond-closing.ensures) in
+    let energy : c.mul.result.0 ≡ ring_energy (model_of d) s = rw (c.mul.ensures, c.rt.ensures, is, sum) refl in
     ap given energy ∙ answered-by zero (ring_energy (model_of d) s) admitted

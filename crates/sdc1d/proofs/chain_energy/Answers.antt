@@ -13,6 +13,9 @@ unfolding chain_product model_of
 returns c =
     let m = model_of c.args.design.now in
     let s = c.args.configuration.now in
-    let sum = c.chain_sum-sum.ensures m (c.terms_of-terms.ensures c.args.design.now.marks) in
-    let energy : c.mul.result.0 ≡ chain_product m s = rw (c.mul.ensures, c.rt.ensures, sum) refl in
-    ap₂ (λ (bare product : Float). given (record { bare = bare; times_rt = product })) sum energy ∙ answered-by no_chain ((record { bare = chain_energy m s; times_rt = chain_product m s })) (sym c.energy_reply.ensures.value ∙ c.in_ok-energy_reply.was)
+    let told = c.in_ok-admitted.ensures in
+    let terms = rw told.same at (c.terms_of-terms.ensures) told.state in
+    let sum = c.chain_sum-sum.ensures m terms in
+    let is : c.admitted.inside.design.now ≡ c.args.design.now = c.admitted.view_is ∙ told.same in
+    let energy : c.mul.result.0 ≡ chain_product m s = rw (c.mul.ensures, c.rt.ensures, is, sum) refl in
+    ap₂ (λ (bare product : Float). given (record { bare = bare; times_rt = product })) sum energy ∙ answered-by no_chain ((record { bare = chain_energy m s; times_rt = chain_product m s })) (sym told.value)

@@ -11,6 +11,9 @@ pub returns : goal.returns
 unfolding state_energy model_of
 returns c =
     let d = c.args.design.now in
-    let sum = c.state_sum-sumg.ensures (model_of d) (c.terms_of-terms.ensures d.marks) in
-    let energy : c.mul.result.0 ≡ state_energy (model_of d) c.args.attachments.now = rw (c.mul.ensures, c.rt.ensures, sum) refl in
-    ap given energy ∙ answered-by zero (state_energy (model_of d) c.args.attachments.now) (sym c.energy_reply.ensures.value ∙ c.in_ok-energy_reply.was)
+    let told = c.in_ok-admitted.ensures in
+    let terms = rw told.same at (c.terms_of-terms.ensures) told.state in
+    let sum = c.state_sum-sumg.ensures (model_of d) terms in
+    let is : c.admitted.inside.design.now ≡ d = c.admitted.view_is ∙ told.same in
+    let energy : c.mul.result.0 ≡ state_energy (model_of d) c.args.attachments.now = rw (c.mul.ensures, c.rt.ensures, is, sum) refl in
+    ap given energy ∙ answered-by zero (state_energy (model_of d) c.args.attachments.now) (sym told.value)

@@ -19,7 +19,7 @@ returns-in_err-admitted-clause-result_value c =
     let a = c.args in
     let d = a.design.now in
     let w = weights_lent (strands d) a.weights.now in
-    let same : sizes_out d ≡ false → c.wrong_cells.result ≡ wrong_cells (positions d) w = λ s. let z = sized d s in rw c.positions-positions.ensures at c.wrong_cells.ensures z.short (rw c.of_design-weights.ensures.same_strands z.few) ∙ ap (wrong_cells (positions d)) c.of_design-weights.ensures.same_weights in
+    let same : sizes_out d ≡ false → c.wrong_cells-own_size.result ≡ wrong_cells (positions d) w = λ s. let z = sized d s in rw c.positions-positions.ensures at c.wrong_cells-own_size.ensures z.short (rw c.of_design-weights.ensures.same_strands z.few) ∙ ap (wrong_cells (positions d)) c.of_design-weights.ensures.same_weights in
     sum-refused d w (wrong_cells (positions d) w) (free_figure (model_of d) w) same (sym c.in_err-admitted.ensures.value) c.from_residual.result c.from_residual.ensures.1
 
 pub returns-clause-free_shown : goal.returns-clause-free_shown

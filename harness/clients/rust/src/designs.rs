@@ -14,7 +14,8 @@ pub fn designs(checks: &mut Checks) {
         glues: &[0, 0, 0, 0, 1, 0, 0, 2, 0],
         dg: &dg,
         ds: &[0.0; 4096],
-        potentials: &[0.0, -1.0, -1.0],
+        amounts: &[0.0, -1.0, -1.0],
+        given: 0,
         rt: 0.5,
         strand_excess: 0.0,
         scaffold_excess: 0.0,
@@ -23,7 +24,7 @@ pub fn designs(checks: &mut Checks) {
     states_and_energies(checks, design);
     let potentials = [0.0, -1.0, f64::NAN];
     let unfit = mj::Design {
-        potentials: &potentials,
+        amounts: &potentials,
         ..design
     };
     let (mut place, mut count) = (WHOLE, WHOLE);
@@ -126,7 +127,8 @@ pub fn blocked(checks: &mut Checks) {
             glues: &[0, 0, 0, 0, 1, 0, 0, 2, 0],
             dg: &dg,
             ds: &[0.0; 4096],
-            potentials: &[0.0, -1.0, -1.0],
+            amounts: &[0.0, -1.0, -1.0],
+            given: 0,
             rt: 0.5,
             strand_excess: 0.0,
             scaffold_excess: 0.0,
@@ -184,7 +186,8 @@ pub fn stack(checks: &mut Checks) {
                 glues: &glues,
                 dg: &dg,
                 ds: &vec![0.0; 4096],
-                potentials: &[0.0; 64],
+                amounts: &[0.0; 64],
+                given: 0,
                 rt: 0.5,
                 strand_excess: 0.0,
                 scaffold_excess: 0.0,

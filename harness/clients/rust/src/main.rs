@@ -1,5 +1,6 @@
 //! A Rust program over libexports.a: calls every function and checks what it answers.
 
+mod concentrations;
 mod designs;
 mod places;
 mod rings;
@@ -53,6 +54,7 @@ fn main() -> ExitCode {
     two_sequences(&mut checks);
     loops(&mut checks);
     strengths(&mut checks);
+    concentrations::logarithms(&mut checks);
     ambients(&mut checks);
     short_sequences(&mut checks);
     decks(&mut checks);
@@ -60,6 +62,7 @@ fn main() -> ExitCode {
     designs::designs(&mut checks);
     designs::blocked(&mut checks);
     designs::stack(&mut checks);
+    concentrations::concentrations(&mut checks);
     places::places(&mut checks);
     tables::tables(&mut checks);
     tables::stack(&mut checks);

@@ -1,6 +1,7 @@
 //! Document 01, "Bonds, friends, states", read once more, with the places that document 02 gives:
 //! refusals and answers of every call that takes a design, from the documents alone.
 
+use super::logarithm::is_dilute;
 use super::{out_of_range, Holds, Verdict};
 
 const MOST_POSITIONS: usize = 128;
@@ -9,6 +10,10 @@ const GLUES: usize = 64;
 pub const CELLS: usize = GLUES * GLUES;
 pub const FRIENDS_LENT: usize = 64;
 pub const MOST_STATES: u128 = 1_048_576;
+
+/// What a design's amounts may be given as.
+pub const POTENTIALS: u32 = 0;
+pub const CONCENTRATIONS: u32 = 1;
 
 /// What a call is lent: slices of any length and content, and the ambient.
 #[derive(Debug, Clone, Default)]
@@ -20,7 +25,13 @@ pub struct Lent {
     pub glues: Vec<u8>,
     pub dg: Vec<f64>,
     pub ds: Vec<f64>,
+    /// One for each strand. Where concentrations are given, the port's logarithms of those that are
+    /// read, whose last bits document 02 leaves open.
     pub potentials: Vec<f64>,
+    /// One for each strand, lent in place of the potentials where they are given.
+    pub concentrations: Vec<f64>,
+    /// How the strands' amounts are given: `POTENTIALS` or `CONCENTRATIONS`.
+    pub given: u32,
     pub rt: f64,
     pub strand_excess: f64,
     pub scaffold_excess: f64,
@@ -47,6 +58,14 @@ impl Lent {
     pub fn has_blocked(&self) -> bool {
         self.marks.contains(&1)
     }
+
+    /// What is lent for the strands, a number each.
+    pub fn amounts(&self) -> &[f64] {
+        match self.given {
+            CONCENTRATIONS => &self.concentrations,
+            _ => &self.potentials,
+        }
+    }
 }
 
 /// Refusals. Each call has conditions of its own beside those of the design.
@@ -65,6 +84,7 @@ impl Lent {
         let mut conditions = vec![
             (9, self.bad_cell()),
             (10, self.null_binds().into()),
+            (15, self.has_dilute().into()),
             (16, self.bad_ambient()),
             (17, self.bad_potential()),
         ];
@@ -129,6 +149,7 @@ impl Lent {
             || self.scaffold.iter().any(high)
             || self.marks.len() != self.positions()
             || self.marks.iter().any(|mark| *mark > 1)
+            || ![POTENTIALS, CONCENTRATIONS].contains(&self.given)
             || self.glues.iter().any(high)
     }
 
@@ -150,11 +171,23 @@ impl Lent {
     }
 
     /// "Only potentials of strands that are somewhere friends are read or checked": the lowest such
-    /// strand. Strand 0 is asked like any other; where it is a friend, 10 comes first.
+    /// strand. Strand 0 is asked like any other; where it is a friend, 10 comes first. A concentration
+    /// that "gets a new number no longer gives an older one", and no other's logarithm is out.
     fn bad_potential(&self) -> Holds {
         let unfit = |strand: usize| out_of_range(self.potentials[strand], -1024.0, 1024.0);
         let at_fault = |strand| unfit(strand) && self.is_somewhere_friend(strand);
-        Holds::first((0..self.strands()).map(at_fault))
+        match self.given {
+            CONCENTRATIONS => Holds::No,
+            _ => Holds::first((0..self.strands()).map(at_fault)),
+        }
+    }
+
+    /// "The strands that are nowhere friends are not looked at."
+    fn has_dilute(&self) -> bool {
+        let at_fault = |strand: usize| {
+            is_dilute(self.concentrations[strand]) && self.is_somewhere_friend(strand)
+        };
+        self.given == CONCENTRATIONS && (0..self.strands()).any(at_fault)
     }
 
     fn null_binds(&self) -> bool {
@@ -171,7 +204,7 @@ impl Lent {
 
     /// Strand 0 included.
     pub fn strands(&self) -> usize {
-        self.potentials.len()
+        self.amounts().len()
     }
 
     fn side(&self, strand: usize, side: usize) -> usize {
@@ -312,202 +345,4 @@ fn occupied(configuration: &[u8]) -> impl Iterator<Item = (usize, usize)> + '_ {
 }
 
 #[cfg(test)]
-pub(crate) mod tests {
-    use super::*;
-    use crate::judge::search::Reading;
-
-    /// Positions with these scaffold glues; strand k has the bottom glue k, dG[k][k] is given and
-    /// every potential is −1; RT 0.5.
-    pub(crate) fn bench(scaffold: &[u8], dg: &[f64]) -> Lent {
-        let mut lent = Lent {
-            scaffold: scaffold.to_vec(),
-            marks: vec![0; scaffold.len()],
-            glues: vec![0; 3],
-            dg: vec![0.0; CELLS],
-            ds: vec![0.0; CELLS],
-            potentials: vec![f64::NAN],
-            rt: 0.5,
-            ..Lent::default()
-        };
-        for (index, energy) in dg.iter().enumerate() {
-            let strand = index + 1;
-            lent.glues.extend([0, strand as u8, 0]);
-            lent.dg[strand * GLUES + strand] = *energy;
-            lent.potentials.push(-1.0);
-        }
-        lent
-    }
-
-    #[test]
-    fn the_bench_lines_hold() {
-        let lent = bench(&[1], &[-2.0]);
-        assert_eq!(lent.energy_verdict(&[1]), Verdict::Admitted);
-        assert_eq!(lent.state_energy(&[1]), -1.5);
-        assert_eq!(bench(&[1], &[-0.5]).chain_energy(&[1]), 0.0);
-        let two = bench(&[1, 2], &[-0.5, -2.0]);
-        assert_eq!(two.chain_energy(&[0, 2]) * two.rt, -1.5);
-        assert_eq!(two.state(0), [1, 2]);
-        assert_eq!(two.state(2), [0, 2]);
-        assert_eq!(two.state(3), [0, 0]);
-        assert_eq!(two.state_verdict(3, 2), Verdict::Admitted);
-        assert_eq!(two.state_verdict(4, 2).number(), 13);
-        assert_eq!(bench(&[1; 20], &[-2.0]).count(), MOST_STATES);
-        assert_eq!(bench(&[1; 20], &[-2.0]).count_verdict().number(), 0);
-        assert_eq!(bench(&[1; 21], &[-2.0]).count_verdict().number(), 12);
-        let empty = bench(&[], &[-2.0]);
-        assert_eq!((empty.count(), empty.state(0)), (1, vec![]));
-        assert_eq!(empty.state_verdict(1, 0).number(), 13);
-    }
-
-    fn refused(number: u32, place: Option<u64>) -> Verdict {
-        Verdict::Refused { number, place }
-    }
-
-    #[test]
-    fn the_lowest_number_is_given() {
-        let mut lent = bench(&[1; 21], &[-2.0, -2.0]);
-        assert_eq!(lent.state_verdict(u64::MAX, 21).number(), 12);
-        assert_eq!(lent.energy_verdict(&[2; 21]).number(), 11);
-        assert_eq!(lent.energy_verdict(&[3; 21]).number(), 11);
-        assert_eq!(lent.energy_verdict(&[1; 20]).number(), 1);
-        lent.potentials[2] = f64::NAN;
-        assert_eq!(lent.search_verdict(21), Verdict::Admitted);
-        lent.potentials[1] = f64::NAN;
-        assert_eq!(lent.search_verdict(21), refused(17, Some(1)));
-        assert_eq!(lent.energy_verdict(&[2; 21]).number(), 11);
-        lent.glues[2] = 1;
-        assert_eq!(lent.energy_verdict(&[2; 21]).number(), 10);
-        lent.ds[4095] = f64::NAN;
-        assert_eq!(lent.energy_verdict(&[2; 21]), refused(9, Some(8191)));
-        lent.scaffold[20] = 64;
-        assert_eq!(lent.energy_verdict(&[2; 21]), refused(1, None));
-    }
-
-    /// The places that the documents have worked out.
-    #[test]
-    fn places_are_as_worked_out() {
-        let place = |change: &dyn Fn(&mut Lent)| {
-            let mut lent = bench(&[1, 7], &[-2.0; 7]);
-            change(&mut lent);
-            lent.count_verdict()
-        };
-        assert_eq!(place(&|d| d.dg[65] = f64::NAN), refused(9, Some(65)));
-        assert_eq!(place(&|d| d.ds[0] = 9.0), refused(9, Some(4096)));
-        assert_eq!(place(&|d| d.ds[4095] = -9.0), refused(9, Some(8191)));
-        let both = |d: &mut Lent| (d.dg[4095], d.ds[0]) = (1025.0, 9.0);
-        assert_eq!(place(&both), refused(9, Some(4095)));
-        let rt = |d: &mut Lent| (d.rt, d.strand_excess) = (0.0, 2000.0);
-        assert_eq!(place(&rt), refused(16, Some(0)));
-        let excesses = |d: &mut Lent| (d.strand_excess, d.scaffold_excess) = (2000.0, f64::NAN);
-        assert_eq!(place(&excesses), refused(16, Some(1)));
-        assert_eq!(
-            place(&|d| d.scaffold_excess = -1025.0),
-            refused(16, Some(2))
-        );
-        let potentials = |d: &mut Lent| (d.potentials[3], d.potentials[7]) = (f64::NAN, 1025.0);
-        assert_eq!(place(&potentials), refused(17, Some(7)));
-    }
-
-    /// Two faults at once: an ambient or a potential gives way to each lower number.
-    #[test]
-    fn an_ambient_or_a_potential_comes_last() {
-        let unfit: [(&dyn Fn(&mut Lent), Verdict); 2] = [
-            (&|d| d.rt = f64::NAN, refused(16, Some(0))),
-            (&|d| d.potentials[1] = f64::NAN, refused(17, Some(1))),
-        ];
-        for (fault, alone) in unfit {
-            let mut lent = bench(&[1, 2], &[-0.5, -2.0]);
-            fault(&mut lent);
-            assert_eq!(lent.energy_verdict(&[1, 2]), alone);
-            assert_eq!(lent.energy_verdict(&[2, 2]), refused(11, None));
-            assert_eq!(lent.state_verdict(0, 2), alone);
-            assert_eq!(lent.state_verdict(4, 2), refused(13, None));
-            let mut many = bench(&[1; 21], &[-2.0]);
-            fault(&mut many);
-            assert_eq!(many.count_verdict(), refused(12, None));
-            assert_eq!(many.state_verdict(0, 21), refused(12, None));
-            assert_eq!(many.search_verdict(21), alone);
-            let mut null = lent.clone();
-            null.dg[7] = 1.0;
-            assert_eq!(null.count_verdict(), refused(10, None));
-            lent.ds[7] = 9.0;
-            assert_eq!(lent.energy_verdict(&[2, 2]), refused(9, Some(4103)));
-        }
-        let mut both = bench(&[1], &[-2.0]);
-        (both.scaffold_excess, both.potentials[1]) = (1025.0, f64::NAN);
-        assert_eq!(both.count_verdict(), refused(16, Some(2)));
-        let mut empty = bench(&[], &[-2.0]);
-        (empty.rt, empty.potentials[1]) = (9.0, f64::NAN);
-        assert_eq!(empty.count_verdict(), refused(16, Some(0)));
-        empty.rt = 8.0;
-        assert_eq!(empty.count_verdict(), Verdict::Admitted);
-    }
-
-    /// Document 02's blocked positions on the bench table's two positions.
-    #[test]
-    fn a_blocked_position_is_empty_in_every_state() {
-        let marked = |marks: [u8; 2]| {
-            let mut lent = bench(&[1, 2], &[-0.5, -2.0]);
-            lent.marks = marks.to_vec();
-            lent
-        };
-        let states = |lent: &Lent| -> Vec<Vec<u8>> {
-            (0..lent.count() as u64)
-                .map(|rank| lent.state(rank))
-                .collect()
-        };
-        assert_eq!(marked([0, 0]).count(), 4);
-        let first = marked([1, 0]);
-        assert_eq!(states(&first), [[0, 2], [0, 0]]);
-        assert_eq!(first.search(Reading::Document), (-1.5, vec![0, 2]));
-        assert_eq!(first.energy_verdict(&[1, 2]), refused(11, None));
-        assert_eq!(first.scaffold_bond(0, 1), -1.0);
-        let last = marked([0, 1]);
-        assert_eq!(states(&last), [[1, 0], [0, 0]]);
-        assert_eq!(last.search(Reading::Document), (0.0, vec![0, 0]));
-        let mut both = marked([1, 1]);
-        (both.potentials[1], both.potentials[2]) = (f64::NAN, 1025.0);
-        assert_eq!(both.search_verdict(2), Verdict::Admitted);
-        assert_eq!(states(&both), [[0, 0]]);
-        assert_eq!(both.search(Reading::Document), (0.0, vec![0, 0]));
-        both.marks = vec![1, 0];
-        assert_eq!(both.search_verdict(2), refused(17, Some(2)));
-        for marks in [vec![], vec![0], vec![0, 0, 0], vec![0, 2], vec![255, 0]] {
-            both.marks = marks;
-            assert_eq!(both.search_verdict(2), refused(1, None));
-        }
-    }
-
-    #[test]
-    fn a_position_without_a_glue_stands_for_a_blocked_one() {
-        let mut lent = bench(&[1, 2, 1], &[-0.5, -2.0]);
-        lent.marks = vec![0, 1, 1];
-        let copy = lent.without_blocked();
-        assert_eq!(
-            (copy.scaffold.clone(), copy.has_blocked()),
-            (vec![1, 0, 0], false)
-        );
-        assert_eq!(copy.count(), lent.count());
-        assert_eq!(
-            copy.search(Reading::Document),
-            lent.search(Reading::Document)
-        );
-    }
-
-    /// Where strand 0 is a friend, its bottom glue or a cell of column 0 is null's: 10, whatever its
-    /// potential.
-    #[test]
-    fn the_potential_of_strand_0_decides_nothing() {
-        let mut lent = bench(&[1], &[-2.0]);
-        assert_eq!(lent.count_verdict(), Verdict::Admitted);
-        lent.glues[1] = 1;
-        assert_eq!(lent.count_verdict(), refused(10, None));
-        lent.potentials[0] = 0.0;
-        assert_eq!(lent.count_verdict(), refused(10, None));
-        let mut lent = bench(&[1], &[-2.0]);
-        lent.dg[GLUES] = -0.0;
-        assert_eq!(lent.count_verdict(), Verdict::Admitted);
-        lent.ds[GLUES] = 5e-324;
-        assert_eq!(lent.count_verdict(), refused(10, None));
-    }
-}
+pub(crate) mod tests;

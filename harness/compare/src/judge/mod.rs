@@ -8,6 +8,7 @@ pub mod ceiling;
 pub mod deck;
 pub mod design;
 pub mod exact;
+pub mod logarithm;
 pub mod parameters;
 pub mod ring;
 pub mod search;

@@ -60,11 +60,11 @@ pub fn loop_energy(length: usize, kind: u32) -> f64 {
 /// 0.00198720425864083 × 310.15 × 2.44, which has 21 decimals.
 const GAIN: f64 = 1.503848617994586355780;
 
-const LN_BITS: u32 = 100;
+pub(super) const LN_BITS: u32 = 100;
 
 /// ln(n / base) of small whole numbers in units of 2⁻¹⁰⁰, by 2 (z + z³/3 + z⁵/5 + …) with
 /// z = (n − base) / (n + base), of which no term is longer than 128 bits.
-fn ln_ratio(n: u128, base: u128) -> u128 {
+pub(super) fn ln_ratio(n: u128, base: u128) -> u128 {
     let (over, under) = (n - base, n + base);
     let mut power = (over << LN_BITS) / under;
     let (mut sum, mut odd) = (0, 1);

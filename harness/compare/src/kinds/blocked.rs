@@ -59,6 +59,7 @@ impl Kind for Blocked {
                 rt: ambient.rt,
                 strand_excess: ambient.strand_excess,
                 scaffold_excess: ambient.scaffold_excess,
+                ..Lent::default()
             };
             (lent.dg[65], lent.dg[130]) = (-0.5, -2.0);
             ask_about(random, kelvin, lent, 4, ask);

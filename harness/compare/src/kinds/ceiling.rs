@@ -111,7 +111,7 @@ fn ceiling(random: &mut Random, lent: &Lent, count: u128) -> f64 {
 }
 
 /// The slices go with the first question and hold for the rest.
-fn ask_under(lent: &Lent, ceilings: &[f64], entries: usize, ask: &mut Ask) {
+pub(super) fn ask_under(lent: &Lent, ceilings: &[f64], entries: usize, ask: &mut Ask) {
     let lines: Rc<str> = raw_lines(lent).into();
     for (index, ceiling) in ceilings.iter().enumerate() {
         let line = format!("under {entries} {}", bits(*ceiling));

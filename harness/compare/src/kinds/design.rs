@@ -4,9 +4,7 @@
 
 use super::{Ask, AskOracle, Kind};
 use crate::ambients::{self, Ambients, ROUND_RTS};
-use crate::designs::{
-    ambient_line, design, lines_of_both, marks_line, Ambient, Shape, Sort, SORTS,
-};
+use crate::designs::{design, lines_of_both, lines_of_port, Ambient, Shape, Sort, SORTS};
 use crate::judge::design::{Lent, CELLS, MOST_STATES};
 use crate::judge::Verdict;
 use crate::parting::Parting;
@@ -126,6 +124,7 @@ impl Designs {
             rt: ambient.rt,
             strand_excess: ambient.strand_excess,
             scaffold_excess: ambient.scaffold_excess,
+            ..Lent::default()
         };
         for (glue, dg) in [(1, -5e-324), (2, 5e-324), (3, 1.0)] {
             lent.dg[64 * glue + glue] = dg;
@@ -136,10 +135,10 @@ impl Designs {
 
 /// All that is asked of a design that is admitted. The Rust knows no blocked positions: it is asked
 /// for the bonds of the design as it is, and for all else of the one whose blocked positions have no
-/// glue.
+/// glue. Where concentrations are given, it is asked with the port's logarithms of them.
 pub fn ask_about(random: &mut Random, kelvin: f64, lent: Lent, glues: usize, ask: &mut Ask) {
     let lines = lines_of_both(&lent, glues);
-    let sent: Rc<str> = format!("{lines}{}{}", marks_line(&lent), ambient_line(&lent)).into();
+    let sent: Rc<str> = lines_of_port(&lent, glues).into();
     let built = format!("d.temp K {}\nd.build", bits(kelvin));
     let build = |port: String, lines: String, about: Option<Rc<str>>| Question {
         port,

@@ -3,8 +3,10 @@
 pub mod ambient;
 pub mod blocked;
 pub mod ceiling;
+pub mod concentration;
 pub mod deck;
 pub mod design;
+pub mod logarithm;
 pub mod loops;
 pub mod names;
 pub mod pair;
@@ -28,6 +30,9 @@ pub type Ask<'a> = dyn FnMut(Question) + 'a;
 /// Sends lines to the oracle that it answers with one line, and gives that.
 pub type AskOracle<'a> = dyn FnMut(&str) -> Result<String, String> + 'a;
 
+/// The same of the port.
+pub type AskPort<'a> = dyn FnMut(&str) -> Result<String, String> + 'a;
+
 pub trait Kind {
     /// As it stands in the last line of a run.
     fn name(&self) -> &'static str;
@@ -38,6 +43,11 @@ pub trait Kind {
 
     /// Asks the oracle for what the questions are made of, before the first of them.
     fn prepare(&self, _oracle: &mut AskOracle) -> Result<(), String> {
+        Ok(())
+    }
+
+    /// Asks the port for figures whose last bits are open, where the questions are made of them.
+    fn prepare_by_port(&self, _port: &mut AskPort) -> Result<(), String> {
         Ok(())
     }
 
@@ -79,6 +89,7 @@ pub fn all() -> Vec<Box<dyn Kind>> {
         Box::new(short::ShortSequences),
         Box::new(pair::Pairs),
         Box::new(loops::Loops),
+        Box::new(logarithm::Logarithms::default()),
         Box::new(strength::Strengths),
         Box::new(ambient::Ambients),
         Box::new(deck::Decks),
@@ -91,6 +102,7 @@ pub fn all() -> Vec<Box<dyn Kind>> {
         Box::new(ring::Rings::default()),
         Box::new(ceiling::Ceilings),
         Box::new(raw::RawDesigns),
+        Box::new(concentration::Concentrations::default()),
         Box::new(sums::Sums::default()),
     ]
 }

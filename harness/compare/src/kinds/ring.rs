@@ -105,7 +105,7 @@ impl Kind for Rings {
 
 impl Rings {
     /// The slices go with the first question and hold for the rest.
-    fn about(&self, random: &mut Random, lent: Lent, ask: &mut Ask) {
+    pub(super) fn about(&self, random: &mut Random, lent: Lent, ask: &mut Ask) {
         let lines: Rc<str> = raw_lines(&lent).into();
         let entries = match random.once_in(40) {
             true => lent.positions() + 1,

@@ -2,9 +2,7 @@
 //! which the Rust's own partition functions are not held against. The judge has the exact sums.
 
 use super::{Ask, Kind};
-use crate::designs::{
-    ambient_line, blocks, lines_of_both, marked, marks_line, Ambient, Shape, SORTS,
-};
+use crate::designs::{blocks, lines_of_port, marked, raw_lines, Ambient, Shape, SORTS};
 use crate::judge::design::Lent;
 use crate::judge::sums::{self, Lists, Weights};
 use crate::judge::Verdict;
@@ -168,11 +166,6 @@ fn lists_line(lists: &Lists) -> String {
     )
 }
 
-fn design_lines(lent: &Lent, glues: usize) -> String {
-    let lines = lines_of_both(lent, glues);
-    format!("{lines}{}{}", marks_line(lent), ambient_line(lent))
-}
-
 impl Sums {
     /// The free sum where there are no lists.
     fn question(
@@ -211,14 +204,36 @@ impl Sums {
         if random.once_in(10) {
             spoil(random, &mut weights);
         }
-        let setters = design_lines(&lent, shape.glues) + &weights_lines(&weights);
+        let lists = with_lists.then(|| lists(random, &lent));
+        let lines = lines_of_port(&lent, shape.glues);
+        self.over(&lent, lines, &weights, lists.as_ref(), ask);
+    }
+
+    /// Of a design that these lines send.
+    fn over(
+        &self,
+        lent: &Lent,
+        lines: String,
+        weights: &Weights,
+        lists: Option<&Lists>,
+        ask: &mut Ask,
+    ) {
         self.designs.set(self.designs.get() + 1);
-        if with_lists {
-            self.constrained.set(self.constrained.get() + 1);
-            let lists = lists(random, &lent);
-            ask(self.question(setters, &lent, &weights, Some(&lists)));
-        } else {
-            ask(self.question(setters, &lent, &weights, None));
+        let constrained = self.constrained.get() + u64::from(lists.is_some());
+        self.constrained.set(constrained);
+        let setters = lines + &weights_lines(weights);
+        ask(self.question(setters, lent, weights, lists));
+    }
+
+    /// Both sums of a design whose sizes are in order, over weights that are in form and over others.
+    pub(super) fn all_of(&self, random: &mut Random, lent: &Lent, ask: &mut Ask) {
+        let mut weights = weights(random, Powers::Near(-30), lent);
+        let lists = lists(random, lent);
+        for _ in 0..2 {
+            for lists in [None, Some(&lists)] {
+                self.over(lent, raw_lines(lent), &weights, lists, ask);
+            }
+            weights.place_powers.fill(i32::MAX);
         }
     }
 
@@ -272,7 +287,7 @@ impl Sums {
                 } else {
                     changes[6](&mut lent, &mut weights, &mut lists);
                 }
-                let setters = crate::designs::raw_lines(&lent) + &weights_lines(&weights);
+                let setters = raw_lines(&lent) + &weights_lines(&weights);
                 ask(self.question(setters.clone(), &lent, &weights, None));
                 ask(self.question(setters, &lent, &weights, Some(&lists)));
             }
@@ -292,6 +307,7 @@ impl Sums {
             rt: ambient.rt,
             strand_excess: ambient.strand_excess,
             scaffold_excess: ambient.scaffold_excess,
+            ..Lent::default()
         };
         (lent.dg[65], lent.dg[130]) = (-0.5, -2.0);
         lent

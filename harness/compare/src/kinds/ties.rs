@@ -107,6 +107,7 @@ fn blank(random: &mut Random, ambient: Ambient, positions: usize) -> Lent {
         rt: ambient.rt,
         strand_excess: ambient.strand_excess,
         scaffold_excess: ambient.scaffold_excess,
+        ..Lent::default()
     };
     for _ in 0..users {
         lent.glues.extend([0, 1, 0]);

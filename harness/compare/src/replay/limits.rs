@@ -31,8 +31,7 @@ fn plain() -> Lent {
         ds: vec![0.0; CELLS],
         potentials: vec![0.0, -1.0],
         rt: 0.5,
-        strand_excess: 0.0,
-        scaffold_excess: 0.0,
+        ..Lent::default()
     };
     lent.dg[cell(1, 1)] = -2.0;
     lent

@@ -13,7 +13,7 @@ use Rattle.design.proofs.checks.first_unfit.Goals as goal
 pub returns : goal.returns
 returns c =
     let d = c.args.design.now in
-    let test = unfit d.scaffold d.marks d.glues d.dg d.ds d.potentials in
+    let test = unfit d in
     let n = c.strands.result in
     let found : option_map (λ x. x) c.find.result ≡ find test (range_with_len 0 n) = find_from_yields_List test _ _ c.find.result c.find.ensures.ran (YieldsList-from_range 0 n n refl (omega arith)) (λ x b q k. search (rules, tests)) in
     rw (sym c.strands.ensures, up_to_is n) (sym (option_map_id c.find.result) ∙ found)

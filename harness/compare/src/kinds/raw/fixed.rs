@@ -17,6 +17,7 @@ pub fn base() -> Lent {
         rt: 8.0,
         strand_excess: -1024.0,
         scaffold_excess: 1024.0,
+        ..Lent::default()
     };
     for (row, column, dg, ds) in [(1, 1, -7.25, -0.0), (2, 2, -0.0, 8.0), (4, 4, 1024.0, -8.0)] {
         (lent.dg[row * 64 + column], lent.ds[row * 64 + column]) = (dg, ds);

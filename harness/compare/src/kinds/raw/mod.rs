@@ -14,6 +14,7 @@ use crate::judge::search::Reading;
 use crate::judge::Verdict;
 use crate::question::Question;
 use crate::random::Random;
+pub(super) use fixed::base;
 use protocol::{bits, joined};
 use std::rc::Rc;
 
@@ -71,21 +72,21 @@ impl Kind for RawDesigns {
 
 /// What is asked of a design: one call's arguments after the other's.
 #[derive(Clone)]
-struct Arguments {
+pub(super) struct Arguments {
     /// Of the strand bond, then position and strand of the scaffold bond.
     pair: (usize, usize),
     site: (usize, usize),
     /// Position and lent entries of the friends, rank and lent entries of the state.
     friends: (usize, usize),
-    state: (u64, usize),
+    pub state: (u64, usize),
     /// Of both energies.
-    configuration: Vec<u8>,
+    pub configuration: Vec<u8>,
 }
 
 impl Arguments {
     /// Refused only where the design is, or has no position. Places are occupied where they can
     /// be, so that every energy has terms.
-    fn usual(lent: &Lent) -> Self {
+    pub fn usual(lent: &Lent) -> Self {
         let last = lent.strands().saturating_sub(1);
         let mut configuration = vec![0; lent.positions()];
         if lent.energy_verdict(&configuration) == Verdict::Admitted {
@@ -104,7 +105,7 @@ impl Arguments {
 }
 
 /// The slices go with the first question and hold for the rest.
-fn ask_every_call(lent: &Lent, arguments: &Arguments, ask: &mut Ask) {
+pub(super) fn ask_every_call(lent: &Lent, arguments: &Arguments, ask: &mut Ask) {
     let lines: Rc<str> = raw_lines(lent).into();
     let questions = bonds(lent, arguments)
         .into_iter()

@@ -1,14 +1,11 @@
 //! Questions over tables that hang on no seed.
 
-use super::lending::Lending;
+use super::lending::{ask_to_fill, Lending};
 use super::MOST_BOND;
-use crate::designs::raw_lines;
 use crate::doubles::not_finite;
 use crate::judge::design::{Lent, CELLS};
 use crate::judge::tables::Tables;
 use crate::kinds::Ask;
-use crate::question::Question;
-use protocol::{bits, joined};
 
 /// The worked case, each cell at the ends of its range, lengths, and faults that meet.
 pub(super) fn all(ask: &mut Ask) {
@@ -75,10 +72,7 @@ fn lengths(ask: &mut Ask) {
         (0, 0),
     ] {
         let (lent, mut tables) = with_nobody();
-        let verdict = lent.fill_verdict(strands, scaffold);
-        let own = lent.filled();
-        let line = format!("{}t.raw.fill {strands} {scaffold}", raw_lines(&lent));
-        ask(Question::of_port(line, verdict, || filled(&own)));
+        ask_to_fill(&lent, strands, scaffold, ask);
         tables.strands.resize(strands, 0.0);
         tables.scaffold.resize(scaffold, 0.0);
         Lending::new(lent, tables, None).ask_all(ask);
@@ -87,16 +81,9 @@ fn lengths(ask: &mut Ask) {
     (none.scaffold, none.marks) = (vec![], vec![]);
     let own = none.filled();
     for scaffold in [0, 1] {
-        let line = format!("{}t.raw.fill 9 {scaffold}", raw_lines(&none));
-        let verdict = none.fill_verdict(9, scaffold);
-        ask(Question::of_port(line, verdict, || filled(&own)));
+        ask_to_fill(&none, 9, scaffold, ask);
     }
     Lending::new(none, own, None).ask_all(ask);
-}
-
-fn filled(tables: &Tables) -> String {
-    let cells = |cells: &[f64]| joined(cells.iter().map(|x| bits(*x)), ",");
-    format!("{} {}", cells(&tables.strands), cells(&tables.scaffold))
 }
 
 /// One change of a design and tables beside it.
@@ -124,10 +111,7 @@ fn faults(ask: &mut Ask) {
             let (mut lent, mut tables) = with_nobody();
             one(&mut lent, &mut tables);
             other(&mut lent, &mut tables);
-            let (strands, scaffold) = (tables.strands.len(), tables.scaffold.len());
-            let verdict = lent.fill_verdict(strands, scaffold);
-            let line = format!("{}t.raw.fill {strands} {scaffold}", raw_lines(&lent));
-            ask(Question::of_port(line, verdict, || filled(&lent.filled())));
+            ask_to_fill(&lent, tables.strands.len(), tables.scaffold.len(), ask);
             for state in [vec![0, 2], vec![1, 1], vec![0]] {
                 let (lent, tables) = (lent.clone(), tables.clone());
                 Lending::new(lent, tables, Some(state)).ask_all(ask);

@@ -9,8 +9,19 @@ use crate::question::Question;
 use protocol::{bits, joined};
 use std::rc::Rc;
 
+/// Fills tables of so many lent cells.
+pub fn ask_to_fill(lent: &Lent, strands: usize, scaffold: usize, ask: &mut Ask) {
+    let line = format!("{}t.raw.fill {strands} {scaffold}", raw_lines(lent));
+    let verdict = lent.fill_verdict(strands, scaffold);
+    ask(Question::of_port(line, verdict, || {
+        let own = lent.filled();
+        let cells = |cells: &[f64]| joined(cells.iter().map(|x| bits(*x)), ",");
+        format!("{} {}", cells(&own.strands), cells(&own.scaffold))
+    }));
+}
+
 /// A design, tables beside it and a configuration, and the lines that send the first.
-pub(super) struct Lending {
+pub struct Lending {
     pub lent: Lent,
     pub tables: Tables,
     pub state: Vec<u8>,

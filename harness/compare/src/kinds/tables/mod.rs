@@ -6,9 +6,7 @@ mod lending;
 
 use super::{Ask, AskOracle, Kind};
 use crate::ambients::{self, Ambients, ROUND_RTS};
-use crate::designs::{
-    ambient_line, blocks, lines_of_both, marked, marks_line, Ambient, Shape, Sort, SORTS,
-};
+use crate::designs::{blocks, lines_of_both, lines_of_port, marked, Ambient, Shape, Sort, SORTS};
 use crate::doubles::{not_finite, of_any_size};
 use crate::judge::design::{Lent, CELLS};
 use crate::judge::search::Reading;
@@ -16,7 +14,7 @@ use crate::judge::tables::{Tabled, Tables};
 use crate::judge::Verdict;
 use crate::question::{Expected, Question};
 use crate::random::Random;
-use lending::Lending;
+pub(super) use lending::{ask_to_fill, Lending};
 use protocol::{bits, joined};
 use std::cell::{Cell, RefCell};
 use std::rc::Rc;
@@ -106,7 +104,7 @@ impl BondTables {
 
     /// The design is sent to both; the Rust, which knows no marks, is asked for its bonds, and for all
     /// else where every position is open.
-    fn over_filled_tables(
+    pub(super) fn over_filled_tables(
         &self,
         random: &mut Random,
         kelvin: f64,
@@ -116,7 +114,7 @@ impl BondTables {
     ) {
         add(&self.filled, true);
         let lines = lines_of_both(&lent, glues);
-        let sent: Rc<str> = format!("{lines}{}{}", marks_line(&lent), ambient_line(&lent)).into();
+        let sent: Rc<str> = lines_of_port(&lent, glues).into();
         ask(Question {
             port: format!("{sent}d.build"),
             oracle: Some(format!("{lines}d.temp K {}\nd.build", bits(kelvin))),

@@ -28,7 +28,7 @@ state_energy-requires-clause-by_index c =
     let s = c.args.self.now in
     let m = model_of s.admitted.now in
     let below : c.args.rank < count m = omega (arith, s.counted, c.requires.counted, c.requires.rank_lt_states, product_is s.option_rows) in
-    let strand : 0 < strands s.admitted.now = rw (sym c.admitted.view_is) c.admitted.invariant.some in
+    let strand : 0 < strands s.admitted.now = rw (sym c.admitted.view_is) c.admitted.invariant.0.some in
     let some : 0 < s.lent.options.strands = rw s.same_strands strand in
     rw (c.write_state.ensures m s.option_rows, s.lent.same_strands) (known-occupants s.option_rows s.lent.options.searchable some (ranked-state m c.args.rank below))
 
