@@ -1,4 +1,122 @@
-// Sums over the states of a design over the weights of its own energies, and the probability of a constrained set.
+// Sums over the states of a design over the weights of its own energies, and the probability of a constrained set. A place weighs the exponential of
+// minus its scaffold bond less its strand's potential, a pair of neighbours that of minus their strand bond.
 #![tactic(auto)]
 
 pub mod quotient;
+mod sums;
+mod weights;
+
+ghost use Rattle.std.specs.Prelude.{◌≡◌, false, ◌<◌, OnOk, IfOk};
+ghost use Rattle.reply.specs.First.{first_of};
+ghost use Rattle.design.specs.Design.{positions};
+ghost use Rattle.design.specs.Passed.{reply_of};
+ghost use Rattle.state_sums.specs.Sizes.{lists_lent};
+ghost use Rattle.probabilities.specs.Answers.{energy_checks, FreeSaid, ConstrainedSaid, ProbabilitySaid};
+
+use design::Design;
+use design::passed::{AdmittedDesign, admitted};
+use ensemble::bonds::{SCAFFOLD_BONDS, STRAND_BONDS};
+use ensemble::options::OPTIONS;
+use fractions::Weight;
+use partition_sums::constraint::Constraint;
+use partition_sums::sums::{constrained_sum, free_sum};
+use quotient::quotient;
+use reply::limits::POSITIONS;
+use reply::{Refusal, Refused, refused_if};
+use state_sums::LentLists;
+use state_sums::sizes::wrong_lists;
+use sums::formed;
+
+// The design as an admitted one that has a position; or the first check that holds.
+fn scaffolded<'a>(own_size: bool, design: &'a Design<'a>) -> Result<AdmittedDesign<'a>, Refused>
+    ensures value { reply_of result ≡ first_of (energy_checks own_size design.now) }
+    ensures own { OnOk result (own_size ≡ false) }
+    ensures some { OnOk result (0 < positions design.now) }
+    ensures same { IfOk result (λ admitted. admitted ≡ design.now) }
+{
+    let admitted = admitted(own_size, design)?;
+    refused_if(Refusal::BareScaffold, design.positions() == 0)?;
+    Ok(admitted)
+}
+
+// The sum over all states of a design. Replies 1, 9, 10, 16, 17, 18.
+pub fn free_sum_of_energies(design: &Design) -> Result<Weight, Refused>
+    ensures { FreeSaid design.now result }
+{
+    let admitted = scaffolded(false, design)?;
+    let mut rows = [0u8; OPTIONS];
+    let mut counts = [0u8; POSITIONS];
+    let mut place_digits = [0u32; SCAFFOLD_BONDS];
+    let mut place_powers = [0i32; SCAFFOLD_BONDS];
+    let mut pair_digits = [0u32; STRAND_BONDS];
+    let mut pair_powers = [0i32; STRAND_BONDS];
+    let formed = formed(
+        &admitted,
+        &mut rows,
+        &mut counts[..design.positions()],
+        &mut place_digits,
+        &mut place_powers,
+        &mut pair_digits,
+        &mut pair_powers,
+    );
+    Ok(free_sum(&formed))
+}
+
+// The sum over the states that meet a constraint, lists of allowed occupants. An empty list leaves its place free. Replies as the free sum's.
+pub fn constrained_sum_of_energies(
+    design: &Design,
+    lists: &LentLists<'_>,
+) -> Result<Weight, Refused>
+    ensures { ConstrainedSaid design.now (lists_lent lists.now) result }
+{
+    let admitted = scaffolded(wrong_lists(design.positions(), lists), design)?;
+    let constraint = Constraint {
+        numbers: lists.numbers,
+        starts: lists.starts,
+        lengths: lists.lengths,
+    };
+    let mut rows = [0u8; OPTIONS];
+    let mut counts = [0u8; POSITIONS];
+    let mut place_digits = [0u32; SCAFFOLD_BONDS];
+    let mut place_powers = [0i32; SCAFFOLD_BONDS];
+    let mut pair_digits = [0u32; STRAND_BONDS];
+    let mut pair_powers = [0i32; STRAND_BONDS];
+    let formed = formed(
+        &admitted,
+        &mut rows,
+        &mut counts[..design.positions()],
+        &mut place_digits,
+        &mut place_powers,
+        &mut pair_digits,
+        &mut pair_powers,
+    );
+    Ok(constrained_sum(&formed, &constraint))
+}
+
+// The probability of the states that meet a constraint: their sum by that over all states. Replies as the free sum's.
+pub fn probability(design: &Design, lists: &LentLists<'_>) -> Result<Weight, Refused>
+    ensures { ProbabilitySaid design.now (lists_lent lists.now) result }
+{
+    let admitted = scaffolded(wrong_lists(design.positions(), lists), design)?;
+    let constraint = Constraint {
+        numbers: lists.numbers,
+        starts: lists.starts,
+        lengths: lists.lengths,
+    };
+    let mut rows = [0u8; OPTIONS];
+    let mut counts = [0u8; POSITIONS];
+    let mut place_digits = [0u32; SCAFFOLD_BONDS];
+    let mut place_powers = [0i32; SCAFFOLD_BONDS];
+    let mut pair_digits = [0u32; STRAND_BONDS];
+    let mut pair_powers = [0i32; STRAND_BONDS];
+    let formed = formed(
+        &admitted,
+        &mut rows,
+        &mut counts[..design.positions()],
+        &mut place_digits,
+        &mut place_powers,
+        &mut pair_digits,
+        &mut pair_powers,
+    );
+    Ok(quotient(constrained_sum(&formed, &constraint), free_sum(&formed)))
+}
