@@ -7,4 +7,5 @@ pub mod Arguments
 pub mod Lists
 pub mod NearWeights
 pub mod Used
+pub mod Replies
 pub mod Summable

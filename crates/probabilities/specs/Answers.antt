@@ -12,9 +12,13 @@ use Rattle.state_sums.specs.Sizes.{Lists, wrong_lists}
 use Rattle.state_sums.specs.Answers.{constraint_of}
 use Rattle.probabilities.specs.Numbers.{FreeEnergySum, ConstrainedEnergySum, Probability}
 
--- the checks of a design, and 18 last; there is no 19, since the weights are worked out
+-- 18, a scaffold of no positions; there is no 19, since the weights are worked out
+abbrev pub bare_checks : Design → List Check
+bare_checks d = BareScaffold if eqb (positions d) 0 ∷ []
+
+-- what is refused: the checks of a design, and 18 last
 abbrev pub energy_checks : Bool → Design → List Check
-energy_checks own_size d = design_checks own_size d [] (BareScaffold if eqb (positions d) 0 ∷ [])
+energy_checks own_size d = design_checks own_size d [] (bare_checks d)
 
 -- an answer is the refusal that is replied, or where none is a figure of which something holds
 abbrev pub Said : Reply → (Weight → Type 0) → Result Weight Refused → Type 0

@@ -3,7 +3,7 @@
 #![tactic(auto)]
 
 pub mod quotient;
-mod sums;
+mod tables;
 mod weights;
 
 ghost use Rattle.std.specs.Prelude.{◌≡◌, false, ◌<◌, OnOk, IfOk};
@@ -15,17 +15,14 @@ ghost use Rattle.probabilities.specs.Answers.{energy_checks, FreeSaid, Constrain
 
 use design::Design;
 use design::passed::{AdmittedDesign, admitted};
-use ensemble::bonds::{SCAFFOLD_BONDS, STRAND_BONDS};
-use ensemble::options::OPTIONS;
 use fractions::Weight;
 use partition_sums::constraint::Constraint;
 use partition_sums::sums::{constrained_sum, free_sum};
 use quotient::quotient;
-use reply::limits::POSITIONS;
 use reply::{Refusal, Refused, refused_if};
 use state_sums::LentLists;
 use state_sums::sizes::wrong_lists;
-use sums::formed;
+use tables::Room;
 
 // The design as an admitted one that has a position; or the first check that holds.
 fn scaffolded<'a>(own_size: bool, design: &'a Design<'a>) -> Result<AdmittedDesign<'a>, Refused>
@@ -44,21 +41,8 @@ pub fn free_sum_of_energies(design: &Design) -> Result<Weight, Refused>
     ensures { FreeSaid design.now result }
 {
     let admitted = scaffolded(false, design)?;
-    let mut rows = [0u8; OPTIONS];
-    let mut counts = [0u8; POSITIONS];
-    let mut place_digits = [0u32; SCAFFOLD_BONDS];
-    let mut place_powers = [0i32; SCAFFOLD_BONDS];
-    let mut pair_digits = [0u32; STRAND_BONDS];
-    let mut pair_powers = [0i32; STRAND_BONDS];
-    let formed = formed(
-        &admitted,
-        &mut rows,
-        &mut counts[..design.positions()],
-        &mut place_digits,
-        &mut place_powers,
-        &mut pair_digits,
-        &mut pair_powers,
-    );
+    let mut room = Room::empty();
+    let formed = room.formed(&admitted);
     Ok(free_sum(&formed))
 }
 
@@ -75,21 +59,8 @@ pub fn constrained_sum_of_energies(
         starts: lists.starts,
         lengths: lists.lengths,
     };
-    let mut rows = [0u8; OPTIONS];
-    let mut counts = [0u8; POSITIONS];
-    let mut place_digits = [0u32; SCAFFOLD_BONDS];
-    let mut place_powers = [0i32; SCAFFOLD_BONDS];
-    let mut pair_digits = [0u32; STRAND_BONDS];
-    let mut pair_powers = [0i32; STRAND_BONDS];
-    let formed = formed(
-        &admitted,
-        &mut rows,
-        &mut counts[..design.positions()],
-        &mut place_digits,
-        &mut place_powers,
-        &mut pair_digits,
-        &mut pair_powers,
-    );
+    let mut room = Room::empty();
+    let formed = room.formed(&admitted);
     Ok(constrained_sum(&formed, &constraint))
 }
 
@@ -103,20 +74,7 @@ pub fn probability(design: &Design, lists: &LentLists<'_>) -> Result<Weight, Ref
         starts: lists.starts,
         lengths: lists.lengths,
     };
-    let mut rows = [0u8; OPTIONS];
-    let mut counts = [0u8; POSITIONS];
-    let mut place_digits = [0u32; SCAFFOLD_BONDS];
-    let mut place_powers = [0i32; SCAFFOLD_BONDS];
-    let mut pair_digits = [0u32; STRAND_BONDS];
-    let mut pair_powers = [0i32; STRAND_BONDS];
-    let formed = formed(
-        &admitted,
-        &mut rows,
-        &mut counts[..design.positions()],
-        &mut place_digits,
-        &mut place_powers,
-        &mut pair_digits,
-        &mut pair_powers,
-    );
+    let mut room = Room::empty();
+    let formed = room.formed(&admitted);
     Ok(quotient(constrained_sum(&formed, &constraint), free_sum(&formed)))
 }

@@ -17,8 +17,8 @@ invariant_of-constraint c =
     let a = c.args in
     let l = lists_lent a.lists.now in
     let h = fit (positions a.design.now) l (rw c.positions.ensures at c.wrong_lists.ensures) c.in_ok-admitted.ensures.own in
-    let short = (searchable c.formed-formed.result.lent).short in
-    let many = rw c.in_ok-admitted.ensures.same at c.formed-formed.ensures.a_count_each in
+    let short = (searchable c.formed.result.lent).short in
+    let many = rw c.in_ok-admitted.ensures.same at c.formed.ensures.a_count_each in
     let start = h.starting in
     (rw start h, omega arith)
 
@@ -26,7 +26,7 @@ pub constrained_sum-requires : goal.constrained_sum-requires
 constrained_sum-requires c =
     let a = c.args in
     let e = each (positions a.design.now) (lists_lent a.lists.now) (rw c.positions.ensures at c.wrong_lists.ensures) c.in_ok-admitted.ensures.own in
-    record { a_list_each = e ∙ ap positions (sym c.in_ok-admitted.ensures.same) ∙ sym c.formed-formed.ensures.a_count_each }
+    record { a_list_each = e ∙ ap positions (sym c.in_ok-admitted.ensures.same) ∙ sym c.formed.ensures.a_count_each }
 
 pub returns : goal.returns
 returns c =
@@ -34,8 +34,8 @@ returns c =
     let d = a.design.now in
     let l = lists_lent a.lists.now in
     let told = rw c.positions.ensures at c.wrong_lists.ensures in
-    let f = rw c.in_ok-admitted.ensures.same at c.formed-formed.ensures in
+    let f = rw c.in_ok-admitted.ensures.same at c.formed.ensures in
     let e = each (positions d) l told c.in_ok-admitted.ensures.own ∙ sym f.a_count_each in (
       ap (λ (size : Bool). first_of (energy_checks size d)) (sym told) ∙ sym c.in_ok-admitted.ensures.value,
-      (constrained-summed c.formed-formed.result (model_of d) f.options f.near (constraint_of l) e c.constrained_sum.result c.constrained_sum.ensures).right,
+      (constrained-summed c.formed.result (model_of d) f.options f.near (constraint_of l) e c.constrained_sum.result c.constrained_sum.ensures).right,
     )

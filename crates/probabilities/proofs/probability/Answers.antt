@@ -17,8 +17,8 @@ invariant_of-constraint c =
     let a = c.args in
     let l = lists_lent a.lists.now in
     let h = fit (positions a.design.now) l (rw c.positions.ensures at c.wrong_lists.ensures) c.in_ok-admitted.ensures.own in
-    let short = (searchable c.formed-formed.result.lent).short in
-    let many = rw c.in_ok-admitted.ensures.same at c.formed-formed.ensures.a_count_each in
+    let short = (searchable c.formed.result.lent).short in
+    let many = rw c.in_ok-admitted.ensures.same at c.formed.ensures.a_count_each in
     let start = h.starting in
     (rw start h, omega arith)
 
@@ -26,14 +26,14 @@ pub constrained_sum-requires : goal.constrained_sum-requires
 constrained_sum-requires c =
     let a = c.args in
     let e = each (positions a.design.now) (lists_lent a.lists.now) (rw c.positions.ensures at c.wrong_lists.ensures) c.in_ok-admitted.ensures.own in
-    record { a_list_each = e ∙ ap positions (sym c.in_ok-admitted.ensures.same) ∙ sym c.formed-formed.ensures.a_count_each }
+    record { a_list_each = e ∙ ap positions (sym c.in_ok-admitted.ensures.same) ∙ sym c.formed.ensures.a_count_each }
 
 pub quotient-requires-clause-in_form : goal.quotient-requires-clause-in_form
 quotient-requires-clause-in_form c =
     let d = c.args.design.now in
-    let f = rw c.in_ok-admitted.ensures.same at c.formed-formed.ensures in
-    let free = free-summed c.formed-formed.result (model_of d) f.options f.near c.free_sum.result c.free_sum.ensures in
-    free-formed c.formed-formed.result (model_of d) f.options f.near c.free_sum.result free.right
+    let f = rw c.in_ok-admitted.ensures.same at c.formed.ensures in
+    let free = free-summed c.formed.result (model_of d) f.options f.near c.free_sum.result c.free_sum.ensures in
+    free-formed c.formed.result (model_of d) f.options f.near c.free_sum.result free.right
 
 pub quotient-requires-clause-digits_bound : goal.quotient-requires-clause-digits_bound
 quotient-requires-clause-digits_bound c =
@@ -41,9 +41,9 @@ quotient-requires-clause-digits_bound c =
     let d = a.design.now in
     let l = lists_lent a.lists.now in
     let told = rw c.positions.ensures at c.wrong_lists.ensures in
-    let f = rw c.in_ok-admitted.ensures.same at c.formed-formed.ensures in
+    let f = rw c.in_ok-admitted.ensures.same at c.formed.ensures in
     let e = each (positions d) l told c.in_ok-admitted.ensures.own ∙ sym f.a_count_each in
-    (constrained-summed c.formed-formed.result (model_of d) f.options f.near (constraint_of l) e c.constrained_sum.result c.constrained_sum.ensures).digits
+    (constrained-summed c.formed.result (model_of d) f.options f.near (constraint_of l) e c.constrained_sum.result c.constrained_sum.ensures).digits
 
 pub quotient-requires-clause-modest : goal.quotient-requires-clause-modest
 quotient-requires-clause-modest c =
@@ -51,10 +51,10 @@ quotient-requires-clause-modest c =
     let d = a.design.now in
     let l = lists_lent a.lists.now in
     let told = rw c.positions.ensures at c.wrong_lists.ensures in
-    let f = rw c.in_ok-admitted.ensures.same at c.formed-formed.ensures in
+    let f = rw c.in_ok-admitted.ensures.same at c.formed.ensures in
     let e = each (positions d) l told c.in_ok-admitted.ensures.own ∙ sym f.a_count_each in (
-      (constrained-summed c.formed-formed.result (model_of d) f.options f.near (constraint_of l) e c.constrained_sum.result c.constrained_sum.ensures).modest,
-      (free-summed c.formed-formed.result (model_of d) f.options f.near c.free_sum.result c.free_sum.ensures).modest,
+      (constrained-summed c.formed.result (model_of d) f.options f.near (constraint_of l) e c.constrained_sum.result c.constrained_sum.ensures).modest,
+      (free-summed c.formed.result (model_of d) f.options f.near c.free_sum.result c.free_sum.ensures).modest,
     )
 
 pub returns : goal.returns
@@ -63,10 +63,10 @@ returns c =
     let d = a.design.now in
     let l = lists_lent a.lists.now in
     let told = rw c.positions.ensures at c.wrong_lists.ensures in
-    let f = rw c.in_ok-admitted.ensures.same at c.formed-formed.ensures in
+    let f = rw c.in_ok-admitted.ensures.same at c.formed.ensures in
     let e = each (positions d) l told c.in_ok-admitted.ensures.own ∙ sym f.a_count_each in
-    let constrained = constrained-summed c.formed-formed.result (model_of d) f.options f.near (constraint_of l) e c.constrained_sum.result c.constrained_sum.ensures in
-    let free = free-summed c.formed-formed.result (model_of d) f.options f.near c.free_sum.result c.free_sum.ensures in (
+    let constrained = constrained-summed c.formed.result (model_of d) f.options f.near (constraint_of l) e c.constrained_sum.result c.constrained_sum.ensures in
+    let free = free-summed c.formed.result (model_of d) f.options f.near c.free_sum.result c.free_sum.ensures in (
       ap (λ (size : Bool). first_of (energy_checks size d)) (sym told) ∙ sym c.in_ok-admitted.ensures.value,
-      probable c.formed-formed.result (model_of d) f.options f.near (constraint_of l) c.constrained_sum.result c.free_sum.result c.quotient.result constrained free c.quotient.ensures,
+      probable c.formed.result (model_of d) f.options f.near (constraint_of l) c.constrained_sum.result c.free_sum.result c.quotient.result constrained free c.quotient.ensures,
     )
