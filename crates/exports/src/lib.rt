@@ -6,6 +6,7 @@
 
 mod answers;
 pub mod designs;
+pub mod energies;
 mod figures;
 pub mod names;
 pub mod params;
