@@ -1,41 +1,62 @@
 // The weights of a design's own energies, in tables as wide as there are strands, row first: of each position and strand, and of each two strands.
 ghost use Rattle.std.specs.Prelude.{◌≡◌, ℕ, ◌*◌, ◌<◌, ◌≤◌, length};
 ghost use Rattle.model.specs.Model.{Friend};
-ghost use Rattle.design.specs.Design.{positions, strands, model_of};
+ghost use Rattle.design.specs.Design.{positions, strands, is_friend, model_of};
 ghost use Rattle.partition.specs.Weights.{weight_at};
-ghost use Rattle.probabilities.specs.Numbers.{place_argument, pair_argument};
+ghost use Rattle.probabilities.specs.Numbers as Numbers;
 ghost use Rattle.probabilities.specs.Weighed.{NearExp};
 ghost use Rattle.probabilities.specs.inner.Filled.{PlacesFilled, PairsFilled};
 
+use design::Design;
 use design::passed::AdmittedDesign;
 use exponential::exp_weight;
 use fractions::Weight;
+
+// Minus the rounded difference of scaffold bond and potential.
+fn place_argument(admitted: &AdmittedDesign, position: usize, strand: u8) -> f64
+    ensures { result ≡ Numbers.place_argument (model_of admitted.now) position strand }
+{
+    let design = admitted.design;
+    let bond = design.scaffold_bond(design.scaffold_glue(position), strand);
+    -(bond - design.potential_of(strand))
+}
+
+// Minus the strand bond.
+fn pair_argument(admitted: &AdmittedDesign, left: u8, right: u8) -> f64
+    ensures { result ≡ Numbers.pair_argument (model_of admitted.now) left right }
+{
+    -admitted.design.strand_bond(left, right)
+}
+
+// Whether a strand is a friend at a position.
+fn is_friend_at(design: &Design, position: usize, strand: u8) -> bool
+    ensures { result ≡ is_friend design.now position strand }
+{
+    !design.is_blocked(position) && design.is_friend(design.scaffold_glue(position), strand)
+}
 
 // The weight of a friend at its position. Of any other strand it is not worked out, since its potential may be no number, and is 0.
 fn place_weight(admitted: &AdmittedDesign, position: usize, strand: u8) -> Weight
     requires position_in_bounds { position < positions admitted.now }
     requires strand_in_bounds { strand < strands admitted.now }
-    ensures { Friend (model_of admitted.now) position strand → NearExp (place_argument (model_of admitted.now) position strand) result }
+    ensures { Friend (model_of admitted.now) position strand → NearExp (Numbers.place_argument (model_of admitted.now) position strand) result }
 {
-    let design = admitted.design;
-    design.hold_doubles();
-    let scaffold_glue = design.scaffold_glue(position);
-    if design.is_blocked(position) || !design.is_friend(scaffold_glue, strand) {
-        return Weight::default();
+    admitted.design.hold_doubles();
+    if is_friend_at(admitted.design, position, strand) {
+        exp_weight(place_argument(admitted, position, strand))
+    } else {
+        Weight::default()
     }
-    let bond = design.scaffold_bond(scaffold_glue, strand);
-    exp_weight(-(bond - design.potential_of(strand)))
 }
 
 // The weight of two strands, left and right.
 fn pair_weight(admitted: &AdmittedDesign, left: u8, right: u8) -> Weight
     requires left_in_bounds { left < strands admitted.now }
     requires right_in_bounds { right < strands admitted.now }
-    ensures { NearExp (pair_argument (model_of admitted.now) left right) result }
+    ensures { NearExp (Numbers.pair_argument (model_of admitted.now) left right) result }
 {
-    let design = admitted.design;
-    design.hold_doubles();
-    exp_weight(-design.strand_bond(left, right))
+    admitted.design.hold_doubles();
+    exp_weight(pair_argument(admitted, left, right))
 }
 
 // Writes the weight of each cell, digits and exponents apart.
