@@ -4,6 +4,7 @@
 //! A concentration is the potential itself, as in the oracle's mode `id`. The setters make the
 //! design; `d.build` checks nothing, so that every question meets what was set.
 
+use crate::energies;
 use crate::slices::{list, Filled};
 use crate::sums::Weights;
 use crate::{counted, placed, reply, DOUBLE, WHOLE};
@@ -45,6 +46,7 @@ impl Lent {
             "raw.len" | "raw.set" => self.set_raw(words).map(|()| None),
             "w.place" | "w.pair" => self.weights.set(words).map(|()| None),
             "sum" | "sum.lists" => self.weights.answer(self.design(), words).map(Some),
+            word if word.starts_with("energy.") => energies::answer(self.design(), words).map(Some),
             word if word.starts_with("d.") => self.set(words).map(|()| None),
             _ => self.question(words).map(Some),
         }

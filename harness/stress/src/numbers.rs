@@ -1,6 +1,7 @@
 //! Sequences, those by rank, loops, strengths, temperatures and decks.
 
 use crate::guarded::{Figure, Guarded};
+use crate::sums::call_of_one;
 use crate::{near, Tally};
 use compare::bases::{spoil, strand};
 use compare::decks::{self, any_configuration};
@@ -33,7 +34,7 @@ pub fn call(random: &mut Random, tally: &mut Tally) {
     let (a, b) = (any_sequence(random), any_sequence(random));
     let excess = any_double(random);
     let [mut x, mut y, mut z] = [Figure::double(), Figure::double(), Figure::double()];
-    match random.below(9) {
+    match random.below(10) {
         0 => {
             let number = mj::sequence(&a, x.lent(), y.lent());
             let one_by_one = (
@@ -90,6 +91,7 @@ pub fn call(random: &mut Random, tally: &mut Tally) {
             tally.call("published", number, number == 0 || none);
         }
         7 => short(random, tally),
+        8 => call_of_one(random.pick(&[excess, 400.0 * excess]), tally),
         _ => deck(random, tally),
     }
 }

@@ -5,6 +5,8 @@ pub mod blocked;
 pub mod ceiling;
 pub mod deck;
 pub mod design;
+pub mod energies;
+pub mod exponential;
 pub mod loops;
 pub mod names;
 pub mod pair;
@@ -92,5 +94,7 @@ pub fn all() -> Vec<Box<dyn Kind>> {
         Box::new(ceiling::Ceilings),
         Box::new(raw::RawDesigns),
         Box::new(sums::Sums::default()),
+        Box::new(exponential::Exponentials::default()),
+        Box::new(energies::Energies::default()),
     ]
 }
