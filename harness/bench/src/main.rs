@@ -45,6 +45,7 @@ fn main() {
         searches::remarks(),
         rings::remarks(),
         sums::remarks(),
+        sums::remarks_on_energies(),
     ];
     for remark in remarks.into_iter().flatten() {
         println!("{remark}");
