@@ -45,6 +45,19 @@ fn free(positions: usize) -> Lists {
     }
 }
 
+/// The exact sums over all states and over those that meet the lists; zero for what is refused.
+fn exact_sums(lent: &Lent, lists: &Lists, of_all: Verdict, of_some: Verdict) -> (Exact, Exact) {
+    if of_all != Verdict::Admitted {
+        return Default::default();
+    }
+    let weights = Weights::of(lent);
+    let some = match of_some {
+        Verdict::Admitted => sum(lent, &weights, Some(lists)),
+        _ => Exact::default(),
+    };
+    (sum(lent, &weights, None), some)
+}
+
 impl Energies {
     /// The free sum, the constrained one and the probability; and the probability of all states, which is 1.
     fn about(&self, setters: &str, lent: &Lent, lists: &Lists, ask: &mut Ask) {
@@ -53,45 +66,32 @@ impl Energies {
             energies::verdict(lent, None),
             energies::verdict(lent, Some(lists)),
         );
-        let mut asked = |line: String, verdict: Verdict, expected: &dyn Fn() -> Expected| {
+        let (all, some) = exact_sums(lent, lists, of_all, of_some);
+        let sum = |exact: &Exact| Expected::Sum(Rc::new(Asked::sum(exact.clone(), &self.sums)));
+        let part = Expected::Sum(Rc::new(Asked {
+            exact: some.clone(),
+            by: all.clone(),
+            seen: self.probabilities.clone(),
+        }));
+        let whole = Expected::Figures("1073741824 -30".to_string());
+        let free = free(lent.positions());
+        let asked = [
+            ("energy.sum".to_string(), of_all, sum(&all)),
+            (lists_line("energy.lists", lists), of_some, sum(&some)),
+            (lists_line("energy.part", lists), of_some, part),
+            (lists_line("energy.part", &free), of_all, whole),
+        ];
+        for (line, verdict, answered) in asked {
             ask(Question {
                 port: format!("{setters}{line}"),
                 oracle: None,
                 expected: match verdict {
-                    Verdict::Admitted => expected(),
+                    Verdict::Admitted => answered,
                     refused => Expected::Judged(refused),
                 },
                 about: None,
             });
-        };
-        let exact = match of_all {
-            Verdict::Admitted => {
-                let weights = Weights::of(lent);
-                let some = match of_some {
-                    Verdict::Admitted => sum(lent, &weights, Some(lists)),
-                    _ => Exact::default(),
-                };
-                (sum(lent, &weights, None), some)
-            }
-            _ => (Exact::default(), Exact::default()),
-        };
-        asked("energy.sum".to_string(), of_all, &|| {
-            Expected::Sum(Rc::new(Asked::sum(exact.0.clone(), &self.sums)))
-        });
-        asked(lists_line("energy.lists", lists), of_some, &|| {
-            Expected::Sum(Rc::new(Asked::sum(exact.1.clone(), &self.sums)))
-        });
-        asked(lists_line("energy.part", lists), of_some, &|| {
-            Expected::Sum(Rc::new(Asked {
-                exact: exact.1.clone(),
-                by: exact.0.clone(),
-                seen: self.probabilities.clone(),
-            }))
-        });
-        let free = free(lent.positions());
-        asked(lists_line("energy.part", &free), of_all, &|| {
-            Expected::Figures("1073741824 -30".to_string())
-        });
+        }
     }
 
     fn drawn(&self, random: &mut Random, shape: &Shape, ask: &mut Ask) {
