@@ -20,8 +20,9 @@
  *   - Doubles are rounded to nearest, and subnormals are kept: the mode in which a program starts.
  *     Not so after fesetround, in code that sets flush-to-zero or denormals-are-zero, or in a program
  *     that is linked with -ffast-math.
- *   - A call has 256 KiB of stack left on its thread: a search takes about 140, that over tables and
- *     the sums over states less than 64, mj_params 32, every other less than 16.
+ *   - A call has 256 KiB of stack left on its thread: a search takes about 140, the sums of energies
+ *     less than 160, the search over tables and the sums over states less than 64, mj_params 32, every
+ *     other less than 16.
  *
  * Sequences. Letters are a, c, g, t in either case; no NUL ends a sequence. Of two sequences the
  * second is read by index beside the first, not backwards: "aac" pairs with "ttg" without a mismatch.
@@ -44,8 +45,8 @@
  *    7 glues    the strands use more than 31 base names
  *    8 twice    two energy entries name the same unordered pair of known names
  *    9 range    a number not finite or outside its range, but for those of 15 to 17; a lent bond
- *               above 80,000 in size or not finite; an entry of a configuration above 63 that is to be
- *               written as a deck
+ *               above 80,000 in size or not finite, or such an argument of the exponential; an entry of
+ *               a configuration above 63 that is to be written as a deck
  *   10 null     strand 0 has a glue, or row or column 0 of a table a nonzero cell
  *   11 stranger a configuration holds, at some position, neither 0 nor a friend
  *   12 many     a design of more than 1,048,576 states
@@ -324,6 +325,27 @@ uint32_t mj_constrained_sum(MJ_DESIGN, const uint32_t *place_digits, size_t plac
                             const uint8_t *numbers, size_t number_count, const size_t *starts,
                             size_t start_count, const size_t *lengths, size_t length_count,
                             uint64_t *place, uint32_t *digits, int32_t *power);
+
+/* The exponential of a double from -80,000 to 80,000, told as digits * 2^power with digits from 2^30 up
+ * to, not including, 2^31: within one part in 2^24, and exactly 2^30 * 2^-30 of 0. Reply 9. */
+uint32_t mj_exp(double x, uint32_t *digits, int32_t *power);
+
+/* The same sums over the weights of a design's own energies: a position and a strand weigh the
+ * exponential of minus their bond less the strand's potential, rounded once; a left and a right strand
+ * that of minus their bond. Each sum lies within one part in 2^14 of that of the exact exponentials.
+ * Replies 1, 9, 10, 16, 17, 18. */
+uint32_t mj_free_sum_of_energies(MJ_DESIGN, uint64_t *place, uint32_t *digits, int32_t *power);
+uint32_t mj_constrained_sum_of_energies(MJ_DESIGN, const uint8_t *numbers, size_t number_count,
+                                        const size_t *starts, size_t start_count,
+                                        const size_t *lengths, size_t length_count,
+                                        uint64_t *place, uint32_t *digits, int32_t *power);
+
+/* The probability of the states that meet a constraint: their sum of energies by that over all states,
+ * in the form of a sum, within one part in 2^12 of the exact quotient; 0 * 2^0 exactly if no state meets
+ * it. Replies 1, 9, 10, 16, 17, 18. */
+uint32_t mj_probability(MJ_DESIGN, const uint8_t *numbers, size_t number_count, const size_t *starts,
+                        size_t start_count, const size_t *lengths, size_t length_count,
+                        uint64_t *place, uint32_t *digits, int32_t *power);
 
 /* The first state in listing order whose state energy is at most the ceiling, into one lent entry for
  * each position, 0 for an empty place, and its state energy in kcal/mol; on a refusal all entries are

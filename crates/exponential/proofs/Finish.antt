@@ -5,6 +5,8 @@ use Prim.Native.Nat.{ℕ, zero, suc, ◌+◌, ◌-◌, ◌*◌, ◌/◌, ◌^◌
 use native.Mathlib.Nat.{le_trans, le_of_eq, le_refl, le_of_mul-le-mul_right, mul-one, one-mul, div-mul-le_self, lt-div-mul-add, le-div_iff_mul-le, div-le_of_le-mul, add-suc, add-zero, pow-suc, zero-mul}
 use native.Mathlib.Omega.{arith}
 use lib.IntN.{ℤ, pos, negsuc, ◌-ℤ◌, sub_ℕ}
+use lib.Signed.{mag, le_z}
+use borrow.Author.Tests.{le-leb}
 use lib.Dec.{T, ltb, ltb→lt, nltb→le, lit≤, lit<}
 use lib.Pow.{pow_pos, pow-add}
 use lib.Ieee.{Float, nan, inf, fin, binary64, up, down, lt, of_bits}
@@ -65,6 +67,11 @@ near_same s p q a b c d B e n = record {
 }
 
 -- ---- the three ends of the program
+
+in-range : (z : ℤ) → mag z < 400000 → (le_z (negsuc 399999) z ≡ true) × (le_z z (pos 400000) ≡ true)
+in-range (pos k) h = (refl, le-leb k 400000 (omega arith))
+in-range (negsuc k) h = (le-leb k 399999 (omega arith), refl)
+
 none_below : (x : Float) → T (finite x) → lt x zero_float ≡ true → num x ≡ 0 → ⊥
 unfolding lt
 none_below nan p h e = absurd p
@@ -78,6 +85,7 @@ module _ (x : Float) (y d k : ℕ) (p : T (finite x)) (c : Cut x y) (w : Weighed
       let e : to_z w32 (of_z w32 (to_z w32 k -ℤ pos 30)) ≡ sub_ℕ k 30 = to_z-of_z (plus-fits k w.power) ∙ ap (λ (z : ℤ). z -ℤ pos 30) (read k w.power) in
       rw e (record {
         in_form = record { least = w.least; most = w.most };
+        exponent = in-range (sub_ℕ k 30) (sub_cases k w.power (λ z. mag z < 400000) (λ h. omega (arith, w.power)) (λ h. omega (arith, w.power)));
         near = rw h (weight-plus (num x) (den x) y d k (den_pos x) c.under c.above w (up (sub_ℕ k 30)) (down (sub_ℕ k 30)) (plus-power k w.power));
         one = zero_one;
       })
@@ -112,6 +120,7 @@ module _ (x : Float) (y d k : ℕ) (p : T (finite x)) (c : Cut x y) (w : Weighed
   pub finish-minus : lt x zero_float ≡ true → (2 ^ 61 / d ≡ 2 ^ 31 → ⊥) → ExpOf x (weight (2 ^ 61 / d) (to_z w32 (of_z w32 (negsuc 30 -ℤ to_z w32 k))))
   finish-minus h n = rw (minus-back 30 k refl (lit≤ tt) w.power) (record {
     in_form = record { least = quotient-least; most = omega (arith, quotient-most) };
+    exponent = in-range (negsuc (30 + k)) (omega (arith, w.power));
     near = rw h near-below;
     one = λ z. absurd (none_below x p h z);
   })
@@ -119,6 +128,7 @@ module _ (x : Float) (y d k : ℕ) (p : T (finite x)) (c : Cut x y) (w : Weighed
   pub finish-whole : lt x zero_float ≡ true → 2 ^ 61 / d ≡ 2 ^ 31 → ExpOf x (weight (2 ^ 30) (to_z w32 (of_z w32 (negsuc 29 -ℤ to_z w32 k))))
   finish-whole h e = rw (minus-back 29 k refl (lit≤ tt) w.power) (record {
     in_form = record { least = le_refl (2 ^ 30); most = lit< tt };
+    exponent = in-range (negsuc (29 + k)) (omega (arith, w.power));
     near = rw h (near_same true (num x) (den x) (2 ^ 61 / d * 1) (2 ^ suc (30 + k)) (2 ^ 30 * 1) (2 ^ suc (29 + k)) (pow_pos (suc (30 + k))) same near-below);
     one = λ z. absurd (none_below x p h z);
   })

@@ -1,5 +1,6 @@
 -- What it is for a weight to lie near the exponential of a double; and which doubles are taken.
-use Rattle.std.specs.Prelude.{Bool, true, false, ◌≡◌, ℕ, ◌*◌, ◌<◌, pos, Float}
+use Rattle.std.specs.Prelude.{Bool, true, false, ◌≡◌, ℕ, ◌*◌, ◌<◌, pos, negsuc, Float}
+use Rattle.std.specs.Int.Signed.{le_z}
 use Rattle.std.specs.Float.{fin, binary64}
 use Rattle.std.specs.Float.Ieee.{round, lt}
 use Rattle.std.specs.Float.Ieee.Positive.{num, den}
@@ -19,9 +20,11 @@ pub record ExpNear (sign : Bool) (p q : ℕ) (w : Frac) : Type 0 where
 abbrev pub zero_float : Float
 zero_float = fin false 0 (pos 0)
 
--- a weight in its form, within one part in 2^24 of the exponential of the double x, which is ± num / den; that of 0, and of −0, is 1
+-- a weight in its form, with an exponent from −400,000 to 400,000, within one part in 2^24 of the exponential of the double x, which is ± num / den;
+-- that of 0, and of −0, is 1
 pub record ExpOf (x : Float) (w : Weight) : Type 0 where
   pub in_form : InForm w
+  pub exponent : (le_z (negsuc 399999) w.power ≡ true) × (le_z w.power (pos 400000) ≡ true)
   pub near : ExpNear (lt x zero_float) (num x) (den x) (worth w)
   pub one : num x ≡ 0 → w ≡ unit
 

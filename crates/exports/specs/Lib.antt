@@ -6,5 +6,6 @@ pub mod Place
 pub mod Stored
 pub mod Tables
 pub mod Sums
+pub mod Energies
 pub mod Told
 pub mod Builds

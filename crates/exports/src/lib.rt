@@ -6,6 +6,7 @@
 
 mod answers;
 pub mod designs;
+pub mod energies;
 mod figures;
 pub mod lent;
 pub mod names;

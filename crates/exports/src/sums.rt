@@ -17,7 +17,7 @@ use reply::{Refusal, Refused};
 use state_sums::{LentLists, LentWeights};
 
 // A sum: its digits and its exponent, both 0 for zero.
-fn tell_sum(
+pub(crate) fn tell_sum(
     answer: Result<Weight, Refused>,
     place: &mut u64,
     digits: &mut u32,

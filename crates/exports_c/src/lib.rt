@@ -3,6 +3,7 @@
 #![tactic(auto)]
 
 mod designs;
+mod energies;
 mod names;
 mod params;
 mod rings;

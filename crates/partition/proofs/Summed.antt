@@ -54,13 +54,13 @@ keep-length p (x ∷ xs) = go (p x) (keep-length p xs)
     go true h = omega arith
     go false h = omega arith
 
-few-allowed : (cs options : List (List ℕ)) → Few options → Few (allowed cs options)
+pub few-allowed : (cs options : List (List ℕ)) → Few options → Few (allowed cs options)
 unfolding allowed
 few-allowed [] options f = tt
 few-allowed (c ∷ cs) [] f = tt
 few-allowed (c ∷ cs) (here ∷ later) f = (le_trans (keep-length (allows c) here) f.0, few-allowed cs later f.1)
 
-allowed-length : (cs options : List (List ℕ)) → length cs ≡ length options → length (allowed cs options) ≡ length options
+pub allowed-length : (cs options : List (List ℕ)) → length cs ≡ length options → length (allowed cs options) ≡ length options
 unfolding allowed
 allowed-length [] [] e = refl
 allowed-length [] (h ∷ o) e = absurd (suc-ne-zero _ (sym e))

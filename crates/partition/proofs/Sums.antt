@@ -38,7 +38,7 @@ none-member {A} {x} p (y ∷ ys) e m = go (Memᴰ.cases_cons m) (neither (p y) (
     go (inr k) b rest = rest k
 
 -- an option that is not 0 is a friend
-occupied : {x : ℕ} (friends : List ℕ) → (x ≡ 0 → ⊥) → Memᴰ x (options_of friends) → Memᴰ x friends
+pub occupied : {x : ℕ} (friends : List ℕ) → (x ≡ 0 → ⊥) → Memᴰ x (options_of friends) → Memᴰ x friends
 occupied {x} friends some m = go (Memᴰ.append_cases friends m)
   where
     go : Memᴰ x friends ⊎ Memᴰ x (0 ∷ []) → Memᴰ x friends

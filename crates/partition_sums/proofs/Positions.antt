@@ -107,11 +107,11 @@ module _ {strands : ℕ} {rows counts : List ℕ} (s : Searchable strands rows c
   unfolding options_in
   options-at i h = get_or-tabulate (length counts) (options_at rows counts) [] i h
 
-  few-options : Few (options_in rows counts)
+  pub few-options : Few (options_in rows counts)
   unfolding options_in
   few-options = few-tabulate (length counts) (options_at rows counts) few-at
 
-  some-options : none_left (options_in rows counts) ≡ false
+  pub some-options : none_left (options_in rows counts) ≡ false
   unfolding options_in
   some-options = some-tabulate (length counts) (options_at rows counts) some_at
 

@@ -3,3 +3,9 @@ pub mod Quotients
 pub mod Division
 pub mod Exponents
 pub mod Energies
+pub mod Arguments
+pub mod Lists
+pub mod NearWeights
+pub mod Used
+pub mod Replies
+pub mod Summable

@@ -1,3 +1,5 @@
 pub mod Numbers
 pub mod Weighed
 pub mod Quotient
+pub mod Answers
+pub mod inner

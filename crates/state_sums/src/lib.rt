@@ -3,7 +3,7 @@
 // and right strand.
 #![tactic(auto)]
 
-mod sizes;
+pub mod sizes;
 
 ghost use Rattle.std.specs.Prelude.{◌≡◌, true, false, ◌*◌, ◌<◌, ◌≤◌, length, IfOk, IfErr};
 ghost use Rattle.reply.specs.First.{nowhere};

@@ -36,7 +36,7 @@ fn list_outside(many: usize, start: usize, length: usize) -> bool
 
 // Whether there is not just one list for each position, or one leaves the numbers.
 #[tactic(auto, unfolding(crate::specs::Sizes::wrong_lists))]
-pub(crate) fn wrong_lists(positions: usize, lists: &LentLists<'_>) -> bool
+pub fn wrong_lists(positions: usize, lists: &LentLists<'_>) -> bool
     ensures { result ≡ wrong_lists positions (lists_lent lists.now) }
 {
     let LentLists {

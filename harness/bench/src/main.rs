@@ -48,6 +48,7 @@ fn main() {
         rings::remarks(),
         sums::remarks(),
         concentrations::remarks(),
+        sums::remarks_on_energies(),
     ];
     for remark in remarks.into_iter().flatten() {
         println!("{remark}");

@@ -589,6 +589,37 @@ static void sums(void)
 #undef WEIGHTS
 }
 
+/* The friends of the bench table's two positions weigh 1 and e^3, and as neighbours 1. */
+static void energies(void)
+{
+    static const uint8_t numbers[2] = {1, 2};
+    static const size_t starts[2] = {0, 1}, lengths[2] = {1, 1}, free_starts[2] = {0, 0};
+    static const size_t free_lengths[2] = {0, 0};
+    uint64_t place = unread;
+    uint32_t digits = 0xa5a5a5a5;
+    int32_t power = INT32_MIN;
+    reply("an exponential", mj_exp(0.0, &digits, &power), 0);
+    count("it is 1", digits == 1u << 30 && power == -30);
+    reply("the exponential of no number", mj_exp(NAN, &digits, &power), 9);
+    count("no exponential", digits == 0 && power == 0);
+    reply("a sum of energies", mj_free_sum_of_energies(DESIGN, &place, &digits, &power), 0);
+    count("its place", place == MJ_NOWHERE);
+    count("it is near 42.17", power == -25 && digits / (1u << 25) == 42);
+    reply("a sum of energies of both friends",
+          mj_constrained_sum_of_energies(DESIGN, numbers, 2, starts, 2, lengths, 2, &place, &digits,
+                                         &power), 0);
+    count("it is near 20.09", power == -26 && digits / (1u << 26) == 20);
+    reply("a probability",
+          mj_probability(DESIGN, numbers, 2, starts, 2, lengths, 2, &place, &digits, &power), 0);
+    count("it is near 0.476", power == -32 && digits / 1000000 == 2045);
+    reply("the probability of all",
+          mj_probability(DESIGN, numbers, 2, free_starts, 2, free_lengths, 2, &place, &digits,
+                         &power), 0);
+    count("it is 1", digits == 1u << 30 && power == -30);
+    reply("lists of another size",
+          mj_probability(DESIGN, numbers, 2, starts, 1, lengths, 2, &place, &digits, &power), 1);
+}
+
 /* Position 0 has the scaffold name at `site`; the entry for b is the sequence AC, and the quencher
  * copies strand 1. */
 static uint32_t built(uint32_t build, size_t site, size_t length, uint8_t *glues, uint8_t *scaffold, double *dg,
@@ -680,6 +711,7 @@ int main(void)
     concentrations();
     rings();
     sums();
+    energies();
     names();
     params();
     printf("client: %u passed, %u failed\n", passed, failed);

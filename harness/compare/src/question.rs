@@ -27,7 +27,7 @@ pub enum Expected {
     /// A first figure whose bits are open, where the others are the Rust's: it lies within so much
     /// of the judge's, if there is one, and within twice that of the Rust's.
     Near { exact: Option<f64>, slack: f64 },
-    /// A sum over states, within one part in 2^15 of the exact one.
+    /// A sum over states, or a quotient of two, near the exact one.
     Sum(Rc<Asked>),
     /// A logarithm, within 2^-40 of the exact one.
     Logarithm(Rc<logarithms::Asked>),
@@ -95,7 +95,7 @@ impl Question {
             Expected::Judged(verdict) => verdict.to_string(),
             Expected::Figures(figures) => format!("ok {figures}"),
             Expected::Near { exact, slack } => format!("ok, near {exact:?}, by {slack:e}"),
-            Expected::Sum(asked) => format!("ok, within one part in 2^15 of {:?}", asked.exact),
+            Expected::Sum(asked) => format!("ok, near {:?} by {:?}", asked.exact, asked.by),
             Expected::Logarithm(asked) => format!("ok, within 2^-40 of {:?}", asked.exact),
         }
     }

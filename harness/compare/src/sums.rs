@@ -1,24 +1,27 @@
-//! Sums that are asked for, held against exact ones, and how far they were apart at most.
+//! Sums and quotients of sums that are asked for, held against exact ones, and how far they were apart at most.
 
 use crate::judge::exact::Exact;
 use std::cell::Cell;
 use std::rc::Rc;
 
-/// "Within one part in 2 to the 15."
-const PARTS: u32 = 15;
-
-/// The sums of a run.
-#[derive(Debug, Default)]
+/// The sums, or other figures, of a run.
+#[derive(Debug)]
 pub struct Seen {
+    /// What they are.
+    what: &'static str,
+    /// "Within one part in 2 to the" so much.
+    parts: u32,
     sums: Cell<u64>,
     zeros: Cell<u64>,
     apart: Cell<f64>,
 }
 
-/// A sum that is expected.
+/// A sum that is expected, or a quotient of two.
 #[derive(Debug)]
 pub struct Asked {
     pub exact: Exact,
+    /// What it is divided by: 1 of a sum.
+    pub by: Exact,
     pub seen: Rc<Seen>,
 }
 
@@ -27,6 +30,14 @@ fn one_more(count: &Cell<u64>) {
 }
 
 impl Asked {
+    pub fn sum(exact: Exact, seen: &Rc<Seen>) -> Self {
+        Asked {
+            exact,
+            by: Exact::one(),
+            seen: seen.clone(),
+        }
+    }
+
     /// Why the port's digits and power are not the sum, or None.
     pub fn difference(&self, figures: &str) -> Option<&'static str> {
         let (digits, power) = figures.split_once(' ').unwrap_or((figures, ""));
@@ -42,24 +53,36 @@ impl Asked {
         if !(1 << 30..1 << 31).contains(&digits) {
             return Some("not in form");
         }
-        let apart = self.exact.parting(digits, i64::from(power));
+        let given = self.by.times(digits, i64::from(power));
+        let apart = self.exact.parting(&given);
         self.seen.apart.set(self.seen.apart.get().max(apart));
-        let within = self.exact.is_within(PARTS, digits, i64::from(power));
-        (!within).then_some("not within one part in 2^15")
+        let within = self.exact.is_within(self.seen.parts, &given);
+        (!within).then_some("not near enough to the exact one")
     }
 }
 
 impl Seen {
+    pub fn of(what: &'static str, parts: u32) -> Rc<Self> {
+        Rc::new(Seen {
+            what,
+            parts,
+            sums: Cell::default(),
+            zeros: Cell::default(),
+            apart: Cell::default(),
+        })
+    }
+
     pub fn zeros(&self) -> u64 {
         self.zeros.get()
     }
 
-    /// The largest error, which has to be below one part in 2^15.
+    /// The largest error, which has to be below what is promised.
     pub fn said(&self) -> Result<String, String> {
-        let (sums, apart) = (self.sums.get(), self.apart.get());
-        let most = (-f64::from(PARTS)).exp2();
-        let said =
-            format!("{sums} sums at most {apart:e} of the exact ones apart; 2^-15 is {most:e}");
+        let (sums, apart, parts) = (self.sums.get(), self.apart.get(), self.parts);
+        let (what, most) = (self.what, (-f64::from(parts)).exp2());
+        let said = format!(
+            "{sums} {what} at most {apart:e} of the exact ones apart; 2^-{parts} is {most:e}"
+        );
         match sums > 0 && apart < most {
             true => Ok(said),
             false => Err(said),
@@ -73,10 +96,7 @@ mod tests {
 
     #[test]
     fn a_sum_is_told_from_its_neighbours() {
-        let asked = |exact: Exact| Asked {
-            exact,
-            seen: Rc::default(),
-        };
+        let asked = |exact: Exact| Asked::sum(exact, &Seen::of("sums", 15));
         let three = asked(Exact::one().times(3, 0));
         assert_eq!(three.difference("1610612736 -29"), None);
         assert_eq!(three.difference("1610612735 -29"), None);
@@ -90,5 +110,17 @@ mod tests {
         assert_eq!(none.difference("0 0"), None);
         assert!(none.difference("1073741824 -400000").is_some());
         assert_eq!((none.seen.zeros(), none.seen.said().is_ok()), (2, true));
+    }
+
+    #[test]
+    fn a_quotient_is_told_from_its_neighbours() {
+        let third = Asked {
+            exact: Exact::one().times(1, 500_000),
+            by: Exact::one().times(3, 500_000),
+            seen: Seen::of("quotients", 12),
+        };
+        assert_eq!(third.difference("1431655765 -32"), None);
+        assert!(third.difference("1431655765 -31").is_some());
+        assert!(third.difference("1073741824 -30").is_some());
     }
 }

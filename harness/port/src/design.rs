@@ -5,6 +5,7 @@
 //! `d.concentrations` lends others in place of all of them. The setters make the design; `d.build` checks
 //! nothing, so that every question meets what was set.
 
+use crate::energies;
 use crate::slices::{list, Filled};
 use crate::sums::Weights;
 use crate::{counted, placed, reply, DOUBLE, WHOLE};
@@ -50,6 +51,7 @@ impl Lent {
             "raw.len" | "raw.set" => self.set_raw(words).map(|()| None),
             "w.place" | "w.pair" => self.weights.set(words).map(|()| None),
             "sum" | "sum.lists" => self.weights.answer(self.design(), words).map(Some),
+            word if word.starts_with("energy.") => energies::answer(self.design(), words).map(Some),
             word if word.starts_with("d.") => self.set(words).map(|()| None),
             _ => self.question(words).map(Some),
         }

@@ -3,6 +3,7 @@
 
 mod deck;
 mod design;
+mod energies;
 mod logarithm;
 mod names;
 mod params;
@@ -35,6 +36,7 @@ fn answer(lent: &mut Lent, tables: &mut Tables, words: Words) -> Result<Option<R
         "short" => short::answer(words).map(Some),
         "ln" => logarithm::answer(words).map(Some),
         "ambient" => temperature::answer(words).map(Some),
+        "exp" => energies::exponential(words).map(Some),
         "deck.read" | "deck.write" | "deck.move" => deck::answer(words).map(Some),
         "params" => params::answer(words).map(Some),
         "name" | "raw.name" | "raw.glues" => names::answer(words).map(Some),

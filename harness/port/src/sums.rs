@@ -12,8 +12,8 @@ use mujplesten as mj;
 use protocol::{expect_words, whole, Complaint, Reply, Words};
 
 /// What a figure holds before a call: no call answers it.
-const DIGITS: u32 = 0xa5a5_a5a5;
-const POWER: i32 = i32::MIN + 0xa5;
+pub const DIGITS: u32 = 0xa5a5_a5a5;
+pub const POWER: i32 = i32::MIN + 0xa5;
 
 #[derive(Default)]
 pub struct Weights {

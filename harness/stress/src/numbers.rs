@@ -1,6 +1,7 @@
 //! Sequences, those by rank, loops, strengths, logarithms, temperatures and decks.
 
 use crate::guarded::{Figure, Guarded};
+use crate::sums::call_of_one;
 use crate::{near, Tally};
 use compare::bases::{spoil, strand};
 use compare::decks::{self, any_configuration};
@@ -35,7 +36,7 @@ pub fn call(random: &mut Random, tally: &mut Tally) {
     let (a, b) = (any_sequence(random), any_sequence(random));
     let excess = any_double(random);
     let [mut x, mut y, mut z] = [Figure::double(), Figure::double(), Figure::double()];
-    match random.below(10) {
+    match random.below(11) {
         0 => {
             let number = mj::sequence(&a, x.lent(), y.lent());
             let one_by_one = (
@@ -99,6 +100,7 @@ pub fn call(random: &mut Random, tally: &mut Tally) {
             let fit = x.is_fit(number) && (number == 15) == is_dilute(argument);
             tally.call("ln", number, fit);
         }
+        9 => call_of_one(random.pick(&[excess, 400.0 * excess]), tally),
         _ => deck(random, tally),
     }
 }

@@ -91,6 +91,56 @@ pub fn call(asked: &Asked, random: &mut Random, tally: &mut Tally) {
     tally.call(function, number, fit);
 }
 
+/// The sums over the exponentials of the design's own energies, and the probability.
+pub fn call_of_energies(asked: &Asked, random: &mut Random, tally: &mut Tally) {
+    let (mut place, mut digits, mut power) = (Figure::whole(), Figure::digits(), Figure::power());
+    let lent = random.below(300);
+    let numbers: Vec<u8> = (0..lent).map(|_| random.bits() as u8 & 63).collect();
+    let (starts, lengths) = spans(random, asked.positions, lent);
+    let lists = mj::Lists {
+        numbers: &numbers,
+        starts: &starts,
+        lengths: &lengths,
+    };
+    let which = random.below(3);
+    let (place_lent, digits_lent, power_lent) = (place.lent(), digits.lent(), power.lent());
+    let (function, number) = match which {
+        0 => (
+            "free_sum_of_energies",
+            mj::free_sum_of_energies(asked.design, place_lent, digits_lent, power_lent),
+        ),
+        1 => (
+            "constrained_sum_of_energies",
+            mj::constrained_sum_of_energies(
+                asked.design,
+                lists,
+                place_lent,
+                digits_lent,
+                power_lent,
+            ),
+        ),
+        _ => (
+            "probability",
+            mj::probability(asked.design, lists, place_lent, digits_lent, power_lent),
+        ),
+    };
+    let told = digits.told();
+    let in_form = number != 0 || (1 << 30..1 << 31).contains(&told);
+    let zero = which != 0 && told == 0 && power.told() == 0;
+    let figures = digits.is_fit(number) && power.is_fit(number);
+    let fit = asked.is_placed(&place, number) && figures && (in_form || zero);
+    tally.call(function, number, fit);
+}
+
+/// The exponential of a double.
+pub fn call_of_one(x: f64, tally: &mut Tally) {
+    let (mut digits, mut power) = (Figure::digits(), Figure::power());
+    let number = mj::exp(x, digits.lent(), power.lent());
+    let in_form = number != 0 || (1 << 30..1 << 31).contains(&digits.told());
+    let fit = digits.is_fit(number) && power.is_fit(number) && in_form;
+    tally.call("exp", number, fit);
+}
+
 /// Where each list starts and how long it is, among so many numbers; now and then one past them.
 fn spans(random: &mut Random, positions: usize, lent: usize) -> (Vec<usize>, Vec<usize>) {
     let positions = match random.once_in(16) {

@@ -31,6 +31,106 @@ pub fn sums(checks: &mut Checks) {
     free(checks, design, weights);
     constrained(checks, design, weights);
     stack(checks);
+    energies(checks, design);
+    stack_of_energies(checks);
+    exponentials(checks);
+}
+
+/// digits × 2^power as a double.
+fn double(digits: u32, power: i32) -> f64 {
+    f64::from(digits) * f64::from(power).exp2()
+}
+
+/// The friends weigh 1 and e^3, and as neighbours 1: the sum over the four states is 2 + 2 e^3, and both
+/// stand there with the probability e^3 / (2 + 2 e^3).
+fn energies(checks: &mut Checks, design: mj::Design) {
+    let cube = 3f64.exp();
+    let both = mj::Lists {
+        numbers: &[1, 2],
+        starts: &[0, 1],
+        lengths: &[1, 1],
+    };
+    let none = mj::Lists {
+        lengths: &[1, 0],
+        starts: &[1, 1],
+        ..both
+    };
+    let (mut place, mut digits, mut power) = (WHOLE, u32::MAX, i32::MIN);
+    let number = mj::free_sum_of_energies(design, &mut place, &mut digits, &mut power);
+    checks.reply("a sum of energies", number, 0);
+    checks.place("its place", place, mj::NOWHERE);
+    let near = (double(digits, power) / (2.0 + 2.0 * cube) - 1.0).abs() < 6e-5;
+    checks.count("it", near, format!("{digits} {power}"));
+    let number = mj::constrained_sum_of_energies(design, both, &mut place, &mut digits, &mut power);
+    checks.reply("a sum of both friends", number, 0);
+    let near = (double(digits, power) / cube - 1.0).abs() < 6e-5;
+    checks.count("it", near, format!("{digits} {power}"));
+    let number = mj::probability(design, both, &mut place, &mut digits, &mut power);
+    checks.reply("a probability", number, 0);
+    let near = (double(digits, power) * (2.0 + 2.0 * cube) / cube - 1.0).abs() < 2.5e-4;
+    checks.count("it", near, format!("{digits} {power}"));
+    let number = mj::probability(design, none, &mut place, &mut digits, &mut power);
+    checks.reply("a probability of strangers", number, 0);
+    checks.count("it", (digits, power) == (0, 0), format!("{digits} {power}"));
+    let bare = mj::Design {
+        scaffold: &[],
+        marks: &[],
+        ..design
+    };
+    let number = mj::free_sum_of_energies(bare, &mut place, &mut digits, &mut power);
+    checks.reply("energies of no positions", number, 18);
+    let number = mj::probability(bare, both, &mut place, &mut digits, &mut power);
+    checks.reply("lists of another size", number, 1);
+}
+
+fn exponentials(checks: &mut Checks) {
+    let (mut digits, mut power) = (u32::MAX, i32::MIN);
+    checks.reply("an exponential", mj::exp(-0.0, &mut digits, &mut power), 0);
+    let told = format!("{digits} {power}");
+    checks.count("it", (digits, power) == (ONE, -30), told);
+    checks.reply("a large one", mj::exp(80_000.0, &mut digits, &mut power), 0);
+    let told = format!("{digits} {power}");
+    checks.count("it", (1 << 30..1 << 31).contains(&digits), told);
+    let number = mj::exp(80_000.5, &mut digits, &mut power);
+    checks.reply("a larger one", number, 9);
+    checks.count("it", (digits, power) == (0, 0), format!("{digits} {power}"));
+}
+
+/// The stack that the header says is enough for sums of energies of 128 positions with 63 friends each. All
+/// weights are 1: bond and potential are both -2.
+fn stack_of_energies(checks: &mut Checks) {
+    let summed = std::thread::Builder::new()
+        .stack_size(160 * 1024)
+        .spawn(|| {
+            let mut dg = vec![0.0; 4096];
+            dg[65] = -1.0;
+            let glues = [vec![0; 3], [2, 1, 2].repeat(63)].concat();
+            let design = mj::Design {
+                scaffold: &[1; 128],
+                marks: &[0; 128],
+                glues: &glues,
+                dg: &dg,
+                ds: &vec![0.0; 4096],
+                potentials: &vec![-2.0; 64],
+                rt: 0.5,
+                strand_excess: 0.0,
+                scaffold_excess: 0.0,
+            };
+            let lists = mj::Lists {
+                numbers: &[5, 63],
+                starts: &vec![0; 128],
+                lengths: &vec![2; 128],
+            };
+            let (mut place, mut digits, mut power) = (WHOLE, 0, 0);
+            let number = mj::probability(design, lists, &mut place, &mut digits, &mut power);
+            (number, digits, power)
+        });
+    let of_two = summed.expect("a thread").join().expect("an answer");
+    checks.count(
+        "the probability of two at each",
+        of_two == (0, ONE, 128 - 6 * 128 - 30),
+        format!("{of_two:?}"),
+    );
 }
 
 /// The stack that the header says is enough for sums of 128 positions with 63 friends each. All weights

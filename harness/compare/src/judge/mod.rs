@@ -7,6 +7,7 @@
 pub mod ceiling;
 pub mod deck;
 pub mod design;
+pub mod energies;
 pub mod exact;
 pub mod logarithm;
 pub mod parameters;

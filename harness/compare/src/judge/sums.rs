@@ -33,6 +33,58 @@ fn unformed(digits: u32, power: i32) -> bool {
     !(1 << 30..1 << 31).contains(&digits) || !(-400_000..=400_000).contains(&power)
 }
 
+/// What the states multiply: "an empty place, and a pair with one, has the factor 1".
+pub trait Factors {
+    /// The weight of a strand at a position.
+    fn times_place(&self, lent: &Lent, sum: &Exact, position: usize, strand: u8) -> Exact;
+
+    /// The weight of a left and a right strand.
+    fn times_pair(&self, lent: &Lent, sum: &Exact, left: u8, right: u8) -> Exact;
+}
+
+fn with_place(
+    factors: &impl Factors,
+    lent: &Lent,
+    sum: &Exact,
+    position: usize,
+    strand: u8,
+) -> Exact {
+    match strand {
+        0 => sum.clone(),
+        _ => factors.times_place(lent, sum, position, strand),
+    }
+}
+
+fn with_pair(factors: &impl Factors, lent: &Lent, sum: &Exact, left: u8, right: u8) -> Exact {
+    match (left, right) {
+        (0, _) | (_, 0) => sum.clone(),
+        _ => factors.times_pair(lent, sum, left, right),
+    }
+}
+
+fn product(factors: &impl Factors, lent: &Lent, state: &[u8]) -> Exact {
+    let mut product = Exact::one();
+    for (position, strand) in state.iter().enumerate() {
+        product = with_place(factors, lent, &product, position, *strand);
+    }
+    for two in state.windows(2) {
+        product = with_pair(factors, lent, &product, two[0], two[1]);
+    }
+    product
+}
+
+impl Factors for Weights {
+    fn times_place(&self, lent: &Lent, sum: &Exact, position: usize, strand: u8) -> Exact {
+        let (digits, power) = self.place(lent, position, strand);
+        sum.times(digits, i64::from(power))
+    }
+
+    fn times_pair(&self, lent: &Lent, sum: &Exact, left: u8, right: u8) -> Exact {
+        let (digits, power) = self.pair(lent, left, right);
+        sum.times(digits, i64::from(power))
+    }
+}
+
 impl Weights {
     fn wrong_sizes(&self, lent: &Lent) -> bool {
         let (places, pairs) = (
@@ -68,39 +120,11 @@ impl Weights {
         };
         friends.iter().enumerate().any(place) || friends.windows(2).any(pair)
     }
-
-    /// "An empty place, and a pair with one, has the factor 1."
-    fn times_place(&self, lent: &Lent, sum: &Exact, position: usize, strand: u8) -> Exact {
-        if strand == 0 {
-            return sum.clone();
-        }
-        let (digits, power) = self.place(lent, position, strand);
-        sum.times(digits, i64::from(power))
-    }
-
-    fn times_pair(&self, lent: &Lent, sum: &Exact, left: u8, right: u8) -> Exact {
-        if left == 0 || right == 0 {
-            return sum.clone();
-        }
-        let (digits, power) = self.pair(lent, left, right);
-        sum.times(digits, i64::from(power))
-    }
-
-    fn product(&self, lent: &Lent, state: &[u8]) -> Exact {
-        let mut product = Exact::one();
-        for (position, strand) in state.iter().enumerate() {
-            product = self.times_place(lent, &product, position, *strand);
-        }
-        for two in state.windows(2) {
-            product = self.times_pair(lent, &product, two[0], two[1]);
-        }
-        product
-    }
 }
 
 impl Lists {
     /// "1 if the lists are not one per position"; a list that leaves the numbers is none.
-    fn wrong_sizes(&self, lent: &Lent) -> bool {
+    pub(super) fn wrong_sizes(&self, lent: &Lent) -> bool {
         let inside = |(start, length): (&usize, &usize)| {
             start
                 .checked_add(*length)
@@ -128,14 +152,14 @@ pub fn verdict(lent: &Lent, weights: &Weights, lists: Option<&Lists>) -> Verdict
 }
 
 /// The exact sum over the states that meet the lists, all of them without lists.
-pub fn sum(lent: &Lent, weights: &Weights, lists: Option<&Lists>) -> Exact {
+pub fn sum(lent: &Lent, factors: &impl Factors, lists: Option<&Lists>) -> Exact {
     match lent.count() <= LISTED {
-        true => listed(lent, weights, lists),
-        false => passed(lent, weights, lists),
+        true => listed(lent, factors, lists),
+        false => passed(lent, factors, lists),
     }
 }
 
-fn listed(lent: &Lent, weights: &Weights, lists: Option<&Lists>) -> Exact {
+fn listed(lent: &Lent, factors: &impl Factors, lists: Option<&Lists>) -> Exact {
     let meets = |state: &[u8]| {
         let mut places = state.iter().enumerate();
         lists.is_none_or(|lists| places.all(|(position, x)| lists.allows(position, *x)))
@@ -143,14 +167,14 @@ fn listed(lent: &Lent, weights: &Weights, lists: Option<&Lists>) -> Exact {
     let states = (0..lent.count() as u64).map(|rank| lent.state(rank));
     let products = states
         .filter(|state| meets(state))
-        .map(|state| weights.product(lent, &state));
+        .map(|state| product(factors, lent, &state));
     products.fold(Exact::default(), |sum, product| sum.plus(&product))
 }
 
 /// What stands at a position, with the sum over all that can stand before it.
 type Row = Vec<(u8, Exact)>;
 
-fn passed(lent: &Lent, weights: &Weights, lists: Option<&Lists>) -> Exact {
+fn passed(lent: &Lent, factors: &impl Factors, lists: Option<&Lists>) -> Exact {
     let options = |position: usize| {
         let mut options = lent.friends(position);
         options.push(0);
@@ -164,11 +188,11 @@ fn passed(lent: &Lent, weights: &Weights, lists: Option<&Lists>) -> Exact {
             _ => {
                 let terms = row
                     .iter()
-                    .map(|(x, sum)| weights.times_pair(lent, sum, *x, right));
+                    .map(|(x, sum)| with_pair(factors, lent, sum, *x, right));
                 terms.fold(Exact::default(), |sum, term| sum.plus(&term))
             }
         };
-        let of_option = |x: u8| (x, weights.times_place(lent, &before(x), position, x));
+        let of_option = |x: u8| (x, with_place(factors, lent, &before(x), position, x));
         row = options(position).into_iter().map(of_option).collect();
     }
     row.iter()

@@ -6,6 +6,8 @@ pub mod ceiling;
 pub mod concentration;
 pub mod deck;
 pub mod design;
+pub mod energies;
+pub mod exponential;
 pub mod logarithm;
 pub mod loops;
 pub mod names;
@@ -104,5 +106,7 @@ pub fn all() -> Vec<Box<dyn Kind>> {
         Box::new(raw::RawDesigns),
         Box::new(concentration::Concentrations::default()),
         Box::new(sums::Sums::default()),
+        Box::new(exponential::Exponentials::default()),
+        Box::new(energies::Energies::default()),
     ]
 }

@@ -18,11 +18,20 @@ const SMALL: usize = 2780;
 const MIDDLING: usize = 60;
 const FULL: usize = 2;
 
-#[derive(Default)]
 pub struct Sums {
     designs: Cell<u64>,
     constrained: Cell<u64>,
     seen: Rc<Seen>,
+}
+
+impl Default for Sums {
+    fn default() -> Self {
+        Sums {
+            designs: Cell::default(),
+            constrained: Cell::default(),
+            seen: Seen::of("sums", 15),
+        }
+    }
 }
 
 /// What exponents are drawn from. Where they lie far apart, an exact sum is as long as the states are
@@ -114,7 +123,7 @@ fn spoil(random: &mut Random, weights: &mut Weights) {
 
 /// Empty lists, some of the options, some of them twice, strangers among them or alone; strewn over
 /// the numbers, and now and then one list for two positions.
-fn lists(random: &mut Random, lent: &Lent) -> Lists {
+pub fn lists(random: &mut Random, lent: &Lent) -> Lists {
     let mut lists = Lists::default();
     for position in 0..lent.positions() {
         let mut options = lent.friends(position);
@@ -158,12 +167,11 @@ fn weights_lines(weights: &Weights) -> String {
     format!("w.place {place}\nw.pair {pair}\n")
 }
 
-fn lists_line(lists: &Lists) -> String {
+/// The line of a word and the three lists that a constraint is lent as.
+pub fn lists_line(word: &str, lists: &Lists) -> String {
     let [starts, lengths] = [&lists.starts, &lists.lengths].map(|list| joined(list, ","));
-    format!(
-        "sum.lists {} {starts} {lengths}",
-        joined(&lists.numbers, ",")
-    )
+    let numbers = joined(&lists.numbers, ",");
+    format!("{word} {numbers} {starts} {lengths}")
 }
 
 impl Sums {
@@ -175,12 +183,12 @@ impl Sums {
         weights: &Weights,
         lists: Option<&Lists>,
     ) -> Question {
-        let line = lists.map_or("sum".to_string(), lists_line);
+        let line = lists.map_or("sum".to_string(), |lists| lists_line("sum.lists", lists));
         let expected = match sums::verdict(lent, weights, lists) {
-            Verdict::Admitted => Expected::Sum(Rc::new(Asked {
-                exact: sums::sum(lent, weights, lists),
-                seen: self.seen.clone(),
-            })),
+            Verdict::Admitted => {
+                let exact = sums::sum(lent, weights, lists);
+                Expected::Sum(Rc::new(Asked::sum(exact, &self.seen)))
+            }
             refused => Expected::Judged(refused),
         };
         Question {
