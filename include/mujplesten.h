@@ -32,9 +32,8 @@
  *    1 size     a sequence of more than 256 bytes; a lent slice of another length; more than 128
  *               entries or positions; not 1 to 64 strands; a glue above 63; a strand or a position
  *               that the design lacks; more than 61 user strands or 1,024 energy entries; a name of
- *               more than 64 bytes; a name or a sequence that leaves the text; a mark, a form, a
- *               build or a kind of amounts of another value; marks that are not one for each
- *               position; a quencher or reporter that is no user strand;
+ *               more than 64 bytes; a name or a sequence that leaves the text; a mark, a form, a build or
+ *               a kind of amounts of another value; marks that are not one for each position; a quencher or reporter that is no user strand;
  *               weights, or lists of a constraint, that are not as many as the design asks for; a list that
  *               leaves the numbers
  *    2 base     a byte other than a, c, g, t in either case
@@ -125,11 +124,11 @@ uint32_t mj_sequence_strength(const uint8_t *s, size_t n, double excess, double 
 uint32_t mj_pair_strength(const uint8_t *a, size_t m, const uint8_t *b, size_t n, double excess,
                           double *strength);
 
-/* The natural logarithm of 2^-60 to 2^10, ends included, within 2^-40 of the exact one. Reply 15. */
-uint32_t mj_ln(double x, double *logarithm);
-
 /* RT and the two excess temperatures at a temperature of 200 to 500 kelvin. Reply 9. */
 uint32_t mj_ambient(double kelvin, double *rt, double *strand_excess, double *scaffold_excess);
+
+/* The natural logarithm of a double from 2^-60 to 2^10, within 2^-40 of the exact one. Reply 15. */
+uint32_t mj_ln(double x, double *logarithm);
 
 /* Stored configurations. Reading takes a deck of n words and is lent 128 entries, of which it fills
  * as many as there are positions (count); writing takes the n entries of a configuration, 0 to 128,
@@ -192,7 +191,7 @@ uint32_t mj_params(uint32_t build, const uint8_t *text, size_t n, size_t users, 
                    uint8_t *scaffold_glues, size_t scaffold_glues_lent, double *dg, size_t dg_lent,
                    double *ds, size_t ds_lent);
 
-/* Designs. A design is six slices, each a pointer and a length, a number, and the ambient:
+/* Designs. A design is six slices, each a pointer and a length, and the ambient:
  *
  *   scaffold     a glue for each position, 0 to 128 of them
  *   marks        one for each position: 0 open, 1 blocked
@@ -200,10 +199,9 @@ uint32_t mj_params(uint32_t build, const uint8_t *text, size_t n, size_t users, 
  *   dg, ds       4,096 cells each, row first: 64 rows of 64; dg within 1024, ds within 8 of 0
  *   amounts      one for each strand, 1 to 64 of them, strand 0 included; looked at only where the
  *                strand is a friend
- *   given        how the amounts are given: 0 as potentials, within 1024 of 0, each the logarithm of
- *                the strand's concentration; 1 as concentrations in mol/L, 2^-60 to 2^10. Any other
- *                number is refused with 1. With concentrations a call answers as with the logarithms
- *                of mj_ln of them for potentials
+ *   given        what they are: 0 potentials, the logarithms of concentrations, within 1024 of 0;
+ *                1 concentrations in mol/L, 2^-60 to 2^10, for whose logarithms (mj_ln) as potentials
+ *                a design then answers; any other number is refused with 1, before all else
  *   rt           1/8 to 8; strand_excess, scaffold_excess within 1024 of 0
  *
  * Every call checks all of the design. A strand is a friend at a position if the position is open and
@@ -221,14 +219,13 @@ uint32_t mj_params(uint32_t build, const uint8_t *text, size_t n, size_t users, 
  * (bond_between_strands). Replies 1, 9, 10, 15, 16, 17. */
 uint32_t mj_strand_bond(MJ_DESIGN, uint8_t x, uint8_t y, uint64_t *place, double *bond);
 
-/* The bond between the scaffold at a position and a strand (bond_with_scaffold). Replies 1, 9, 10,
- * 15, 16, 17. */
+/* The bond between the scaffold at a position and a strand (bond_with_scaffold). Replies 1, 9, 10, 15,
+ * 16, 17. */
 uint32_t mj_scaffold_bond(MJ_DESIGN, size_t position, uint8_t strand, uint64_t *place,
                           double *bond);
 
 /* The friends of a position, in rising order, into 64 lent entries, of which it fills as many as
- * there are friends (count); the rest is kept, and on a refusal all is. Replies 1, 9, 10, 15, 16,
- * 17. */
+ * there are friends (count); the rest is kept, and on a refusal all is. Replies 1, 9, 10, 15, 16, 17. */
 uint32_t mj_friends(MJ_DESIGN, size_t position, uint8_t *entries, size_t lent, uint64_t *place,
                     uint64_t *count);
 
@@ -289,8 +286,8 @@ uint32_t mj_search_over(MJ_DESIGN, MJ_TABLES, uint8_t *configuration, size_t len
 #undef MJ_TABLES
 /* Rings: a scaffold of 3 positions or more whose last position stands beside its first. The ring
  * energy of a configuration is its chain energy plus, where first and last place are both occupied,
- * the strand bond from the last to the first, times RT, in kcal/mol. Replies 1, 9, 10, 11, 15, 16,
- * 17, 20. */
+ * the strand bond from the last to the first, times RT, in kcal/mol. Replies 1, 9, 10, 11, 15, 16, 17,
+ * 20. */
 uint32_t mj_ring_energy(MJ_DESIGN, const uint8_t *configuration, size_t n, uint64_t *place,
                         double *energy);
 
