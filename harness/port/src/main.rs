@@ -6,6 +6,7 @@ mod design;
 mod names;
 mod params;
 mod sequences;
+mod sheet;
 mod short;
 mod slices;
 mod sums;

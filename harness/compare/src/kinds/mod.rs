@@ -13,6 +13,7 @@ pub mod published;
 pub mod raw;
 pub mod ring;
 pub mod sequence;
+pub mod sheet;
 pub mod short;
 pub mod strength;
 pub mod sums;
@@ -90,6 +91,7 @@ pub fn all() -> Vec<Box<dyn Kind>> {
         Box::new(tables::BondTables::default()),
         Box::new(ring::Rings::default()),
         Box::new(ceiling::Ceilings),
+        Box::new(sheet::Sheets::default()),
         Box::new(raw::RawDesigns),
         Box::new(sums::Sums::default()),
     ]
