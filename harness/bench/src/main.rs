@@ -4,6 +4,7 @@
 mod both;
 mod builds;
 mod designs;
+mod jobs;
 mod measure;
 mod rings;
 mod searches;
@@ -20,6 +21,7 @@ fn main() {
         designs::rows(),
         searches::rows(),
         tables::rows(),
+        jobs::rows(),
     ];
     let rows: Vec<Row> = groups.into_iter().flatten().collect();
     let samples = measure::SAMPLES;
