@@ -86,7 +86,7 @@ fn state_energies() -> Row {
     let both = Rc::new(both);
     let rust_side = both.clone();
     Row {
-        label: "sheet of 64 state energies, 20 x 3 of 60".to_string(),
+        label: "sheet of 64 energies, 20 x 3, half blocked".to_string(),
         cleared: BONDS_KEPT,
         inputs: JOBS,
         rust: Box::new(move || {
