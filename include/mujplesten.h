@@ -20,9 +20,9 @@
  *   - Doubles are rounded to nearest, and subnormals are kept: the mode in which a program starts.
  *     Not so after fesetround, in code that sets flush-to-zero or denormals-are-zero, or in a program
  *     that is linked with -ffast-math.
- *   - A call has 256 KiB of stack left on its thread: a search takes about 140, the sums of energies
- *     less than 160, the search over tables and the sums over states less than 64, mj_params 32, every
- *     other less than 16.
+ *   - A call has 256 KiB of stack left on its thread: a search takes about 140, as does a job sheet, the
+ *     sums of energies less than 160, the search over tables and the sums over states less than 64,
+ *     mj_params 32, every other less than 16.
  *
  * Sequences. Letters are a, c, g, t in either case; no NUL ends a sequence. Of two sequences the
  * second is read by index beside the first, not backwards: "aac" pairs with "ttg" without a mismatch.
@@ -59,6 +59,7 @@
  *   19 weight   a weight outside its form that some state uses
  *   20 ring     a scaffold of fewer than 3 positions that is to be a ring
  *   21 stars    a strand or entry name that ends in two or more stars, in an ordinary build
+ *   22 job      a word of a job sheet that is no job; a job's reply, never a call's
  *   23 none     no state at or under a ceiling
  *
  * If several apply, the lowest is given. Four of them say where the fault lies:
@@ -349,6 +350,19 @@ uint32_t mj_probability(MJ_DESIGN, const uint8_t *numbers, size_t number_count, 
  * kept. A ceiling that is not finite is 9, without a place. Replies 1, 9, 10, 12, 15, 16, 17, 23. */
 uint32_t mj_first_state_under(MJ_DESIGN, double ceiling, uint8_t *entries, size_t lent,
                               uint64_t *place, double *energy);
+
+/* A sheet of n job words, at most 64, on one design. The top 4 bits of a word are its kind, the low 28
+ * its payload: kind 8 is the state energy of the state at the rank in the payload; 9 the search and 10
+ * the number of states, both with payload 0; a word of another kind or payload is 22, whatever else
+ * holds. Each job has a number, an energy and a count in one entry each, those that mj_state and
+ * mj_state_energy, mj_search and mj_states tell, 0 where a job has none. Stretches has one entry for
+ * each job and position, those of the first job first, and a search that is answered fills its own; all
+ * other stretches are kept. A job that is refused stops no other; the sheet itself is refused where it
+ * is too long, one of the four is lent at another length, or the number of the amounts names no kind,
+ * and then all are kept. Reply 1. */
+uint32_t mj_job_sheet(MJ_DESIGN, const uint32_t *jobs, size_t n, uint32_t *numbers,
+                      size_t number_count, double *energies, size_t energy_count, uint64_t *counts,
+                      size_t count_count, uint8_t *stretches, size_t stretch_entries);
 
 #undef MJ_DESIGN
 

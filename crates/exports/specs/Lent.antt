@@ -1,6 +1,7 @@
 -- A design as callers outside lend it: the ambient is three doubles, and a number says how the amounts are given.
 use Rattle.std.specs.Prelude.{cond, List, ℕ, eqb, Float, Option, None, Some}
 use Rattle.std.specs.Borrow.{Bor}
+use Rattle.reply.specs.Number.{number_of}
 use Rattle.reply.specs.Figures.{Figures, refused_with}
 use Rattle.reply.specs.declared.Refusal.TheVariants.{WrongSize}
 use Rattle.units.specs.declared.Ambient.{Ambient}
@@ -37,3 +38,8 @@ left_in None before after = before
 abbrev pub SaidIn : Option Design → (Design → Type 0) → Type 0
 SaidIn (Some d) said = said d
 SaidIn None said = Unit
+
+-- the number of a call that has no place; where there is none, 1
+abbrev pub number_in : Option Design → (Design → ℕ) → ℕ
+number_in (Some d) number = number d
+number_in None number = number_of WrongSize

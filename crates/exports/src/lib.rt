@@ -14,6 +14,7 @@ pub mod params;
 mod place;
 pub mod rings;
 pub mod search;
+pub mod sheets;
 pub mod short;
 pub mod stored;
 pub mod sums;

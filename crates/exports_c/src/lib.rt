@@ -8,6 +8,7 @@ mod names;
 mod params;
 mod rings;
 mod search;
+mod sheets;
 mod short;
 mod stored;
 mod sums;

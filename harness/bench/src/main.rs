@@ -5,6 +5,7 @@ mod both;
 mod builds;
 mod concentrations;
 mod designs;
+mod jobs;
 mod measure;
 mod rings;
 mod searches;
@@ -22,6 +23,7 @@ fn main() {
         searches::rows(),
         tables::rows(),
         concentrations::rows(),
+        jobs::rows(),
     ];
     let rows: Vec<Row> = groups.into_iter().flatten().collect();
     let samples = measure::SAMPLES;

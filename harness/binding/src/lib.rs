@@ -14,6 +14,7 @@ mod logarithm;
 mod names;
 mod params;
 mod sequences;
+mod sheet;
 mod short;
 mod sums;
 mod tables;
@@ -32,6 +33,7 @@ pub use sequences::{
     loop_penalty, pair, pair_dg, pair_ds, pair_reply, pair_strength, published_dg, published_ds,
     published_reply, sequence, sequence_dg, sequence_ds, sequence_reply, sequence_strength,
 };
+pub use sheet::{job_sheet, Sheet};
 pub use short::short_sequence;
 pub use sums::{constrained_sum, free_sum, Lists, Weights};
 pub use tables::{bond_tables, search_over, state_energy_over, state_over, states_over, Bonds};

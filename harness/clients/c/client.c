@@ -367,6 +367,50 @@ static void ceilings(void)
     figure("its energy", energy, -1.5);
 }
 
+/* The worked sheet of jobs: the state energy at ranks 0 and 4, the search, the number of states, and
+ * two words that are no jobs. */
+static void a_sheet(size_t entries, uint32_t expected, const uint32_t of_jobs[6],
+                    const double energies[6], const uint64_t states[6], const uint8_t of_places[12])
+{
+    static const uint32_t jobs[6] = {0x80000000, 0x80000004, 0x90000000,
+                                     0xa0000000, 0x90000001, 0x30000001};
+    uint32_t numbers[6] = {99, 99, 99, 99, 99, 99};
+    double told[6];
+    uint64_t counts[6];
+    uint8_t stretches[12];
+    for (size_t j = 0; j < 6; j++) {
+        told[j] = unwritten;
+        counts[j] = unread;
+    }
+    memset(stretches, 9, sizeof stretches);
+    reply("a sheet", mj_job_sheet(DESIGN, jobs, 6, numbers, 6, told, 6, counts, 6, stretches, entries),
+          expected);
+    for (size_t j = 0; j < 6; j++) {
+        reply("a job", numbers[j], of_jobs[j]);
+        figure("its energy", told[j], energies[j]);
+        count("its count", counts[j] == states[j]);
+    }
+    count("the stretches", memcmp(stretches, of_places, 12) == 0);
+}
+
+static void sheets(void)
+{
+    static const uint32_t fit[6] = {0, 13, 0, 0, 22, 22}, unfit[6] = {9, 9, 9, 9, 22, 22};
+    static const uint32_t asked[6] = {99, 99, 99, 99, 99, 99};
+    static const double least[6] = {-1.5, 0.0, -1.5, 0.0, 0.0, 0.0}, no_energy[6];
+    static const uint64_t states[6] = {0, 0, 0, 4, 0, 0}, no_state[6];
+    static const uint8_t settled[12] = {9, 9, 9, 9, 0, 2, 9, 9, 9, 9, 9, 9};
+    static const uint8_t kept[12] = {9, 9, 9, 9, 9, 9, 9, 9, 9, 9, 9, 9};
+    const double held[6] = {unwritten, unwritten, unwritten, unwritten, unwritten, unwritten};
+    const uint64_t unasked[6] = {unread, unread, unread, unread, unread, unread};
+    a_sheet(12, 0, fit, least, states, settled);
+    a_sheet(11, 1, asked, held, unasked, kept);
+    dg[1][1] = NAN;
+    a_sheet(12, 0, unfit, no_energy, no_state, kept);
+    dg[1][1] = -0.5;
+    reply("a sheet of no job", mj_job_sheet(DESIGN, NULL, 0, NULL, 0, NULL, 0, NULL, 0, NULL, 0), 0);
+}
+
 static void designs(void)
 {
     uint64_t place = unread, n = unread;
@@ -376,6 +420,7 @@ static void designs(void)
     states_and_energies();
     searches();
     ceilings();
+    sheets();
     potentials[2] = NAN;
     reply("a potential", mj_states(DESIGN, &place, &n), 17);
     count("its strand", place == 2);

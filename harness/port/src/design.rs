@@ -50,6 +50,7 @@ impl Lent {
             "d.build" => Ok(Some(Reply::Ok("built".to_string()))),
             "raw.len" | "raw.set" => self.set_raw(words).map(|()| None),
             "w.place" | "w.pair" => self.weights.set(words).map(|()| None),
+            "sheet" => self.sheet(words).map(Some),
             "sum" | "sum.lists" => self.weights.answer(self.design(), words).map(Some),
             word if word.starts_with("energy.") => energies::answer(self.design(), words).map(Some),
             word if word.starts_with("d.") => self.set(words).map(|()| None),

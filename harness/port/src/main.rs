@@ -8,6 +8,7 @@ mod logarithm;
 mod names;
 mod params;
 mod sequences;
+mod sheet;
 mod short;
 mod slices;
 mod sums;

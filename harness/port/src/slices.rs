@@ -1,6 +1,6 @@
 //! Lists of a line as slices, and slices that are lent to be written.
 
-use crate::DOUBLE;
+use crate::{DOUBLE, WHOLE};
 use protocol::Complaint;
 
 /// The list of a word: `,` within, `-` for an empty one.
@@ -43,6 +43,15 @@ impl Filled<f64> {
         Filled {
             slice: vec![DOUBLE; length],
             before: DOUBLE,
+        }
+    }
+}
+
+impl Filled<u64> {
+    pub fn wholes(length: usize) -> Self {
+        Filled {
+            slice: vec![WHOLE; length],
+            before: WHOLE,
         }
     }
 }

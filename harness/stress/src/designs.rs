@@ -1,7 +1,7 @@
 //! Calls that take a design.
 
 use crate::guarded::{Figure, Guarded};
-use crate::{near, sums, Tally};
+use crate::{near, sheets, sums, Tally};
 use compare::designs::{blocks, marked, Ambient, Shape, SORTS};
 use compare::doubles::not_finite;
 use compare::judge::design::{Lent, CONCENTRATIONS, POTENTIALS};
@@ -178,7 +178,7 @@ impl Asked<'_> {
         let (x, y) = (self.strand(random), self.strand(random));
         let position = near(random, self.positions.saturating_sub(1));
         let mut place = Figure::whole();
-        match random.below(11) {
+        match random.below(12) {
             0 => {
                 let mut bond = Figure::double();
                 let number = mj::strand_bond(design, x, y, place.lent(), bond.lent());
@@ -211,6 +211,7 @@ impl Asked<'_> {
             8 if random.once_in(2) => sums::call(self, random, tally),
             8 => sums::call_of_energies(self, random, tally),
             9 => self.first_under(random, tally),
+            10 => sheets::call(self, random, tally),
             _ => {
                 let mut entries = Guarded::new(near(random, self.positions), 0xa5);
                 let mut energy = Figure::double();

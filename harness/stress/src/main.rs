@@ -7,6 +7,7 @@ mod designs;
 mod guarded;
 mod names;
 mod numbers;
+mod sheets;
 mod sums;
 mod tables;
 
@@ -18,8 +19,8 @@ use std::time::Instant;
 const USAGE: &str = "usage: stress [--seed S] [--calls N]";
 
 /// 0 and the numbers of the refusals that there are.
-const REPLIES: [u32; 23] = [
-    0, 1, 2, 3, 4, 5, 6, 7, 8, 9, 10, 11, 12, 13, 14, 15, 16, 17, 18, 19, 20, 21, 23,
+const REPLIES: [u32; 24] = [
+    0, 1, 2, 3, 4, 5, 6, 7, 8, 9, 10, 11, 12, 13, 14, 15, 16, 17, 18, 19, 20, 21, 22, 23,
 ];
 
 const SEED: u64 = 9;

@@ -4,6 +4,7 @@ mod concentrations;
 mod designs;
 mod places;
 mod rings;
+mod sheets;
 mod sums;
 mod tables;
 
@@ -67,6 +68,9 @@ fn main() -> ExitCode {
     tables::tables(&mut checks);
     tables::stack(&mut checks);
     rings::rings(&mut checks);
+    sheets::ceilings(&mut checks);
+    sheets::sheets(&mut checks);
+    sheets::stack(&mut checks);
     sums::sums(&mut checks);
     names(&mut checks);
     params(&mut checks);

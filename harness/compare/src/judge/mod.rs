@@ -14,6 +14,7 @@ pub mod parameters;
 pub mod ring;
 pub mod search;
 pub mod sequences;
+pub mod sheet;
 pub mod short;
 pub mod sums;
 pub mod tables;

@@ -82,7 +82,7 @@ impl Kind for Ceilings {
 }
 
 /// The bench table's strands 1 and 2 on these positions, RT 0.5.
-fn worked(scaffold: &[u8]) -> Lent {
+pub(super) fn worked(scaffold: &[u8]) -> Lent {
     let mut lent = Lent {
         scaffold: scaffold.to_vec(),
         marks: vec![0; scaffold.len()],

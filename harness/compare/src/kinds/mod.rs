@@ -17,6 +17,7 @@ pub mod published;
 pub mod raw;
 pub mod ring;
 pub mod sequence;
+pub mod sheet;
 pub mod short;
 pub mod strength;
 pub mod sums;
@@ -103,6 +104,7 @@ pub fn all() -> Vec<Box<dyn Kind>> {
         Box::new(tables::BondTables::default()),
         Box::new(ring::Rings::default()),
         Box::new(ceiling::Ceilings),
+        Box::new(sheet::Sheets::default()),
         Box::new(raw::RawDesigns),
         Box::new(concentration::Concentrations::default()),
         Box::new(sums::Sums::default()),

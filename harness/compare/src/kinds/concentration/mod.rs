@@ -8,6 +8,7 @@ use super::ceiling::ask_under;
 use super::design::{ask_about, WALKED};
 use super::raw::{ask_every_call, damage, Arguments};
 use super::ring::Rings;
+use super::sheet::Sheets;
 use super::sums::Sums;
 use super::tables::{ask_to_fill, BondTables, Lending};
 use super::{Ask, AskOracle, AskPort, Kind};
@@ -28,6 +29,7 @@ pub struct Concentrations {
     seen: Rc<Seen>,
     tables: BondTables,
     rings: Rings,
+    sheets: Sheets,
     sums: Sums,
     designs: Cell<u64>,
     /// Those with a concentration out of range that is not looked at.
@@ -168,7 +170,7 @@ impl Concentrations {
         add(&self.moved, settled(lent) != settled(&turned));
     }
 
-    /// The calls over tables, for rings, under a ceiling, and both sums.
+    /// The calls over tables, for rings, of a job sheet, under a ceiling, and both sums.
     fn ask_further(&self, random: &mut Random, lent: &Lent, state: Vec<u8>, ask: &mut Ask) {
         let (positions, strands) = (lent.positions(), lent.strands());
         let tables = Tables {
@@ -178,6 +180,7 @@ impl Concentrations {
         ask_to_fill(lent, strands * strands, positions * strands, ask);
         Lending::new(lent.clone(), tables, Some(state)).ask_all(ask);
         self.rings.about(random, lent.clone(), ask);
+        self.sheets.ask_worked(lent, ask);
         let is_sized = lent.count_verdict().number() != 1;
         if is_sized {
             self.sums.all_of(random, lent, ask);
