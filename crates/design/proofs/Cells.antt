@@ -16,9 +16,9 @@ use Rattle.ensemble.specs.Layout.{OptionRows, BondCells, option_in}
 use Rattle.ensemble.specs.Ring.{ClosingCells}
 use Rattle.ensemble.proofs.OptionRows.{count-is, option_is}
 use Rattle.design.specs.Design.{Design, strands, strand_bond_in, scaffold_bond_in, model_of}
-use Rattle.design.specs.Checks.{Admitted, TablesPass}
-use Rattle.design.specs.Filling.{NullNowhere, Holds, PairsHeld, ClosingHeld, SitesHeld}
-use Rattle.design.proofs.FriendLaws.{friends-right, friend-tested, null-not-bound}
+use Rattle.design.specs.Checks.{Admitted}
+use Rattle.design.specs.Filling.{Holds, PairsHeld, ClosingHeld, SitesHeld}
+use Rattle.design.proofs.FriendLaws.{friends-right, friend-tested}
 
 -- where a member stands
 place_of : {x : ℕ} {xs : List ℕ} → Memᴰ x xs → (k : ℕ) × (k < length xs) × (get_or xs k 0 ≡ x)
@@ -43,9 +43,6 @@ module _ {m : Model} {rows counts : List ℕ} (o : OptionRows m rows counts) (i 
       let inside : w.0 + 1 < get_or counts i 0 = omega (arith, w.1) in
       let earlier : w.0 < get_or counts i 0 = omega arith in
       (w.0, inside, option_is o i w.0 h earlier ∙ get_or-append (friends_at m i) (0 ∷ []) 0 w.0 w.1 ∙ w.2)
-
-pub null-nowhere : (d : Design) → TablesPass d → NullNowhere d.scaffold d.glues d.dg d.ds
-null-nowhere d t i h = null-not-bound d t i h
 
 module _ (d : Design) (a : Admitted d) where
   pub bond-cells : {rows counts : List ℕ} {strand_bonds scaffold_bonds : List Float} → OptionRows (model_of d) rows counts → PairsHeld (strand_bond_in d) (strands d) strand_bonds rows counts (length counts - 1)

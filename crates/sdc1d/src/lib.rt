@@ -14,7 +14,6 @@ ghost use Rattle.design.specs.Answers.{bond_figures, count_figures, energy_figur
 use design::Design;
 use design::answers::ChainEnergy;
 use design::checks::numbers_reply;
-use design::options::write_friends;
 use design::passed::{admitted, tabled};
 use design::terms::terms_of;
 use ensemble::energies::Places;
@@ -51,11 +50,8 @@ pub fn friends_btm(design: &Design, position: usize, entries: &mut [u8]) -> Resu
     ensures entries_after { entries.new ≡ friends_entries design.now position entries.old }
 {
     let unfit = design.positions() <= position || entries.len() != STRANDS;
-    admitted(unfit, design)?;
-    if design.is_blocked(position) {
-        return Ok(0);
-    }
-    Ok(write_friends(design, design.scaffold_glue(position), entries) as u64)
+    let tabled = admitted(unfit, design)?.tabled();
+    Ok(tabled.write_friends(position, entries) as u64)
 }
 
 // How many states there are: the product of friends plus one.
