@@ -6,7 +6,6 @@ pub mod Held
 pub mod FriendLaws
 pub mod Blocked
 pub mod Cells
-pub mod Chunks
 pub mod Folded
 pub mod BoundLaws
 pub mod Lowest

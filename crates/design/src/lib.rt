@@ -8,7 +8,6 @@ pub mod friends;
 pub mod needed;
 pub mod options;
 pub mod passed;
-pub mod ranges;
 pub mod reads;
 pub mod tables;
 pub mod terms;
