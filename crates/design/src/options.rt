@@ -22,8 +22,7 @@ pub struct OptionedDesign<'a, 'b> {
 
 impl TabledDesign<'_> {
     // Whether the strand is a friend at an open position with this scaffold glue: as `Design` tells it, but no read asks whether its place is there. A
-    // search tests up to 7,680 strands, and one that finds few takes up to a third less by it. Both cells are read, without a branch: by `||` a test takes
-    // about a third longer.
+    // search tests up to 7,680 strands, and one that finds few takes a tenth less by it.
     fn is_friend(&self, scaffold_glue: u8, strand: u8) -> bool
         requires glue_bound { scaffold_glue < 64 }
         requires strand_in_bounds { strand < strands self.now }
