@@ -16,10 +16,10 @@ use Rattle.ensemble.specs.Layout.{OptionRows, BondCells, option_in}
 use Rattle.ensemble.specs.Ring.{ClosingCells}
 use Rattle.ensemble.proofs.OptionRows.{count-is, option_is}
 use Rattle.design.specs.Design.{Design, strands, potential, strand_bond_in, scaffold_bond_in, model_of}
-use Rattle.design.specs.Checks.{Admitted, TablesPass}
+use Rattle.design.specs.Checks.{Admitted}
 use Rattle.design.specs.Unread.{PotentialsOf}
-use Rattle.design.specs.Filling.{NullNowhere, Holds, PairsHeld, ClosingHeld, SitesHeld}
-use Rattle.design.proofs.FriendLaws.{friends-right, friend-tested, null-not-bound}
+use Rattle.design.specs.Filling.{Holds, PairsHeld, ClosingHeld, SitesHeld}
+use Rattle.design.proofs.FriendLaws.{friends-right, friend-tested}
 
 -- where a member stands
 place_of : {x : ℕ} {xs : List ℕ} → Memᴰ x xs → (k : ℕ) × (k < length xs) × (get_or xs k 0 ≡ x)
@@ -44,9 +44,6 @@ module _ {m : Model} {rows counts : List ℕ} (o : OptionRows m rows counts) (i 
       let inside : w.0 + 1 < get_or counts i 0 = omega (arith, w.1) in
       let earlier : w.0 < get_or counts i 0 = omega arith in
       (w.0, inside, option_is o i w.0 h earlier ∙ get_or-append (friends_at m i) (0 ∷ []) 0 w.0 w.1 ∙ w.2)
-
-pub null-nowhere : (d : Design) → TablesPass d → NullNowhere d.scaffold d.glues d.dg d.ds
-null-nowhere d t i h = null-not-bound d t i h
 
 -- the lent potential of a friend is the model's
 pub potential-lent : (d : Design) (potentials : List Float) → PotentialsOf d potentials → (i y : ℕ) → Friend (model_of d) i y → get_or potentials y nan ≡ potential d y

@@ -72,6 +72,11 @@ rows_more friends rows counts i row n inside here full old new =
 abbrev listed_at : Bool → ℕ → List ℕ → List Float → List Float → ℕ → List ℕ
 listed_at blocked glue glues dg ds strands = cond blocked [] (friends_to glue glues dg ds strands)
 
+-- there is room for one more at each position
+pub listed-few : (blocked : Bool) (glue : ℕ) (glues : List ℕ) (dg ds : List Float) (strands : ℕ) → 0 < strands → befriends glue glues dg ds 0 ≡ false → length (listed_at blocked glue glues dg ds strands) < strands
+listed-few true glue glues dg ds strands some null = some
+listed-few false glue glues dg ds strands some null = friends-few glue glues dg ds strands some null
+
 -- each option is one of the strands
 option-low : (glue : ℕ) (glues : List ℕ) (dg ds : List Float) (strands k : ℕ) → 0 < strands → k < length (options_of (friends_to glue glues dg ds strands)) → get_or (options_of (friends_to glue glues dg ds strands)) k 0 < strands
 unfolding friends_to

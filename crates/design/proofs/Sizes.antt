@@ -1,7 +1,7 @@
 -- What a design whose sizes are not wrong is. Assumes nothing.
-use mathlib.Core.Path.{◌≡◌}
+use mathlib.Core.Path.{◌≡◌, sym, ◌∙◌}
 use mathlib.Core.Bool.{false, not, ◌||◌}
-use Prim.Native.Nat.{ℕ, ◌*◌, ◌<◌, ◌≤◌}
+use Prim.Native.Nat.{ℕ, ◌+◌, ◌*◌, ◌<◌, ◌≤◌}
 use native.Mathlib.Omega.{arith}
 use lib.Dec.{ltb, eqb}
 use lib.ListN.{length, get_or}
@@ -9,8 +9,9 @@ use borrow.Author.Tests.{ltb-false, eqb-true, not-false}
 use Rattle.lists.specs.Find.{any}
 use Rattle.lists.proofs.Tests.{neither}
 use Rattle.lists.proofs.Any.{none_passes}
-use Rattle.design.specs.Design.{Design, positions, strands, scaffold_glue}
+use Rattle.design.specs.Design.{Design, positions, strands, scaffold_glue, bottom}
 use Rattle.design.specs.Checks.{high_glue, wrong_counts, wrong_lengths, wrong_marks, wrong_sizes, sizes_out}
+use Rattle.design.specs.Passed.{TablesPassed}
 
 pub record Sized (d : Design) : Type 0 where
   pub short : positions d ≤ 128
@@ -47,3 +48,11 @@ sized d e =
       scaffold-low = λ i h. omega (arith, ltb-false 63 (get_or d.scaffold i 0) (none_passes high_glue 0 d.scaffold glues.0 i h));
       glues-low = λ k h. omega (arith, ltb-false 63 (get_or d.glues k 0) (none_passes high_glue 0 d.glues glues.1 k (rw three h)));
     }
+
+-- where a glue meets a strand's bottom, a table has a cell
+pub cell-inside : {d : Design} → Sized d → (glue strand : ℕ) → glue < 64 → strand < strands d → glue * 64 + bottom d.glues strand < 4096
+cell-inside s glue strand low known = omega (arith, s.glues-low (3 * strand + 1) (omega arith))
+
+-- the sizes of a design that is read field by field: it is the one that is held, whose tables pass, and so the one that is told, which has the strand
+pub read-sized : {read held told : Design} → read ≡ held → held ≡ told → TablesPassed held → {strand : ℕ} → strand < strands told → Sized read × (strand < strands read)
+read-sized {read} {held} {told} e f passed known = (rw (sym e) at (sized held passed.tables.sizes), rw (sym (e ∙ f)) at known)

@@ -1,6 +1,6 @@
 -- What the fillers leave in lent rows and cells: the options of each position, the logarithms of concentrations, and the bonds of the cells that a search
 -- reads.
-use Rattle.std.specs.Prelude.{◌≡◌, Bool, false, cond, Result, Ok, Err, List, ℕ, ◌+◌, ◌*◌, ◌-◌, ◌<◌, ◌≤◌, length, get_or, take, Float}
+use Rattle.std.specs.Prelude.{◌≡◌, Bool, false, cond, Result, Ok, Err, List, ◌++◌, ℕ, ◌+◌, ◌*◌, ◌-◌, ◌<◌, ◌≤◌, length, get_or, take, drop, Float}
 use Rattle.std.specs.Float.{nan}
 use Rattle.doubles.specs.Decimal.{zero}
 use Rattle.reply.specs.declared.Refusal.{Refusal}
@@ -9,13 +9,14 @@ use Rattle.logarithm.specs.Figure.{ln_of}
 use Rattle.logarithm.specs.Near.{has_logarithm}
 use Rattle.model.specs.Model.{options_of}
 use Rattle.ensemble.specs.Layout.{option_in}
-use Rattle.design.specs.Design.{Design, strands, amount, befriends}
+use Rattle.design.specs.Design.{Design, strands, amount}
 
 -- ---- options
 
--- strand 0 is nowhere a friend
-abbrev pub NullNowhere : List ℕ → List ℕ → List Float → List Float → Type 0
-NullNowhere scaffold glues dg ds = (i : ℕ) → i < length scaffold → befriends (get_or scaffold i 0) glues dg ds 0 ≡ false
+-- so many strands stand in the first entries, and the rest is as it was
+pub record Written (strands before : List ℕ) (count : ℕ) (after : List ℕ) : Type 0 where
+  pub number : count ≡ length strands
+  pub entries : after ≡ strands ++ drop (length strands) before
 
 -- a row begins with the friends in order and 0 for empty, `count` options in all
 pub record Optioned (friends row : List ℕ) (count : ℕ) : Type 0 where

@@ -21,10 +21,7 @@ impl<'a> Design<'a> {
     pub fn binds(&self, row: u8, column: u8) -> bool
         ensures { result ≡ binding self.now.dg self.now.ds row column }
     {
-        // Both cells are read, without a branch: a search tests up to 7,680 strands for friends, and by `||` one that finds few takes up to a fifth longer.
-        let by_dg = cell_at(self.dg, row, column) != 0.0;
-        let by_ds = cell_at(self.ds, row, column) != 0.0;
-        by_dg | by_ds
+        cell_at(self.dg, row, column) != 0.0 || cell_at(self.ds, row, column) != 0.0
     }
 
     // Whether the strand is a friend at an open position with this scaffold glue.

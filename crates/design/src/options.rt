@@ -1,13 +1,15 @@
 // The options of each position, into lent rows of 64: its friends in rising order, then 0 for empty. A blocked position has no friends.
-ghost use Rattle.std.specs.Prelude.{◌≡◌, false, ◌++◌, ◌+◌, ◌*◌, ◌<◌, ◌≤◌, length, drop};
+ghost use Rattle.std.specs.Prelude.{◌≡◌, ◌*◌, ◌<◌, ◌≤◌, length};
 ghost use Rattle.model.specs.Model.{Model};
 ghost use Rattle.ensemble.specs.Layout.{Searchable, OptionRows};
-ghost use Rattle.design.specs.Design.{positions, strands, befriends, friends_to, friends_of, scaffold_glue, model_of};
-ghost use Rattle.design.specs.Filling.{NullNowhere, Optioned};
+ghost use Rattle.design.specs.Design.{positions, strands, befriends, friends_of, model_of};
+ghost use Rattle.design.specs.Filling.{Written, Optioned};
 
 use super::Design;
 use super::passed::TabledDesign;
+use super::reads::BOTTOM_GLUE_INDEX;
 use ensemble::options::{Options, ROW};
+use reply::limits::{GLUES, SIDES};
 
 // A design and options of as many strands as it has, which the fillers of bonds go by. That the options are the design's own is no fact of it: bonds are
 // filled too over options of other marks.
@@ -18,63 +20,73 @@ pub struct OptionedDesign<'a, 'b> {
     ghost same_strands: { options.strands ≡ strands design.now },
 }
 
-// Writes the friends into the first entries, and says how many there are.
-pub fn write_friends(design: &Design, scaffold_glue: u8, entries: &mut [u8]) -> usize
-    requires strands_bound { strands design.now ≤ 255 }
-    requires strands_in_bounds { strands design.now ≤ length entries.old }
-    ensures value { result ≡ length (friends_to scaffold_glue design.now.glues design.now.dg design.now.ds (strands design.now)) }
-    ensures entries_after { entries.new ≡ friends_to scaffold_glue design.now.glues design.now.dg design.now.ds (strands design.now) ++ drop (length (friends_to scaffold_glue design.now.glues design.now.dg design.now.ds (strands design.now))) entries.old }
-{
-    // By number: a strand is one. The friends can't be collected into a slice, and of what is written through an adapter of `iter_mut` nothing is known.
-    let mut count = 0;
-    for strand in 0..design.strands() as u8 {
-        if design.is_friend(scaffold_glue, strand) {
-            entries[count] = strand;
-            count += 1;
+impl TabledDesign<'_> {
+    // Whether the strand is a friend at an open position with this scaffold glue: as `Design` tells it, but no read asks whether its place is there. A
+    // search tests up to 7,680 strands, and one that finds few takes a tenth less by it.
+    fn is_friend(&self, scaffold_glue: u8, strand: u8) -> bool
+        requires glue_bound { scaffold_glue < 64 }
+        requires strand_in_bounds { strand < strands self.now }
+        ensures { result ≡ befriends scaffold_glue self.now.glues self.now.dg self.now.ds strand }
+    {
+        let design = self.design;
+        let bottom = design.glues[SIDES * usize::from(strand) + BOTTOM_GLUE_INDEX];
+        let cell = usize::from(scaffold_glue) * GLUES + usize::from(bottom);
+        (design.dg[cell] != 0.0) | (design.ds[cell] != 0.0)
+    }
+
+    // Writes the friends of a position into the first entries, and says how many there are: strand 0 is none, so one entry at least is left.
+    pub fn write_friends(&self, position: usize, entries: &mut [u8]) -> usize
+        requires position_in_bounds { position < positions self.now }
+        requires room { 64 ≤ length entries.old }
+        ensures written { Written (friends_of self.now position) entries.old result entries.new }
+        ensures few { result < 64 }
+    {
+        if self.design.is_blocked(position) {
+            return 0;
+        }
+        let scaffold_glue = self.design.scaffold_glue(position);
+        // By number: a strand is one. The friends can't be collected into a slice, and of what is written through an adapter of `iter_mut` nothing is
+        // known.
+        let mut count = 0;
+        for strand in 0..self.design.strands() as u8 {
+            if self.is_friend(scaffold_glue, strand) {
+                entries[count] = strand;
+                count += 1;
+            }
+        }
+        count
+    }
+
+    // Writes the options of one position into its row, and says how many there are.
+    fn fill_row(&self, position: usize, row: &mut [u8]) -> u8
+        requires position_in_bounds { position < positions self.now }
+        requires row_len { length row.old ≡ 64 }
+        ensures { Optioned (friends_of self.now position) row.new result }
+    {
+        let count = self.write_friends(position, row);
+        row[count] = 0;
+        (count + 1) as u8
+    }
+
+    // The options of each position into its row, and how many it has.
+    fn fill_options(&self, rows: &mut [u8], counts: &mut [u8])
+        requires rows_in_bounds { 64 * positions self.now ≤ length rows.old }
+        requires counts_len { length counts.old ≡ positions self.now }
+        ensures searchable { Searchable (strands self.now) rows.new counts.new }
+        ensures option_rows { (m : Model) → m.friends ≡ (model_of self.now).friends → OptionRows m rows.new counts.new }
+        ensures rows_len_unchanged { length rows.new ≡ length rows.old }
+        ensures counts_len_unchanged { length counts.new ≡ length counts.old }
+    {
+        // By number, which the design's glues and marks ask; and of what is written through a `zip` of `iter_mut`, or of rows of `chunks_exact_mut`,
+        // nothing is known where the loop ends.
+        for position in 0..self.design.positions() {
+            let row = ROW * position;
+            counts[position] = self.fill_row(position, &mut rows[row..row + ROW]);
         }
     }
-    count
 }
 
-// Writes the options of one position into its row, and says how many there are.
-fn fill_row(design: &Design, position: usize, row: &mut [u8]) -> u8
-    requires strands_nonzero { 0 < strands design.now }
-    requires strands_bound { strands design.now ≤ 64 }
-    requires row_len { length row.old ≡ 64 }
-    requires null_apart { befriends (scaffold_glue design.now position) design.now.glues design.now.dg design.now.ds 0 ≡ false }
-    ensures { Optioned (friends_of design.now position) row.new result }
-{
-    if design.is_blocked(position) {
-        row[0] = 0;
-        return 1;
-    }
-    let count = write_friends(design, design.scaffold_glue(position), row);
-    row[count] = 0;
-    (count + 1) as u8
-}
-
-// The options of each position into its row, and how many it has.
-pub fn fill_options(design: &Design, rows: &mut [u8], counts: &mut [u8])
-    requires strands_nonzero { 0 < strands design.now }
-    requires strands_bound { strands design.now ≤ 64 }
-    requires positions_bound { positions design.now ≤ 128 }
-    requires rows_in_bounds { 64 * positions design.now ≤ length rows.old }
-    requires counts_len { length counts.old ≡ positions design.now }
-    requires null_nowhere { NullNowhere design.now.scaffold design.now.glues design.now.dg design.now.ds }
-    ensures searchable { Searchable (strands design.now) rows.new counts.new }
-    ensures option_rows { (m : Model) → m.friends ≡ (model_of design.now).friends → OptionRows m rows.new counts.new }
-    ensures rows_len_unchanged { length rows.new ≡ length rows.old }
-    ensures counts_len_unchanged { length counts.new ≡ length counts.old }
-{
-    // By number, which the design's glues and marks ask; and of what is written through a `zip` of `iter_mut`, or of rows of `chunks_exact_mut`, nothing is
-    // known where the loop ends.
-    for position in 0..design.positions() {
-        let row = ROW * position;
-        counts[position] = fill_row(design, position, &mut rows[row..row + ROW]);
-    }
-}
-
-// The same of a design whose tables pass, handed back as they are lent to a search. Rows and counts come as two slices: a struct of both has room for
+// The options of a design whose tables pass, handed back as they are lent to a search. Rows and counts come as two slices: a struct of both has room for
 // all positions that there may be, and this asks for room for a design's own.
 pub fn options_of<'a>(
     tabled: &TabledDesign,
@@ -88,7 +100,7 @@ pub fn options_of<'a>(
     ensures rows_len { length result.rows.now ≡ length rows.old }
     ensures counts_len { length result.counts.now ≡ positions tabled.now }
 {
-    fill_options(tabled.design, rows, counts);
+    tabled.fill_options(rows, counts);
     Options {
         rows,
         counts,

@@ -16,7 +16,6 @@ ghost use Rattle.design.specs.Answers.{bond_figures, count_figures, energy_figur
 
 use design::Design;
 use design::answers::ChainEnergy;
-use design::options::write_friends;
 use design::passed::{AdmittedDesign, admitted, tabled};
 use design::terms::terms_of;
 use ensemble::energies::Places;
@@ -56,11 +55,8 @@ pub fn friends_btm(design: &Design, position: usize, entries: &mut [u8]) -> Resu
 {
     let unfit = design.positions() <= position || entries.len() != STRANDS;
     let mut logarithms = [0.0; STRANDS];
-    let AdmittedDesign { design, .. } = admitted(unfit, design, &mut logarithms)?;
-    if design.is_blocked(position) {
-        return Ok(0);
-    }
-    Ok(write_friends(design, design.scaffold_glue(position), entries) as u64)
+    let tabled = admitted(unfit, design, &mut logarithms)?.tabled();
+    Ok(tabled.write_friends(position, entries) as u64)
 }
 
 // How many states there are: the product of friends plus one.

@@ -23,7 +23,7 @@ use Rattle.ensemble.specs.Layout.{OptionRows}
 use Rattle.design.specs.Design.{Design, positions, strands, blocked_at, scaffold_glue, friends_to, friends_of, model_of}
 use Rattle.design.specs.Checks.{Admitted, TablesPass, sizes_out, design_checks}
 use Rattle.design.proofs.Sizes.{sized}
-use Rattle.design.proofs.Cells.{null-nowhere}
+use Rattle.design.proofs.FriendLaws.{null-not-bound}
 use Rattle.design.proofs.Optioned.{friends-few}
 use Rattle.design.proofs.Replies.{passed, tables-of}
 use Rattle.partition.specs.Sum.{zero_weight, FreeSum, ConstrainedSum}
@@ -99,7 +99,7 @@ friends-of-few d t i h = go (blocked_at d.marks i)
     go true = omega arith
     go false =
         let z = sized d t.sizes in
-        let l = friends-few (scaffold_glue d i) d.glues d.dg d.ds (strands d) z.null (null-nowhere d t i h) in
+        let l = friends-few (scaffold_glue d i) d.glues d.dg d.ds (strands d) z.null (null-not-bound d t i h) in
         let few = z.few in
         omega arith
 

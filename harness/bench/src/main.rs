@@ -47,6 +47,7 @@ fn main() {
     let remarks = [
         builds::remarks(),
         searches::remarks(),
+        tables::remarks(),
         rings::remarks(),
         sums::remarks(),
         concentrations::remarks(),

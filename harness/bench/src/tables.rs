@@ -1,10 +1,10 @@
 //! Calls over tables of bonds: the port reads its bonds as the Rust does that has them at hand.
 //!
 //! The port's functions check their whole design and every lent cell at every call; what that costs is
-//! a row of its own, the count of a design without positions over the same tables.
+//! a row of its own, the same call where only the last check fails.
 
 use crate::both::Both;
-use crate::measure::Row;
+use crate::measure::{measure, Row, Times};
 use crate::{designs, searches};
 use mujplesten as mj;
 use std::hint::black_box;
@@ -67,42 +67,66 @@ fn state_energies(stated: &Rc<designs::Stated>) -> Row {
         }),
         port: Box::new(move || {
             for state in &port_side.states {
-                black_box(energy_over(&port_side.both, &tables, state));
+                black_box(energy_over(port_side.both.port(), &tables, state));
             }
         }),
     }
 }
 
-fn energy_over(both: &Both, tables: &Tables, state: &[u8]) -> (u32, f64) {
+fn energy_over(design: mj::Design, tables: &Tables, state: &[u8]) -> (u32, f64) {
     let (mut place, mut energy) = (0, 0.0);
-    let state = black_box(state);
-    let number = mj::state_energy_over(both.port(), tables.lent(), state, &mut place, &mut energy);
+    let (design, state) = (black_box(design), black_box(state));
+    let number = mj::state_energy_over(design, tables.lent(), state, &mut place, &mut energy);
     (number, energy)
 }
 
-/// What the checks of design and tables are of it.
+/// What the checks of design and tables are of it: of a potential that is out of its range, which is
+/// looked at last, the call is refused with nothing else done.
 fn checks(stated: &Rc<designs::Stated>) -> Row {
     let tables = Rc::new(Tables::of(&stated.both));
+    let lent = &stated.both.lent;
+    let (positions, strands) = (lent.positions(), lent.strands());
+    let friend = (0..positions)
+        .flat_map(|position| lent.friends(position))
+        .max();
+    let mut unfit = lent.potentials.clone();
+    unfit[usize::from(friend.expect("a friend somewhere"))] = 1025.0;
     let (left, right) = ((stated.clone(), tables.clone()), (stated.clone(), tables));
-    let (positions, strands) = (stated.both.lent.positions(), stated.both.lent.strands());
     Row {
-        label: format!("count, then state energy, {positions} x {strands}"),
+        label: format!("the checks, and state energy, {positions} x {strands}"),
         cleared: CHECKS,
         inputs: stated.states.len(),
         rust: Box::new(move || {
-            for _ in &left.0.states {
-                let (mut place, mut count) = (0, 0);
-                let design = black_box(left.0.both.port());
-                let number = mj::states_over(design, left.1.lent(), &mut place, &mut count);
-                black_box((number, count));
+            for state in &left.0.states {
+                let design = mj::Design {
+                    potentials: &unfit,
+                    ..left.0.both.port()
+                };
+                let told = energy_over(design, &left.1, state);
+                assert_eq!(black_box(told).0, 17);
             }
         }),
         port: Box::new(move || {
             for state in &right.0.states {
-                black_box(energy_over(&right.0.both, &right.1, state));
+                black_box(energy_over(right.0.both.port(), &right.1, state));
             }
         }),
     }
+}
+
+/// The state energy over tables without its checks, beside the Rust.
+pub fn remarks() -> Vec<String> {
+    let stated = Rc::new(designs::largest());
+    let Times { rust, .. } = measure(&mut state_energies(&stated)).least;
+    let Times {
+        rust: checks,
+        port: whole,
+    } = measure(&mut checks(&stated)).least;
+    let rest = whole - checks;
+    vec![format!(
+        "port, state energy over tables, {whole:.1} ns; its checks {checks:.1}; the rest {rest:.1}, over the Rust's {rust:.1}: {:.2}",
+        rest / rust
+    )]
 }
 
 /// The port's search over the design, and over tables.

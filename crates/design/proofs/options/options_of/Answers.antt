@@ -1,5 +1,0 @@
-use Rattle.design.proofs.Cells.{null-nowhere}
-use Rattle.design.proofs.options.options_of.Goals as goal
-
-pub fill_options-requires-clause-null_nowhere : goal.fill_options-requires-clause-null_nowhere
-fill_options-requires-clause-null_nowhere c = null-nowhere c.tabled.inside.design.now c.tabled.invariant.tables
