@@ -19,7 +19,7 @@ use Rattle.model.specs.States.{choices, count}
 use Rattle.model.specs.Search.{least_left, left_choice, traced, search_over, search}
 use Rattle.design.specs.declared.Amounts.TheVariants.{Concentrations}
 use Rattle.design.specs.Design.{design, strand_bond, scaffold_bond, befriends, friends_to, model_of}
-use Rattle.design.specs.Checks.{wrong_sizes, cells_out, bad_cell, ambient_out, bad_ambient, somewhere, dilute, potentials_out, bad_potential, null_binds, strangers}
+use Rattle.design.specs.Checks.{wrong_sizes, cells_out, bad_cell, ambient_out, bad_ambient, somewhere, dilute, potentials_out, bad_potential, null_binds, not_all_friends}
 use Rattle.design.specs.Answers.{count_answer, rank_answer, state_energy_answer}
 use Rattle.mfe.specs.Answers.{search_answer, search_entries}
 use Rattle.bench_table.specs.Designs.{half, zeros}
@@ -29,7 +29,7 @@ use Rattle.bench_table.specs.Dilute.{solution, least, below_least, most, above_m
 
 -- what a reply unfolds: the checks of a design
 unfoldable checked : ℕ
-unfolding befriends friends_to tabulate keep any first_index nearest wrong_sizes cells_out bad_cell ambient_out bad_ambient somewhere dilute potentials_out bad_potential null_binds strangers least_argument most_argument le lt eq ne
+unfolding befriends friends_to tabulate keep any first_index nearest wrong_sizes cells_out bad_cell ambient_out bad_ambient somewhere dilute potentials_out bad_potential null_binds not_all_friends least_argument most_argument le lt eq ne
 checked = 0
 
 -- and with it the logarithm

@@ -15,7 +15,7 @@ use Rattle.model.specs.States.{choices, count}
 use Rattle.model.specs.Search.{least_left, left_choice, traced, search_over, search}
 use Rattle.design.specs.declared.Amounts.TheVariants.{Potentials}
 use Rattle.design.specs.Design.{design, strand_bond, scaffold_bond, befriends, friends_to, model_of}
-use Rattle.design.specs.Checks.{wrong_sizes, cells_out, bad_cell, ambient_out, bad_ambient, somewhere, dilute, potentials_out, bad_potential, null_binds, strangers}
+use Rattle.design.specs.Checks.{wrong_sizes, cells_out, bad_cell, ambient_out, bad_ambient, somewhere, dilute, potentials_out, bad_potential, null_binds, not_all_friends}
 use Rattle.design.specs.Answers.{count_answer, rank_answer, state_energy_answer}
 use Rattle.mfe.specs.Answers.{search_answer}
 use Rattle.bench_table.specs.Designs.{half, zeros}
@@ -24,7 +24,7 @@ use Rattle.bench_table.specs.Faults.{ambient_with, cold, one, bound, null_bound,
 
 -- what a reply unfolds: the checks of a design
 unfoldable checked : ℕ
-unfolding befriends friends_to tabulate keep any first_index nearest wrong_sizes cells_out bad_cell ambient_out bad_ambient somewhere dilute potentials_out bad_potential null_binds strangers le lt eq ne
+unfolding befriends friends_to tabulate keep any first_index nearest wrong_sizes cells_out bad_cell ambient_out bad_ambient somewhere dilute potentials_out bad_potential null_binds not_all_friends le lt eq ne
 checked = 0
 
 -- and with it the states

@@ -14,7 +14,7 @@ use Rattle.reply.specs.declared.Refusal.TheVariants.{WrongSize, NotAFriend}
 use Rattle.model.specs.States.{each_before, listing, choices, count, states}
 use Rattle.model.specs.Search.{least_left, left_choice, traced, search_over, search}
 use Rattle.design.specs.Design.{strand_bond, scaffold_bond, befriends, friends_to, model_of}
-use Rattle.design.specs.Checks.{wrong_sizes, cells_out, bad_cell, ambient_out, bad_ambient, somewhere, dilute, potentials_out, bad_potential, null_binds, strangers}
+use Rattle.design.specs.Checks.{wrong_sizes, cells_out, bad_cell, ambient_out, bad_ambient, somewhere, dilute, potentials_out, bad_potential, null_binds, not_all_friends}
 use Rattle.design.specs.Answers.{friends_answer, friends_entries, count_answer, state_energy_answer, scaffold_bond_answer}
 use Rattle.mfe.specs.Answers.{search_answer, search_entries}
 use Rattle.std.specs.Prelude.{None}
@@ -22,7 +22,7 @@ use Rattle.bench_table.specs.Marked.{marked, usual, wild, FirstBlocked, LastBloc
 
 -- what a line unfolds: the checks of a design, and the model that it gives
 unfoldable checked : ℕ
-unfolding marked model_of friends_to befriends scaffold_bond strand_bond tabulate keep any first_index nearest wrong_sizes cells_out bad_cell ambient_out bad_ambient somewhere dilute potentials_out bad_potential null_binds strangers le lt eq ne
+unfolding marked model_of friends_to befriends scaffold_bond strand_bond tabulate keep any first_index nearest wrong_sizes cells_out bad_cell ambient_out bad_ambient somewhere dilute potentials_out bad_potential null_binds not_all_friends le lt eq ne
 checked = 0
 
 -- and with it the states and their number

@@ -14,7 +14,7 @@ use Rattle.reply.specs.declared.Refusal.TheVariants.{WrongSize, OutOfRange}
 use Rattle.model.specs.Energy.{state_terms, state_energy}
 use Rattle.model.specs.Search.{least_left, left_choice, traced, search_over, search}
 use Rattle.design.specs.Design.{strand_bond, scaffold_bond, befriends, friends_to, model_of}
-use Rattle.design.specs.Checks.{wrong_sizes, cells_out, bad_cell, ambient_out, bad_ambient, somewhere, dilute, potentials_out, bad_potential, null_binds, strangers}
+use Rattle.design.specs.Checks.{wrong_sizes, cells_out, bad_cell, ambient_out, bad_ambient, somewhere, dilute, potentials_out, bad_potential, null_binds, not_all_friends}
 use Rattle.bond_tables.specs.Tables.{bonds_out, model_over}
 use Rattle.bond_tables.specs.Answers.{energy_over_answer, search_over_answer, search_over_entries}
 use Rattle.std.specs.Prelude.{None, Some}
@@ -22,7 +22,7 @@ use Rattle.bond_tables.specs.Cases.{two_positions, strand_cells, scaffold_cells,
 
 -- what a case unfolds: the checks of a design and of the tables, and the model that they give
 unfoldable checked : ℕ
-unfolding two_positions model_over model_of friends_to befriends scaffold_bond strand_bond tabulate keep any first_index nearest wrong_sizes cells_out bad_cell bonds_out ambient_out bad_ambient somewhere dilute potentials_out bad_potential null_binds strangers le lt eq ne
+unfolding two_positions model_over model_of friends_to befriends scaffold_bond strand_bond tabulate keep any first_index nearest wrong_sizes cells_out bad_cell bonds_out ambient_out bad_ambient somewhere dilute potentials_out bad_potential null_binds not_all_friends le lt eq ne
 checked = 0
 
 -- and with it the search and the state energy

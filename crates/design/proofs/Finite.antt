@@ -21,7 +21,7 @@ use Rattle.model.specs.Model.{State}
 use Rattle.model.specs.Energy.{state_energy, chain_energy, chain_product}
 use Rattle.model.proofs.Bounds.{state-energy-within, chain-energy-within, chain-product-within}
 use Rattle.design.specs.Design.{Design, positions, strands, strand_bond_in, scaffold_bond_in, model_of}
-use Rattle.design.specs.Checks.{Admitted, no_strand, no_position, strangers, strand_bond_checks, scaffold_bond_checks, own_energy_checks, energy_checks}
+use Rattle.design.specs.Checks.{Admitted, no_strand, no_position, not_all_friends, strand_bond_checks, scaffold_bond_checks, own_energy_checks, energy_checks}
 use Rattle.design.specs.Answers.{Chain, no_chain, strand_bond_answer, scaffold_bond_answer}
 use Rattle.design.specs.Laws.{Doubles}
 use Rattle.design.specs.Finite.{DesignFinite}
@@ -40,7 +40,7 @@ pub taken : (d : Design) (s : List ℕ) → first_of (energy_checks d s) ≡ Ok 
 taken d s e =
     let p = passed (not (eqb (length s) (positions d))) d (own_energy_checks d s) [] e in
     let sized : length s ≡ positions d = eqb-true _ _ (not-false _ p.size) in
-    record { admitted = p.design; state = ((friends-right d).states s sized).0 (passes (NotAFriend if strangers d s) [] p.own).0 }
+    record { admitted = p.design; state = ((friends-right d).states s sized).0 (passes (NotAFriend if not_all_friends d s) [] p.own).0 }
 
 pub zero_in : (most : ℕ) → Within binary64 most zero
 zero_in most = weaken most (omega arith) zero-within

@@ -22,7 +22,7 @@ use Rattle.lists.proofs.Any.{none_below, all-below}
 use Rattle.lists.proofs.Keep.{kept, kept-below, kept-passes, kept-rise}
 use Rattle.model.specs.Model.{Friend, State, friends_at}
 use Rattle.design.specs.Design.{Design, positions, strands, blocked, scaffold_glue, west, bottom, east, cell, binding, befriends, friends_to, is_friend, friends_of, model_of}
-use Rattle.design.specs.Checks.{Admitted, TablesPass, null_glued, null_cells, null_binds, no_friend, stranger, strangers}
+use Rattle.design.specs.Checks.{Admitted, TablesPass, null_glued, null_cells, null_binds, no_friend, no_friend_at, not_all_friends}
 use Rattle.design.specs.Laws.{Bound, FriendsRight}
 use Rattle.design.proofs.Sizes.{sized}
 
@@ -151,17 +151,17 @@ module _ (d : Design) where
       go true p q = refl
       go false p q = simp (p, q)
 
-  states : (s : List ℕ) → length s ≡ positions d → (strangers d s ≡ false) ↔ State (model_of d) s
-  unfolding strangers
+  states : (s : List ℕ) → length s ≡ positions d → (not_all_friends d s ≡ false) ↔ State (model_of d) s
+  unfolding not_all_friends
   states s l = (
-    λ e. record { places = l ∙ sym positions-are; occupants = λ i h. occupant i (rw positions-are at h) (none_below (stranger d.scaffold d.marks d.glues d.dg d.ds (strands d) s) (positions d) e i (rw positions-are at h)) },
-    λ w. all-below (stranger d.scaffold d.marks d.glues d.dg d.ds (strands d) s) (positions d) (λ i h. a-friend i (get_or s i 0) (w.occupants i (rw positions-are h))),
+    λ e. record { places = l ∙ sym positions-are; occupants = λ i h. occupant i (rw positions-are at h) (none_below (no_friend_at d.scaffold d.marks d.glues d.dg d.ds (strands d) s) (positions d) e i (rw positions-are at h)) },
+    λ w. all-below (no_friend_at d.scaffold d.marks d.glues d.dg d.ds (strands d) s) (positions d) (λ i h. a-friend i (get_or s i 0) (w.occupants i (rw positions-are h))),
   )
     where
       positions-are : length (model_of d).friends ≡ positions d
       positions-are = unfold model_of in length-tabulate (positions d) (friends_of d)
 
-      occupant : (i : ℕ) → i < positions d → stranger d.scaffold d.marks d.glues d.dg d.ds (strands d) s i ≡ false → (get_or s i 0 ≡ 0) ⊎ Friend (model_of d) i (get_or s i 0)
+      occupant : (i : ℕ) → i < positions d → no_friend_at d.scaffold d.marks d.glues d.dg d.ds (strands d) s i ≡ false → (get_or s i 0 ≡ 0) ⊎ Friend (model_of d) i (get_or s i 0)
       occupant i h e = elim (no-stranger (strands d) (get_or s i 0) (is_friend d i (get_or s i 0)) e) [
         | inl z ↦ inl z
         | inr w ↦ inr (tested-friend i (get_or s i 0) h w.0 w.1)

@@ -25,7 +25,7 @@ use Rattle.model.specs.Model.{Friend}
 use Rattle.model.specs.Read.{SameRead, Alike}
 use Rattle.model.proofs.Read.{only-friends-read}
 use Rattle.design.specs.Design.{Design, positions, strands, amount, potential_by, potential, friends_of, model_of}
-use Rattle.design.specs.Checks.{beyond, friend_at, somewhere, by_concentration, thin, dilute, unfit, wrong_sizes, sizes_out, potentials_out, bad_potential, strangers, no_strand, no_position, table_checks, number_checks, design_checks, own_count_checks, own_rank_checks, own_energy_checks, strand_bond_checks, scaffold_bond_checks, friends_checks, count_checks, rank_checks, energy_checks}
+use Rattle.design.specs.Checks.{beyond, friend_at, somewhere, by_concentration, thin, dilute, unfit, wrong_sizes, sizes_out, potentials_out, bad_potential, not_all_friends, no_strand, no_position, table_checks, number_checks, design_checks, own_count_checks, own_rank_checks, own_energy_checks, strand_bond_checks, scaffold_bond_checks, friends_checks, count_checks, rank_checks, energy_checks}
 use Rattle.design.specs.Answers.{no_chain}
 use Rattle.design.specs.declared.Amounts.{Amounts}
 use Rattle.design.specs.Unread.{with_amounts, ReadAlike, ReadsAlike, AnswersAlike, UnreadAmounts}
@@ -128,9 +128,9 @@ module _ (d : Design) (amounts : List Float) (given : Amounts) (r : ReadAlike d 
   friends-same : (i : ℕ) → friends_of other i ≡ friends_of d i
   friends-same i = rw r.many refl
 
-  strangers-same : (s : List ℕ) → strangers other s ≡ strangers d s
-  unfolding strangers
-  strangers-same s = rw r.many refl
+  held-same : (s : List ℕ) → not_all_friends other s ≡ not_all_friends d s
+  unfolding not_all_friends
+  held-same s = rw r.many refl
 
   -- ---- the replies
 
@@ -165,7 +165,7 @@ module _ (d : Design) (amounts : List Float) (given : Amounts) (r : ReadAlike d 
   energy-reply : (s : List ℕ) → energy_checks other s ≡ energy_checks d s
   energy-reply s =
       let size = not (eqb (length s) (positions d)) in
-      ap (λ (t : Bool). design_checks size other (NotAFriend if t ∷ []) []) (strangers-same s) ∙ same-design-reply size (own_energy_checks d s) []
+      ap (λ (t : Bool). design_checks size other (NotAFriend if t ∷ []) []) (held-same s) ∙ same-design-reply size (own_energy_checks d s) []
 
   -- ---- the answers
 

@@ -154,13 +154,13 @@ no_friend blocked glue glues dg ds strands occupant =
     not (eqb occupant 0) && not (ltb occupant strands && (not blocked && befriends glue glues dg ds occupant))
 
 -- the same of the occupant of position i
-abbrev pub stranger : List ℕ → List ℕ → List ℕ → List Float → List Float → ℕ → List ℕ → ℕ → Bool
-stranger scaffold marks glues dg ds strands s i = no_friend (blocked_at marks i) (get_or scaffold i 0) glues dg ds strands (get_or s i 0)
+abbrev pub no_friend_at : List ℕ → List ℕ → List ℕ → List Float → List Float → ℕ → List ℕ → ℕ → Bool
+no_friend_at scaffold marks glues dg ds strands s i = no_friend (blocked_at marks i) (get_or scaffold i 0) glues dg ds strands (get_or s i 0)
 
--- document 01's refusal 11 of a configuration
-unfoldable pub strangers : Design → List ℕ → Bool
+-- document 01's refusal 11 of a configuration, a stranger in it: at some position it holds neither 0 nor a friend
+unfoldable pub not_all_friends : Design → List ℕ → Bool
 unfolding any tabulate befriends
-strangers d s = any (stranger d.scaffold d.marks d.glues d.dg d.ds (strands d) s) (up_to (positions d))
+not_all_friends d s = any (no_friend_at d.scaffold d.marks d.glues d.dg d.ds (strands d) s) (up_to (positions d))
 
 -- ---- many, and rank
 
@@ -252,7 +252,7 @@ rank_checks d rank entries = design_checks (not (eqb (length entries) (positions
 
 -- what a configuration itself is refused for
 abbrev pub own_energy_checks : Design → List ℕ → List Check
-own_energy_checks d s = NotAFriend if strangers d s ∷ []
+own_energy_checks d s = NotAFriend if not_all_friends d s ∷ []
 
 -- a configuration has one entry for each position
 abbrev pub energy_checks : Design → List ℕ → List Check

@@ -1,6 +1,6 @@
 -- What the fillers leave in lent rows and cells: the options of each position, the logarithms of concentrations, and the bonds of the cells that a search
 -- reads.
-use Rattle.std.specs.Prelude.{◌≡◌, Bool, false, cond, Result, Ok, Err, List, ◌++◌, ℕ, ◌+◌, ◌*◌, ◌-◌, ◌<◌, ◌≤◌, length, get_or, take, drop, Float}
+use Rattle.std.specs.Prelude.{◌≡◌, Bool, cond, Result, Ok, Err, List, ◌++◌, ℕ, ◌+◌, ◌*◌, ◌-◌, ◌<◌, ◌≤◌, length, get_or, take, drop, Float}
 use Rattle.std.specs.Float.{nan}
 use Rattle.doubles.specs.Decimal.{zero}
 use Rattle.reply.specs.declared.Refusal.{Refusal}

@@ -8,7 +8,7 @@ use Rattle.lists.specs.Order.{Rising}
 use Rattle.model.specs.Model.{Friend, State, friends_at}
 use Rattle.model.specs.Bounds.{Bounded}
 use Rattle.design.specs.Design.{Design, positions, strands, blocked, scaffold_glue, bottom, cell, model_of}
-use Rattle.design.specs.Checks.{Admitted, strangers}
+use Rattle.design.specs.Checks.{Admitted, not_all_friends}
 
 -- one of the design's strands, at a position that is open, with a nonzero dG or dS at the cell of the position's glue and its own bottom glue
 pub record Bound (d : Design) (i strand : ℕ) : Type 0 where
@@ -26,7 +26,7 @@ pub record FriendsRight (d : Design) : Type 0 where
   -- 0 is none of them in an admitted design
   pub not_null : Admitted d → (i : ℕ) → Friend (model_of d) i 0 → ⊥
   -- a configuration with an entry for each position is a state exactly if it holds no stranger
-  pub states : (s : List ℕ) → length s ≡ positions d → (strangers d s ≡ false) ↔ State (model_of d) s
+  pub states : (s : List ℕ) → length s ≡ positions d → (not_all_friends d s ≡ false) ↔ State (model_of d) s
 
 -- every number of the design is a double
 pub record Doubles (d : Design) : Type 0 where

@@ -14,7 +14,7 @@ use Rattle.reply.proofs.Figures.{number-admitted}
 use Rattle.model.specs.Model.{State}
 use Rattle.model.specs.Ring.{LowestRing, ring_energy, ring_search}
 use Rattle.design.specs.Design.{Design, positions, model_of}
-use Rattle.design.specs.Checks.{Admitted, strangers, own_energy_checks}
+use Rattle.design.specs.Checks.{Admitted, not_all_friends, own_energy_checks}
 use Rattle.design.specs.Laws.{Doubles}
 use Rattle.design.proofs.FriendLaws.{friends-right}
 use Rattle.design.proofs.Replies.{passed, own-decide}
@@ -50,7 +50,7 @@ ring-search-answered d entries doubles = record {
 -- ---- the energy
 
 module _ (d : Design) (s : List ℕ) where
-  energy-reply : Admitted d → least_ring ≤ positions d → length s ≡ positions d → strangers d s ≡ false → first_of (ring_energy_checks d s) ≡ Ok tt
+  energy-reply : Admitted d → least_ring ≤ positions d → length s ≡ positions d → not_all_friends d s ≡ false → first_of (ring_energy_checks d s) ≡ Ok tt
   energy-reply a h l t =
       own-decide (not (eqb (length s) (positions d))) d (own_energy_checks d s) (own_ring_checks d) (ap not (eq-eqb _ _ l)) a (rw t refl) ∙ ring-passes d h
 

@@ -3,7 +3,7 @@
 // What the Rust reads off `self` is lent as one `Design`.
 #![tactic(auto)]
 
-mod strangers;
+mod occupants;
 
 ghost use Rattle.std.specs.Prelude.{◌≡◌, ◌≤◌, length, IfOk, OnOk};
 ghost use Rattle.reply.specs.First.{first_of};
@@ -24,7 +24,7 @@ use ensemble::states::{MOST_STATES, write_state};
 use prepared::options::{Counted, count_options};
 use reply::limits::{POSITIONS, STRANDS};
 use reply::{Refusal, Refused, refused_if};
-use strangers::has_stranger;
+use occupants::not_all_friends;
 use units::KcalPerMol;
 
 // The bond between strand x and strand y to the east of it.
@@ -105,7 +105,7 @@ pub fn energy_admitted<'a>(
     ensures few { OnOk result (length configuration.now ≤ 128) }
 {
     let tabled = tabled(configuration.len() != design.positions(), design)?;
-    refused_if(Refusal::NotAFriend, has_stranger(design, configuration))?;
+    refused_if(Refusal::NotAFriend, not_all_friends(design, configuration))?;
     tabled.admitted(logarithms)
 }
 
