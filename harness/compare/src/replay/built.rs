@@ -135,18 +135,16 @@ fn chosen() -> Vec<Parameters> {
     ] {
         sets.push(with(|set| set.entries.push(again)));
     }
-    for (penalty, at) in [(0.0, -0.0), (0.5, 0.125)].into_iter().enumerate() {
-        let (dg, ds) = at;
-        for x in about_the_end(1024.0, dg) {
+    // Sums at and past the ends of both ranges.
+    for penalty in [(0.0, -0.0), (0.5, 0.125)] {
+        let dg = about_the_end(1024.0, penalty.0)
+            .into_iter()
+            .map(|x| (x, 0.25));
+        let ds = about_the_end(8.0, penalty.1).into_iter().map(|x| (1.0, x));
+        for (dg, ds) in dg.chain(ds) {
             sets.push(with(|set| {
-                set.penalty = (dg, ds);
-                set.entries[1].1 = Energy::Given(x, [0.0, 1.0][penalty]);
-            }));
-        }
-        for x in about_the_end(8.0, ds) {
-            sets.push(with(|set| {
-                set.penalty = (dg, ds);
-                set.entries[1].1 = Energy::Given([0.0, 1.0][penalty], x);
+                set.penalty = penalty;
+                set.entries[1].1 = Energy::Given(dg, ds);
             }));
         }
     }
