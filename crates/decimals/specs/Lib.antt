@@ -3,6 +3,6 @@ pub mod Number
 pub mod ReadCases
 pub mod Print
 pub mod PrintCases
-pub mod Limbs
 pub mod Nearest
 pub mod Back
+pub mod inner

@@ -19,13 +19,17 @@ use Rattle.model.specs.States.{count}
 use Rattle.design.specs.Design.{Design, positions, model_of}
 use Rattle.design.specs.Checks.{table_checks, number_checks, design_checks, own_rank_checks, own_count_checks}
 use Rattle.jobs.specs.Job.{places, number_for}
-use Rattle.jobs.specs.inner.Judged.{first_number, ◌or_next◌, tables_of, states_of, numbers_of, judged_reply, JudgedRight}
+use Rattle.jobs.specs.inner.Judged.{◌or_next◌, reply_of, states_of, numbers_of, judged_reply, JudgedRight}
 use Rattle.jobs.specs.declared.job.Job.TheVariants.{EnergyAt, Search, Count}
 use Rattle.jobs.specs.declared.job.Job.{Job}
-use Rattle.std.specs.Prelude.{Option, None, Some, Result, Ok, Err}
+use Rattle.std.specs.Prelude.{cond, Option, None, Some, Result, Ok, Err}
 use Rattle.jobs.specs.declared.judge.Judged.{Judged}
 
 -- ---- numbers of replies
+
+-- the first of two numbers that is not 0
+abbrev first_number : ℕ → ℕ → ℕ
+first_number number next = cond (eqb number 0) next number
 
 pub number-or : (r s : Reply) → reply_number (r or_else s) ≡ first_number (reply_number r) (reply_number s)
 number-or (Ok u) s = refl
@@ -94,13 +98,13 @@ module _ (d : Design) {j : Result Judged Refusal} (w : JudgedRight d j) where
 
   -- the judged replies as numbers
   abbrev told : ℕ
-  told = answer_number (tables_of j)
+  told = answer_number (reply_of j)
 
   told-is : told ≡ reply_number (first_of tables)
   told-is = ap answer_number w.tables ∙ bare-number (first_of tables)
 
   numbers-are : told ≡ 0 → answer_number (numbers_of j) ≡ numbers
-  numbers-are z = ap answer_number (w.numbers (passed (tables_of j) z)) ∙ bare-number (first_of (number_checks d))
+  numbers-are z = ap answer_number (w.numbers (passed (reply_of j) z)) ∙ bare-number (first_of (number_checks d))
 
   -- where the tables refuse, what comes after is not looked at
   after : (x y : ℕ) → (told ≡ 0 → x ≡ y) → first_number told x ≡ first_number (reply_number (first_of tables)) y
@@ -123,10 +127,10 @@ module _ (d : Design) {j : Result Judged Refusal} (w : JudgedRight d j) where
   search-told = whole _ [] _ _ (own-size d) (answer_number (numbers_of j)) numbers-are
 
   count-told : first_number told (first_number (many_of (states_of j)) (answer_number (numbers_of j))) ≡ number_for d (Some Count)
-  count-told = whole false (own_count_checks d) _ _ refl _ (λ z. rw (numbers-are z) (many-number (count (model_of d)) (w.states (passed (tables_of j) z)) numbers ∙ sym (number-joined (own_count_checks d) (number_checks d))))
+  count-told = whole false (own_count_checks d) _ _ refl _ (λ z. rw (numbers-are z) (many-number (count (model_of d)) (w.states (passed (reply_of j) z)) numbers ∙ sym (number-joined (own_count_checks d) (number_checks d))))
 
   rank-told : (rank : ℕ) → first_number told (first_number (many_of (states_of j)) (first_number (high_of (states_of j) rank) (answer_number (numbers_of j)))) ≡ number_for d (Some (EnergyAt rank))
-  rank-told rank = whole _ (own_rank_checks d rank) _ _ (own-size d) _ (λ z. rw (numbers-are z) (rank-number (count (model_of d)) (w.states (passed (tables_of j) z)) rank numbers ∙ sym listed))
+  rank-told rank = whole _ (own_rank_checks d rank) _ _ (own-size d) _ (λ z. rw (numbers-are z) (rank-number (count (model_of d)) (w.states (passed (reply_of j) z)) rank numbers ∙ sym listed))
     where
       listed : reply_number (first_of (own_rank_checks d rank ++ number_checks d)) ≡ first_number (many_of (count (model_of d))) (first_number (high_of (count (model_of d)) rank) numbers)
       listed =
@@ -138,13 +142,13 @@ module _ (d : Design) {j : Result Judged Refusal} (w : JudgedRight d j) where
   job-told (Some (EnergyAt rank)) =
       let many = first_of (TooManyStates if ltb 1048576 (states_of j) ∷ []) in
       let high = first_of (RankTooHigh if leb (states_of j) rank ∷ []) in
-      bare-or (tables_of j) (bare many or_next (bare high or_next (numbers_of j)))
+      bare-or (reply_of j) (bare many or_next (bare high or_next (numbers_of j)))
       ∙ ap (first_number told) (bare-or (bare many) (bare high or_next (numbers_of j)) ∙ ap₂ first_number (bare-number many) (bare-or (bare high) (numbers_of j) ∙ ap (λ (n : ℕ). first_number n (answer_number (numbers_of j))) (bare-number high)))
       ∙ rank-told rank
-  job-told (Some Search) = bare-or (tables_of j) (numbers_of j) ∙ search-told
+  job-told (Some Search) = bare-or (reply_of j) (numbers_of j) ∙ search-told
   job-told (Some Count) =
       let many = first_of (TooManyStates if ltb 1048576 (states_of j) ∷ []) in
-      bare-or (tables_of j) (bare many or_next (numbers_of j))
+      bare-or (reply_of j) (bare many or_next (numbers_of j))
       ∙ ap (first_number told) (bare-or (bare many) (numbers_of j) ∙ ap (λ (n : ℕ). first_number n (answer_number (numbers_of j))) (bare-number many))
       ∙ count-told
   job-told None = refl

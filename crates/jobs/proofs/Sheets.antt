@@ -17,7 +17,7 @@ use Rattle.design.specs.Design.{Design, positions}
 use Rattle.design.specs.Checks.{table_checks, number_checks}
 use Rattle.jobs.specs.Job.{job_number, job_energy, job_count}
 use Rattle.jobs.specs.Sheet.{Sheet, wrong_sheet, stretches_of, sheet_reply, sheet_numbers, sheet_energies, sheet_counts, sheet_stretches}
-use Rattle.jobs.specs.inner.Judged.{tables_of, numbers_of, JudgedRight}
+use Rattle.jobs.specs.inner.Judged.{reply_of, numbers_of, JudgedRight}
 use Rattle.jobs.specs.declared.judge.Judged.{Judged}
 use Rattle.std.specs.Prelude.{Option, Result, Ok, Err}
 use Rattle.std.specs.Result.{is_err}
@@ -68,11 +68,11 @@ passed (Ok u) f = refl
 passed (Err refusal) f = absurd (true≢false f)
 
 module _ (d : Design) {j : Result Judged Refusal} (w : JudgedRight d j) where
-  pub unfit-tables : is_err (tables_of j) ≡ true → Unfit d
+  pub unfit-tables : is_err (reply_of j) ≡ true → Unfit d
   unfit-tables n = let r = refusal-of (first_of (table_checks false d.scaffold d.marks d.glues d.dg d.ds d.amounts)) w.tables n in (r.0, r.1, inl r.2)
 
-  pub unfit-numbers : is_err (tables_of j) ≡ false → is_err (numbers_of j) ≡ true → Unfit d
+  pub unfit-numbers : is_err (reply_of j) ≡ false → is_err (numbers_of j) ≡ true → Unfit d
   unfit-numbers z n =
-      let pass = passed (tables_of j) z in
+      let pass = passed (reply_of j) z in
       let r = refusal-of (first_of (number_checks d)) (w.numbers pass) n in
       (r.0, r.1, inr (admitted_of (first_of (table_checks false d.scaffold d.marks d.glues d.dg d.ds d.amounts)) (sym w.tables ∙ pass), r.2))

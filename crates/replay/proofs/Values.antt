@@ -1,7 +1,6 @@
--- What holds where there is a value. Assumes nothing.
-use Rattle.std.proofs.Common.{◌≡◌, Bool, true, false, sym, subst, refl, ◌∙◌}
-use Rattle.std.specs.Prelude.{Option, Some, None, OnSome, Result, Ok, Err, OkIff}
-use Rattle.std.specs.Result.{result_ok}
+-- What holds where there is a value, and of equals. Assumes nothing.
+use Rattle.std.proofs.Common.{◌≡◌, ℕ, List, Bool, true, false, sym, subst, refl}
+use Rattle.std.specs.Prelude.{Option, Some, None, OnSome}
 use Rattle.std.specs.Bool.{then_some}
 
 -- what follows from what holds where there is a value holds there too
@@ -17,7 +16,7 @@ on-then {A} {P} b x o e h = subst (λ (o : Option A). OnSome o P) (sym e) (go b 
     go true h = h refl
     go false h = tt
 
--- the value of a conversion that succeeded is the number that was converted
-pub ok-is : {A E : Type 0} {v k : A} (P : Type 0) (r : Result A E) → OkIff r P v → Some k ≡ result_ok r → k ≡ v
-ok-is {v = v} {k = k} P (Ok x) h e = let s : k ≡ x = cc in s ∙ h.1
-ok-is P (Err y) h e = cc
+-- what is said of words, a number and a list is said of equal ones
+pub said-as : (S : List ℕ → ℕ → List ℕ → Type 0) → {v w : List ℕ} {m n : ℕ} {ps qs : List ℕ} → v ≡ w → m ≡ n → ps ≡ qs → S v m ps → S w n qs
+said-as S {v} {w} {m} {n} {ps} {qs} p q r s =
+    subst (λ (x : List ℕ). S x n qs) p (subst (λ (x : ℕ). S v x qs) q (subst (λ (x : List ℕ). S v m x) r s))

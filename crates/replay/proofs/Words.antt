@@ -7,9 +7,6 @@ use Rattle.replay.specs.Text.{Decimal}
 pub as-decimal : {v w : List ℕ} {x : ℕ} → v ≡ w → Decimal v x → Decimal w x
 as-decimal {v} {w} {x} same h = subst (λ (l : List ℕ). Decimal l x) same h
 
-pub as-number : {w : List ℕ} {x y : ℕ} → x ≡ y → Decimal w x → Decimal w y
-as-number {w} same h = subst (λ (n : ℕ). Decimal w n) same h
-
 pub as-word : {v w : List ℕ} {b : Bool} → b ≡ pointwise eqb v w → b ≡ true → v ≡ w
 as-word {v} {w} e is = (bytes_decides v w).0 (sym e ∙ is)
 

@@ -5,3 +5,5 @@ pub mod Places
 pub mod Setting
 pub mod Designs
 pub mod Digits
+pub mod Stored
+pub mod Built

@@ -1,6 +1,6 @@
 -- What the words of a line say was answered.
 use Rattle.std.specs.Prelude.{◌≡◌, ℕ, ◌⊎◌, List, [], ◌∷◌, ◌++◌}
-use Rattle.replay.specs.Text.{up_to, past, hex_text, Decimal}
+use Rattle.replay.specs.Text.{up_to, past, hex_text, texts, Decimal}
 
 -- a blank
 abbrev pub blank : ℕ
@@ -14,10 +14,13 @@ ok = 111 ∷ 107 ∷ []
 abbrev pub refused : List ℕ
 refused = 114 ∷ 101 ∷ 102 ∷ 117 ∷ 115 ∷ 101 ∷ 100 ∷ []
 
--- a blank and 16 hex digits for each figure
-unfoldable pub figures_text : List ℕ → List ℕ
-figures_text [] = []
-figures_text (bits ∷ figures) = (blank ∷ hex_text bits) ++ figures_text figures
+-- a blank and 16 hex digits
+abbrev pub figure_text : ℕ → List ℕ
+figure_text bits = blank ∷ hex_text bits
+
+-- that of each figure
+abbrev pub figures_text : List ℕ → List ℕ
+figures_text figures = texts figure_text figures
 
 -- `refused NUMBER`
 pub record SaysRefused (words : List ℕ) (number : ℕ) : Type 0 where

@@ -1,4 +1,4 @@
--- What a line that sets one number of a design does, its kind's own word left out.
+-- What a line that sets one number of a design or of a parameter set does, its kind's own word left out.
 use Rattle.std.specs.Prelude.{◌≡◌, ℕ, List, from_bits, slice_set, Float}
 use Rattle.std.specs.Float.{binary64}
 use Rattle.replay.specs.Text.{hex_text, Decimal}
@@ -10,8 +10,8 @@ pub record EntrySet {A : Type 0} (name : List ℕ) (value : A) (before after : L
   pub first : Decimal name index
   pub entries : after ≡ slice_set before index value
 
--- INDEX BYTE
-pub record ByteSet (words : List ℕ) (before after : List ℕ) : Type 0 where
+-- INDEX BYTE, INDEX NUMBER
+pub record NumberSet (words : List ℕ) (before after : List ℕ) : Type 0 where
   pub value : ℕ
   pub second : Decimal (later words) value
   pub set : EntrySet (word words) value before after

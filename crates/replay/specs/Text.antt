@@ -1,5 +1,5 @@
 -- The text of a list: parts of it between marks, and numbers as it writes them.
-use Rattle.std.specs.Prelude.{◌≡◌, ℕ, ◌+◌, List, take, drop, nat_eq}
+use Rattle.std.specs.Prelude.{◌≡◌, ℕ, ◌+◌, List, [], ◌∷◌, ◌++◌, take, drop, nat_eq}
 use Rattle.decimals.specs.Digits.{digits_in}
 use Rattle.replay.specs.Digits.{IsDigitCount}
 use Rattle.lists.specs.Find.{first_index}
@@ -13,9 +13,13 @@ abbrev pub past : ℕ → List ℕ → List ℕ
 past mark text = drop (first_index (nat_eq mark) text + 1) text
 
 -- 64 bits as 16 hex digits
-unfoldable pub hex_text : ℕ → List ℕ
-unfolding digits_in
+abbrev pub hex_text : ℕ → List ℕ
 hex_text bits = digits_in 16 16 bits
+
+-- the texts of numbers, one after the other
+unfoldable pub texts : (ℕ → List ℕ) → List ℕ → List ℕ
+texts text [] = []
+texts text (number ∷ numbers) = text number ++ texts text numbers
 
 -- a number in the fewest decimal digits
 pub record Decimal (word : List ℕ) (number : ℕ) : Type 0 where

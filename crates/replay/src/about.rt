@@ -26,8 +26,8 @@ pub(crate) struct Design {
     ghost few_strands: { strands ≤ 64 },
 }
 
-// A count up to a limit; 0 for a word that is none, and every call refuses a design without strands.
-fn size(word: &[u8], most: usize) -> usize
+// A count up to a limit; 0 for a word that is none, and every call on a design refuses one without strands.
+pub(crate) fn size(word: &[u8], most: usize) -> usize
     ensures { result ≤ most }
 {
     match decimal(word) {
@@ -37,7 +37,7 @@ fn size(word: &[u8], most: usize) -> usize
 }
 
 // A double; a word that is none gives a NaN, which every call refuses.
-fn double_of(word: &[u8]) -> f64 {
+pub(crate) fn double_of(word: &[u8]) -> f64 {
     hex(word).map_or(0.0 / 0.0, double)
 }
 

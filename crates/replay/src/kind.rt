@@ -19,10 +19,14 @@ pub(crate) enum Kind {
     ChainEnergy,
     Search,
     Settled,
+    DeckRead,
+    DeckWrite,
+    DeckMove,
+    Build,
 }
 
 // The kinds, each after its own word, in the order in which they are counted.
-pub(crate) const KINDS: [(&[u8], Kind); 16] = [
+pub(crate) const KINDS: [(&[u8], Kind); 20] = [
     (b"seq", Kind::Sequence),
     (b"pair", Kind::Pair),
     (b"loop", Kind::Loop),
@@ -39,6 +43,10 @@ pub(crate) const KINDS: [(&[u8], Kind); 16] = [
     (b"chain", Kind::ChainEnergy),
     (b"mfe", Kind::Search),
     (b"settled", Kind::Settled),
+    (b"read", Kind::DeckRead),
+    (b"write", Kind::DeckWrite),
+    (b"move", Kind::DeckMove),
+    (b"build", Kind::Build),
 ];
 
 impl Kind {

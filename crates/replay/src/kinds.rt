@@ -3,7 +3,7 @@
 ghost use Rattle.std.specs.Prelude.{◌≡◌, OnSome};
 ghost use Rattle.replay.specs.Kinds.{letters as letters·of, SequenceLine, PairLine, LoopLine, StrengthLine, Strength2Line, AmbientLine, NameLine};
 
-use crate::numbers::{decimal, hex};
+use crate::numbers::{decimal, hex, whole};
 use crate::parts::split_at_first;
 use crate::says::says;
 use doubles::{bits, double};
@@ -50,8 +50,7 @@ pub(crate) fn loop_energy(words: &[u8]) -> Option<()>
     let (first, rest) = split_at_first(words, b' ');
     let (second, answer) = split_at_first(rest, b' ');
     let length = decimal(first)?;
-    let read = decimal(second)?;
-    let kind = u32::try_from(read).ok()?;
+    let kind = whole(second)?;
     let mut dg = 0.0;
     let reply = exports::mj_loop_penalty(length as usize, kind, &mut dg);
     let figures = [bits(dg)];

@@ -4,6 +4,7 @@
 #![tactic(auto)]
 
 mod about;
+mod built;
 mod designs;
 mod kind;
 mod kinds;
@@ -11,13 +12,16 @@ mod numbers;
 mod parts;
 mod places;
 mod says;
+mod sets;
 mod setting;
+mod stored;
 
 use about::Design;
 use kind::{KINDS, Kind};
 use parts::split_at_first;
 use places::read_places;
 use reply::limits::{POSITIONS, STRANDS};
+use sets::Parameters;
 use std::fs::File;
 use std::io;
 use std::io::Write;
@@ -41,10 +45,35 @@ impl Count {
     }
 }
 
+// What lines have set, which questions are about.
+#[derive(Drop)]
+struct Set {
+    design: Design,
+    parameters: Parameters,
+}
+
+impl Set {
+    // Nothing yet.
+    fn begun() -> Set {
+        Set {
+            design: Design::begun(b""),
+            parameters: Parameters::begun(b""),
+        }
+    }
+
+    // A line that is no question: `Some` where it sets something.
+    fn set(&mut self, word: &[u8], words: &[u8]) -> Option<()> {
+        match self.design.set(word, words) {
+            Some(()) => Some(()),
+            None => self.parameters.set(word, words),
+        }
+    }
+}
+
 // The counts: one for each kind, and one for lines of no kind.
 #[derive(Drop)]
 struct Tally {
-    kinds: [Count; 16],
+    kinds: [Count; 20],
     no_kind: Count,
 }
 
@@ -61,8 +90,8 @@ fn configuration_of<'a>(words: &[u8], room: &'a mut [u8; POSITIONS]) -> &'a [u8]
 }
 
 // `Some` where a line says what the port answers. Calls are lent as many places as there are positions.
-fn agrees(kind: Kind, words: &[u8], design: &Design) -> Option<()> {
-    let design = design.lent();
+fn agrees(kind: Kind, words: &[u8], set: &Set) -> Option<()> {
+    let design = set.design.lent();
     let mut entries = [0u8; STRANDS];
     let mut room = [0u8; POSITIONS];
     let n = design.scaffold.len();
@@ -87,6 +116,10 @@ fn agrees(kind: Kind, words: &[u8], design: &Design) -> Option<()> {
         }
         Kind::Search => designs::search(words, &design, &mut room[..n]),
         Kind::Settled => designs::settled(words, &design, &mut room[..n]),
+        Kind::DeckRead => stored::read(words),
+        Kind::DeckWrite => stored::write(words),
+        Kind::DeckMove => stored::move_deck(words),
+        Kind::Build => built::build(words, &set.parameters.lent()),
     }
 }
 
@@ -106,12 +139,12 @@ fn print_difference<W: Write>(out: &mut W, number: u64, line: &[u8]) -> io::Resu
 fn replay_setting<W: Write>(
     out: &mut W,
     tally: &mut Tally,
-    design: &mut Design,
+    set: &mut Set,
     number: u64,
     line: &[u8],
 ) -> io::Result<()> {
     let (word, words) = split_at_first(line, b' ');
-    let sets = design.set(word, words);
+    let sets = set.set(word, words);
     if is_well_formed(line) && sets.is_some() {
         return Ok(());
     }
@@ -123,7 +156,7 @@ fn replay_setting<W: Write>(
 fn replay_line<W: Write>(
     out: &mut W,
     tally: &mut Tally,
-    design: &mut Design,
+    set: &mut Set,
     number: u64,
     line: &[u8],
 ) -> io::Result<()> {
@@ -132,9 +165,9 @@ fn replay_line<W: Write>(
     }
     let (word, words) = split_at_first(line, b' ');
     let Some(kind) = Kind::of(word) else {
-        return replay_setting(out, tally, design, number, line);
+        return replay_setting(out, tally, set, number, line);
     };
-    let agreed = is_well_formed(line) && agrees(kind, words, design).is_some();
+    let agreed = is_well_formed(line) && agrees(kind, words, set).is_some();
     tally.kinds[kind as usize].add(agreed);
     if agreed {
         return Ok(());
@@ -168,10 +201,10 @@ fn next_line<'a, W: Write, F: FileExt>(
 // Every line of the list. A proved loop has to end, and nothing says that a file does: it is given more turns than any list has lines.
 fn replay<W: Write, F: FileExt>(out: &mut W, file: &F) -> io::Result<Tally> {
     let mut tally = Tally {
-        kinds: [Count::default(); 16],
+        kinds: [Count::default(); 20],
         no_kind: Count::default(),
     };
-    let mut design = Design::begun(b"");
+    let mut set = Set::begun();
     let mut at: usize = 0;
     for number in 1..u64::MAX {
         let mut block = [0u8; BLOCK];
@@ -179,7 +212,7 @@ fn replay<W: Write, F: FileExt>(out: &mut W, file: &F) -> io::Result<Tally> {
             break;
         };
         at = at.wrapping_add(line.len()).wrapping_add(1);
-        replay_line(out, &mut tally, &mut design, number, line)?;
+        replay_line(out, &mut tally, &mut set, number, line)?;
     }
     Ok(tally)
 }

@@ -15,7 +15,7 @@ fn are_letters(text: &[u8], places: &[u8]) -> bool
         && text
             .iter()
             .zip(places)
-            .all(|(letter, place)| *place <= 63 && *letter == *place + 48)
+            .all(|(letter, place)| *place <= 207 && *letter == *place + 48)
 }
 
 // Whether a word is a configuration.

@@ -21,7 +21,7 @@ pub(crate) fn refused(words: &[u8], number: u32) -> Option<()>
 fn is_figure(text: &[u8; 17], figure: u64) -> bool
     ensures { result ≡ true → text.now ≡ blank ∷ hex_text figure }
 {
-    text[0] == b' ' && is_hex(&text[1..], figure)
+    text[0] == b' ' && is_hex(&text[1..], figure, 16)
 }
 
 // As many figures as there are, one in each part.

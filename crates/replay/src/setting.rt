@@ -1,6 +1,6 @@
-// The lines that set a design, one number at a time.
+// The lines that set a design or a parameter set, one number at a time.
 ghost use Rattle.std.specs.Prelude.{OnSome};
-ghost use Rattle.replay.specs.Setting.{EntrySet, ByteSet, DoubleSet};
+ghost use Rattle.replay.specs.Setting.{EntrySet, NumberSet, DoubleSet};
 
 use crate::numbers::{decimal, hex, small};
 use crate::parts::split_at_first;
@@ -22,11 +22,20 @@ fn set<T: Copy>(word: &[u8], value: T, slice: &mut [T]) -> Option<()>
 
 // `INDEX BYTE`: `Some` where the line sets an entry.
 pub(crate) fn set_byte(words: &[u8], slice: &mut [u8]) -> Option<()>
-    ensures { OnSome result (ByteSet words.now slice.old slice.new) }
+    ensures { OnSome result (NumberSet words.now slice.old slice.new) }
 {
     let (first, second) = split_at_first(words, b' ');
     let value = small(second)?;
     set(first, value, slice)
+}
+
+// `INDEX NUMBER`.
+pub(crate) fn set_number(words: &[u8], slice: &mut [usize]) -> Option<()>
+    ensures { OnSome result (NumberSet words.now slice.old slice.new) }
+{
+    let (first, second) = split_at_first(words, b' ');
+    let value = decimal(second)?;
+    set(first, value as usize, slice)
 }
 
 // `INDEX DOUBLE`.

@@ -12,7 +12,8 @@ use borrow.Author.Tests.{eq-eqb, ne_eqb, lt-ltb, le-ltb}
 use Rattle.std.specs.List.{prefix_len}
 use Rattle.std.proofs.lemmas.List.{drop-drop, length-drop}
 use Rattle.std.proofs.lemmas.List.Sums.{prefix_len_stops}
-use Rattle.statements.specs.Words.{is_newline, not_newline, is_blank, not_blank, line_of, lines_from, word_at, scan, words_in}
+use Rattle.statements.specs.Words.{is_newline, is_blank, line_of, lines_from, word_at, scan, words_in}
+use Rattle.statements.specs.inner.Words.{not_newline, not_blank}
 
 -- the part of a text that is lent from a place on
 pub rest_is : (text : List ℕ) (at : ℕ) → take (length text - at) (drop at text) ≡ drop at text

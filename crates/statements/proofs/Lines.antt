@@ -9,7 +9,7 @@ use borrow.Author.Tests.{lt-ltb, le-ltb}
 use Rattle.std.specs.Prelude.{Option, Result, Ok, Err, MatchResult, IsErrAnd}
 use Rattle.lists.proofs.Front.{sets-append}
 use Rattle.statements.specs.Words.{words_in, spelled}
-use Rattle.statements.specs.Lines.{lines_left, IsFirst}
+use Rattle.statements.specs.inner.Lines.{lines_left, IsFirst}
 use Rattle.statements.specs.Grammar.{kind_of}
 use Rattle.statements.specs.Statement.{statement_from, statement_of_words, statement_of}
 use Rattle.statements.specs.Rows.{rows_of_line, rows_from, count_of, answer_by, answer_from}

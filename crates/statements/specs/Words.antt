@@ -1,6 +1,6 @@
 -- Lines and words of a text, which is a list of bytes. Lines end at byte 10. Blanks are space, tab and carriage return. A word that begins
 -- with `#` begins a comment up to the line's end; a `#` further inside a word, and any other byte, is a byte of words like any letter.
-use Rattle.std.specs.Prelude.{Bool, not, cond, ◌||◌, List, [], ◌∷◌, ◌≡◌, ℕ, ◌+◌, ◌-◌, ◌≤◌, ◌<◌, eqb, ltb, length, take, drop}
+use Rattle.std.specs.Prelude.{Bool, cond, ◌||◌, List, [], ◌∷◌, ℕ, ◌+◌, ◌-◌, eqb, ltb, take, drop}
 use Rattle.std.proofs.Math.Option.{Option, none, some}
 use Rattle.std.specs.Str.{bytes_eq}
 use Rattle.statements.specs.declared.words.Word.{Word}
@@ -9,17 +9,9 @@ use Rattle.statements.specs.declared.words.Word.{Word}
 abbrev pub is_newline : ℕ → Bool
 is_newline byte = eqb byte 10
 
--- any other byte
-abbrev pub not_newline : ℕ → Bool
-not_newline byte = not (is_newline byte)
-
 -- a byte between words
 abbrev pub is_blank : ℕ → Bool
 is_blank byte = eqb byte 32 || eqb byte 9 || eqb byte 13
-
--- any other byte
-abbrev pub not_blank : ℕ → Bool
-not_blank byte = not (is_blank byte)
 
 -- the byte `#`
 abbrev pub is_hash : ℕ → Bool
@@ -77,16 +69,3 @@ spelled line word = take word.size (drop word.start line)
 -- the same bytes
 abbrev pub spells : List ℕ → List ℕ → Bool
 spells word keyword = bytes_eq word keyword
-
--- ---- what reading word by word goes by
-
--- the word does not leave the line
-abbrev pub Inside : List ℕ → Word → Type 0
-Inside line word = word.start + word.size ≤ length line
-
--- the first word from a place on
-pub record IsNext (line : List ℕ) (at : ℕ) (word : Word) : Type 0 where
-  pub on : at ≤ word.start
-  pub some : 0 < word.size
-  pub inside : Inside line word
-  pub more : words_in line at ≡ word ∷ words_in line (word.start + word.size)

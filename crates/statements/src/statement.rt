@@ -1,7 +1,8 @@
 // The statement of a line.
 ghost use Rattle.std.specs.Prelude.{◌≡◌, ◌<◌, ◌+◌};
 ghost use Rattle.std.specs.Option.{ForSome};
-ghost use Rattle.statements.specs.Words.{Inside, words_in};
+ghost use Rattle.statements.specs.Words.{words_in};
+ghost use Rattle.statements.specs.inner.Words.{Inside};
 ghost use Rattle.statements.specs.Grammar.{InRow};
 ghost use Rattle.statements.specs.Statement.{reason_of, blank, put, glue_of, accepted, closed, fit, statement_of};
 

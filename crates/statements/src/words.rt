@@ -2,7 +2,8 @@
 ghost use Rattle.std.specs.Prelude.{◌≡◌, ◌∷◌, [], ◌+◌, ◌^◌, ◌≤◌, ◌<◌, length, drop, MatchOption};
 ghost use Rattle.std.specs.List.{prefix_len};
 ghost use Rattle.std.specs.Iterator.{YieldsFirst, item_count};
-ghost use Rattle.statements.specs.Words.{not_newline, is_blank, not_blank, words_in, IsNext, spelled, line_of, lines_from};
+ghost use Rattle.statements.specs.Words.{is_blank, words_in, spelled, line_of, lines_from};
+ghost use Rattle.statements.specs.inner.Words.{not_newline, not_blank, IsNext};
 
 // A word by its place in the text. In a row a size of 0 stands for no word.
 #[derive(Clone, Copy, PartialEq, Eq, Default)]
@@ -66,7 +67,7 @@ impl<'a> Lines<'a> {
 }
 
 impl<'a> Iterator for Lines<'a> {
-    ghost use Rattle.statements.specs.Lines.{lines_left, GivesLine};
+    ghost use Rattle.statements.specs.inner.Lines.{lines_left, GivesLine};
 
     type Item = NumberedLine<'a>;
 

@@ -13,7 +13,7 @@ use mathlib.Core.Bool.{false}
 use mathlib.Core.Path.{◌≡◌, sym, ap, ◌∙◌}
 use Rattle.jobs.proofs.job_sheet.Goals as goal
 use Rattle.jobs.proofs.job_sheet.Goals.{in_default-via-in-Ok+in-Err-1, in_default-via-in-Err-1}
-use Rattle.jobs.specs.inner.Judged.{tables_of, numbers_of}
+use Rattle.jobs.specs.inner.Judged.{reply_of, numbers_of}
 use Rattle.std.specs.Result.{is_err}
 use Rattle.std.proofs.Common.{rules}
 use mathlib.Core.Bool.{true}
@@ -28,8 +28,8 @@ returns-in_default c =
     let r = right d s e in
     let judged = c.judge-judged.ensures.judged_right in
     let u : Unfit d = elim c.in_default.branch [
-      | in_default-via-in-Ok+in-Err-1 w ↦ let t : is_err (tables_of c.judge-judged.result) ≡ false = search rules in let n : is_err (numbers_of c.judge-judged.result) ≡ true = search rules in unfit-numbers d judged t n
-      | in_default-via-in-Err-1 w ↦ let t : is_err (tables_of c.judge-judged.result) ≡ true = search rules in unfit-tables d judged t
+      | in_default-via-in-Ok+in-Err-1 w ↦ let t : is_err (reply_of c.judge-judged.result) ≡ false = search rules in let n : is_err (numbers_of c.judge-judged.result) ≡ true = search rules in unfit-numbers d judged t n
+      | in_default-via-in-Err-1 w ↦ let t : is_err (reply_of c.judge-judged.result) ≡ true = search rules in unfit-tables d judged t
     ] in
     let all = sheet-answered d s e (c.fill_numbers.ensures d judged)
     (c.fill.ensures.after (λ y k. k) ∙ ap (λ (n : ℕ). replicate n zero) r.energies ∙ energies-unfit d u a.jobs.now)

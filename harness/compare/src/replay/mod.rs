@@ -1,9 +1,11 @@
 //! The fixed list of answers that the Rattle program `replay` reads where no Rust is at hand.
 //! `HEADER` has the layout, and says whose the answers are.
 
+mod built;
 mod designs;
 mod limits;
 mod lines;
+mod stored;
 
 use crate::judge::{parameters, sequences, temperature, Verdict};
 use crate::kinds::ambient::WHOLE_FROM;
@@ -30,19 +32,28 @@ pub const HEADER: &str = "\
 #   gsys PLACES                      ok ENERGY
 #   chain PLACES                     ok SUM ENERGY
 #   mfe, settled                     ok ENERGY, ok PLACES: what the search answers
+# A parameter set is set likewise, and holds for the builds that follow:
+#   set USERS POSITIONS ENTRIES QUENCHER REPORTER PENALTY_DG PENALTY_DS   begins one whose other numbers are all 0
+#   text LETTERS                     the bytes of its names and sequences
+#   side I N, site I N, entry I N, energy I X   set entry I of the rows of strands, scaffold, entries and energies
+#   build BUILD CELL                 ok STRAND_GLUES SCAFFOLD_GLUES DG DS: all glues as PLACES, and a cell of both tables; BUILD is
+#                                    0 for an ordinary build, 1 for the archive's
+# A deck stands by itself. FORM is 0 for document 01's, 1 for the one with runs:
+#   read FORM DECK                   ok PLACES
+#   write FORM PLACES, move FORM DECK   ok DECK: moved, it is in the other form
 # or, in place of ok and its figures, refused NUMBER, without its place. Doubles are 16 hex digits, other numbers decimal.
 # A sequence or a name stands as it is, an empty one as -. PLACES are a byte for each place, 48 and the number of its strand, so
-# that 0 is an empty place; with no places they are -. Below 256 K the Rust's strand excess can be another number than
+# that 0 is an empty place; with no places they are -. A DECK is 8 hex digits for each word; with none it is -. Below 256 K the Rust's strand excess can be another number than
 # document 01's T - 310.15; there the Rust's scaffold excess, which is that, stands for both.
 # Figures are the Rust's, refusals those of the harness's judge, who reads document 01. The judge's are also the counts and states of
-# designs with more than 4096 states, the second figure of chain, and every answer behind the line that says so.
+# designs with more than 4096 states, the second figure of chain, decks, and every answer behind the line that says so.
 ";
 
 pub const FALSE_HEADER: &str = "\
 # Lines of the list answers whose answers were falsified, and a line that sets nothing. Made by: harness/replay-list false
 ";
 
-/// A line of the list: a question with its answer, or what sets a number of a design, with none.
+/// A line of the list: a question with its answer, or what sets a number of a design or a parameter set, with none.
 #[derive(Debug, Clone, PartialEq)]
 pub struct Answered {
     pub question: String,
@@ -87,7 +98,7 @@ impl Answered {
 }
 
 /// A line is at most this long, its newline not counted.
-pub const LONGEST_LINE: usize = 600;
+pub const LONGEST_LINE: usize = 2400;
 
 #[derive(Debug, Clone, PartialEq)]
 pub enum Line {
@@ -199,7 +210,7 @@ pub fn false_list(oracle: &mut Program) -> Result<String, String> {
     let mut met = BTreeSet::new();
     let mut setters = String::new();
     for line in answered(oracle)? {
-        if line.kind() == "design" {
+        if ["design", "set"].contains(&line.kind()) {
             setters.clear();
         }
         if !line.is_question() {
@@ -229,7 +240,9 @@ fn answered(oracle: &mut Program) -> Result<Vec<Answered>, String> {
         let answer = written.ok_or_else(|| format!("{question}: the oracle says {answer}"))?;
         list.push(Answered { question, answer });
     }
+    list.append(&mut stored::stored());
     list.append(&mut designs::designs(oracle)?);
+    list.append(&mut built::built(oracle)?);
     list.append(&mut limits::limits());
     Ok(list)
 }

@@ -4,7 +4,7 @@ use Prim.Native.Nat.{◌+◌, ◌*◌, ◌^◌}
 use native.Mathlib.Omega.{arith}
 use lib.ListN.{length}
 use borrow.Author.Rules.{rules}
-use Rattle.decimals.specs.Limbs.{value_of, Proper}
+use Rattle.decimals.specs.inner.Limbs.{value_of, Proper}
 use Rattle.decimals.proofs.Powers.{once-below}
 use Rattle.decimals.proofs.Sizes.{below-unit, unit-room, unit-same}
 use Rattle.decimals.proofs.printing.shifted_millionths.Goals as goal

@@ -1,6 +1,6 @@
 -- `replay::says::given` meets its contract. Assumes nothing.
 use Rattle.std.proofs.Common.{◌≡◌, ℕ, ◌/◌, ◌%◌, ◌<◌, List, [], length, get_or, take, drop, sym, ap, ◌∙◌, refl, arith, eqb-true, take-append-drop}
-use Rattle.replay.specs.Says.{ok, figures_text}
+use Rattle.replay.specs.Says.{ok, figure_text, figures_text}
 use Rattle.replay.proofs.Words.{as-word}
 use Rattle.replay.proofs.Values.{on-then}
 use Rattle.replay.proofs.Figures.{chunks-text}
@@ -23,6 +23,6 @@ returns c =
     (λ e.
     let told = c.are_figures.ensures e in
     let each = λ (k : ℕ) (h : k < length text / 17). ap (λ (l : List (List ℕ)). get_or l k []) (sym parts.front) ∙ told.1 k (omega (arith, h, many)) in
-    let figured : text ≡ figures_text figures = chunks-text (length text / 17) text figures (sym told.0 ∙ many) (omega (arith, none)) each in
+    let figured : text ≡ figures_text figures = chunks-text 17 figure_text (length text / 17) text figures (sym told.0 ∙ many) (omega (arith, none)) each in
     let later : drop 2 words ≡ figures_text figures = sym rest ∙ figured in
     sym (take-append-drop 2 words) ∙ rw (two, later))

@@ -1,7 +1,7 @@
 -- `statements::rows::check` meets its contract: the lines that are left give the whole answer. Assumes nothing.
 use mathlib.Core.Path.{◌≡◌}
 use Prim.Native.Nat.{◌≤◌}
-use Rattle.statements.specs.Lines.{lines_left}
+use Rattle.statements.specs.inner.Lines.{lines_left}
 use Rattle.statements.specs.Words.{lines_of}
 use Rattle.statements.specs.Rows.{answer_from}
 use Rattle.statements.proofs.rows.check.Given as goal

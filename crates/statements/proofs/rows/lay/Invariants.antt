@@ -3,7 +3,7 @@ use mathlib.Core.Path.{◌≡◌}
 use Prim.Native.Nat.{◌≤◌, ◌+◌}
 use lib.ListN.{length}
 use lib.Seq.{sets}
-use Rattle.statements.specs.Lines.{lines_left}
+use Rattle.statements.specs.inner.Lines.{lines_left}
 use Rattle.statements.specs.Rows.{rows_from, rows_of}
 use Rattle.statements.proofs.rows.lay.Given as goal
 

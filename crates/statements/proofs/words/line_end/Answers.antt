@@ -2,7 +2,7 @@
 use Rattle.std.proofs.Common.{◌≡◌, ◌∙◌, ap, drop, arith}
 use Rattle.std.specs.List.{prefix_len}
 use Rattle.std.proofs.lemmas.List.{length-drop}
-use Rattle.statements.specs.Words.{not_newline}
+use Rattle.statements.specs.inner.Words.{not_newline}
 use Rattle.statements.proofs.Bytes.{rest_is, line_ends}
 use Rattle.statements.proofs.words.line_end.Goals as goal
 

@@ -1,7 +1,8 @@
 -- `statements::words::next_word` meets its contract: blanks, then a comment or a word. Assumes nothing.
 use Rattle.std.proofs.Common.{◌≡◌, ◌∙◌, ◌+◌, ◌<◌, ap, length, drop, arith}
 use Rattle.std.specs.List.{prefix_len}
-use Rattle.statements.specs.Words.{is_blank, not_blank}
+use Rattle.statements.specs.Words.{is_blank}
+use Rattle.statements.specs.inner.Words.{not_blank}
 use Rattle.statements.proofs.Bytes.{rest_is, blanks_on, blanks_end, words-past, comment, word_begins, word_size}
 use Rattle.statements.proofs.words.next_word.Goals as goal
 use Rattle.statements.proofs.words.next_word.Goals.{then-start-line-via-then-start-line, then-start-line-via-else-start-line+then-line-start-eq-COMMENT}

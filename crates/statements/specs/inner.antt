@@ -1,0 +1,3 @@
+-- What contracts of inner functions are stated by. No public call is.
+pub mod Words
+pub mod Lines
