@@ -4,3 +4,4 @@ pub mod Bounded
 pub mod Filled
 pub mod Replies
 pub mod Cases
+pub mod Unread

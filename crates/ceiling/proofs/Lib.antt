@@ -1,3 +1,4 @@
 pub mod Passing
 pub mod Whole
 pub mod Replies
+pub mod Unread

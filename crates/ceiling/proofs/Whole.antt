@@ -30,7 +30,7 @@ module _ (m : Model) (ceiling : Float) where
   first-is = first-same (under_on m ceiling 0 0 Decimal.zero) (is_under m ceiling) test-same (states m)
 
   -- whether there is one, by its rank
-  under-rank : none_under m ceiling ≡ false → first_under m ceiling < length (states m)
+  pub under-rank : none_under m ceiling ≡ false → first_under m ceiling < length (states m)
   unfolding none_under first_under
   under-rank e = ltb-true _ _ (first_any (is_under m ceiling) (states m) ∙ not-false _ e)
 

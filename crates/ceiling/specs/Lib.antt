@@ -1,3 +1,4 @@
 pub mod Ceiling
 pub mod Answers
 pub mod inner
+pub mod Unread

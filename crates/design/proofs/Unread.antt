@@ -101,7 +101,7 @@ module _ (d : Design) (amounts : List Float) (given : Amounts) (r : ReadAlike d 
   abbrev other : Design
   other = with_amounts d amounts given
 
-  sizes-same : sizes_out other ≡ sizes_out d
+  pub sizes-same : sizes_out other ≡ sizes_out d
   unfolding wrong_sizes
   sizes-same = rw r.many refl
 
@@ -118,7 +118,7 @@ module _ (d : Design) (amounts : List Float) (given : Amounts) (r : ReadAlike d 
 
   -- ---- the models
 
-  same_read : SameRead (model_of d) (model_of other)
+  pub same_read : SameRead (model_of d) (model_of other)
   unfolding model_of
   same_read = record { friends = rw r.many refl; site = refl; pair = refl; rt = refl; potential = r.friends }
 
@@ -128,16 +128,16 @@ module _ (d : Design) (amounts : List Float) (given : Amounts) (r : ReadAlike d 
   friends-same : (i : ℕ) → friends_of other i ≡ friends_of d i
   friends-same i = rw r.many refl
 
-  held-same : (s : List ℕ) → not_all_friends other s ≡ not_all_friends d s
+  pub all-friends-same : (s : List ℕ) → not_all_friends other s ≡ not_all_friends d s
   unfolding not_all_friends
-  held-same s = rw r.many refl
+  all-friends-same s = rw r.many refl
 
   -- ---- the replies
 
-  tables-same : (own_size : Bool) → table_checks own_size d.scaffold d.marks d.glues d.dg d.ds amounts ≡ table_checks own_size d.scaffold d.marks d.glues d.dg d.ds d.amounts
+  pub tables-same : (own_size : Bool) → table_checks own_size d.scaffold d.marks d.glues d.dg d.ds amounts ≡ table_checks own_size d.scaffold d.marks d.glues d.dg d.ds d.amounts
   tables-same own_size = rw sizes-same refl
 
-  numbers-same : number_checks other ≡ number_checks d
+  pub numbers-same : number_checks other ≡ number_checks d
   numbers-same = rw (r.dilute, potentials-same, place_same) refl
 
   -- of a call that asks nothing else of the potentials
@@ -165,7 +165,7 @@ module _ (d : Design) (amounts : List Float) (given : Amounts) (r : ReadAlike d 
   energy-reply : (s : List ℕ) → energy_checks other s ≡ energy_checks d s
   energy-reply s =
       let size = not (eqb (length s) (positions d)) in
-      ap (λ (t : Bool). design_checks size other (NotAFriend if t ∷ []) []) (held-same s) ∙ same-design-reply size (own_energy_checks d s) []
+      ap (λ (t : Bool). design_checks size other (NotAFriend if t ∷ []) []) (all-friends-same s) ∙ same-design-reply size (own_energy_checks d s) []
 
   -- ---- the answers
 

@@ -3,3 +3,4 @@ pub mod Figures
 pub mod Stretches
 pub mod States
 pub mod Sheets
+pub mod Unread

@@ -5,8 +5,9 @@ use mathlib.Core.Logic.{◌⊎◌, inl, inr}
 use mathlib.Core.Bool.{cond}
 use mathlib.Core.List.{List, [], ◌∷◌, ◌++◌, Memᴰ}
 use mathlib.Core.Option.{Option, none, some}
-use Prim.Native.Nat.{ℕ, zero, suc, ◌<◌}
+use Prim.Native.Nat.{ℕ, zero, suc, ◌-◌, ◌<◌}
 use native.Mathlib.Nat.{le_refl, not-suc-le-zero}
+use native.Mathlib.Omega.{arith}
 use lib.Dec.{eqb}
 use lib.ListN.{length, drop, get_or}
 use lib.Ieee.{Float, binary64, neg, mul, add, sub, lt}
@@ -16,11 +17,12 @@ use Rattle.doubles.specs.Decimal as Decimal
 use Rattle.doubles.specs.Sum.{sum_from}
 use Rattle.doubles.specs.Least.{last_least}
 use Rattle.doubles.proofs.Least.{last_one, first_one, last-same, first-same}
-use Rattle.model.specs.Model.{Model, State, Friend, positions}
+use Rattle.model.specs.Model.{Model, State, Friend, positions, occupant}
 use Rattle.model.specs.States.{states, state_at, count}
 use Rattle.model.specs.Energy.{if_occupied, to_right, from_left, state_terms, chain_terms, state_energy, chain_energy, chain_product, lesser, walk}
 use Rattle.model.specs.Search.{with_strand_bond, with_scaffold_bond, least_left, entry, compared, left_choice, traced, last_strand, product, SearchResult, search_over, options_at, times_rt, search}
-use Rattle.model.specs.Read.{Alike, OnlyFriendsRead}
+use Rattle.model.specs.Ring.{closed_times_rt, ring_energy, with_first, ring_from, ring_least, ring_first, ring_search}
+use Rattle.model.specs.Read.{SameRead, Alike, OnlyFriendsRead, RingAlike, OnlyFriendsReadByRings}
 use Rattle.model.proofs.Bounds.{Occupants, occupants}
 use Rattle.model.proofs.Listing.{listed}
 use Rattle.model.proofs.Count.{ways-pos}
@@ -116,56 +118,57 @@ module _ (m : Model) (site pair : ℕ → ℕ → Float) (potential : ℕ → Fl
       fold_same (chain_product m (state_at m 0)) (drop 1 (states m)) (λ s k. (listed m).only s (tail_of (states m) s k))
       ∙ ap (λ (e : Float). foldl (lesser (chain_product changed)) e (drop 1 (states m))) (product-same (state_at m 0) first-state)
 
-  -- ---- the search
+  -- ---- a search over any options of each position that are among its own, with any last step
 
-  entry-with : (i x : ℕ) (s r : Float) → Memᴰ x (options_at m i) → s ≡ r → with_scaffold_bond m i x s ≡ with_scaffold_bond changed i x r
-  entry-with i x s r o e = at_place i x s (λ b p. sub binary64 (add binary64 s b) p) (own m i x o) ∙ ap (with_scaffold_bond changed i x) e
+  module _ (options : ℕ → List ℕ) (owned : (i x : ℕ) → Memᴰ x (options i) → Held m i x) (nonempty : (i : ℕ) → 0 < length (options i)) (ending : ℕ → Float → Float) where
+    entry-with : (i x : ℕ) (s r : Float) → Memᴰ x (options i) → s ≡ r → with_scaffold_bond m i x s ≡ with_scaffold_bond changed i x r
+    entry-with i x s r o e = at_place i x s (λ b p. sub binary64 (add binary64 s b) p) (owned i x o) ∙ ap (with_scaffold_bond changed i x) e
 
-  bond-with : (i x left : ℕ) (s r : Float) → Memᴰ x (options_at m (suc i)) → Memᴰ left (options_at m i) → s ≡ r → with_strand_bond m x left s ≡ with_strand_bond changed x left r
-  bond-with i x left s r h o e = ap₂ (λ (b t : Float). cond (eqb x 0) t (add binary64 t b)) (same-pair i left x (own m i left o) (own m (suc i) x h)) e
+    bond-with : (i x left : ℕ) (s r : Float) → Memᴰ x (options (suc i)) → Memᴰ left (options i) → s ≡ r → with_strand_bond m x left s ≡ with_strand_bond changed x left r
+    bond-with i x left s r h o e = ap₂ (λ (b t : Float). cond (eqb x 0) t (add binary64 t b)) (same-pair i left x (owned i left o) (owned (suc i) x h)) e
 
-  left-same : (i x : ℕ) → Memᴰ x (options_at m i) → least_left m (options_at m) i x ≡ least_left changed (options_at m) i x
-  unfolding least_left
-  left-same zero x h = refl
-  left-same (suc i) x h =
-      let agree : (left : ℕ) → Memᴰ left (options_at m i) → compared m (options_at m) i x left ≡ compared changed (options_at m) i x left = λ left o. bond-with i x left _ _ h o (entry-with i left _ _ o (left-same i left o)) in
-      let picked = last-same (compared m (options_at m) i x) (compared changed (options_at m) i x) (options_at m i) agree in
-      agree (last_least (compared m (options_at m) i x) (options_at m i)) (last_one (compared m (options_at m) i x) (options_at m i) (some-option m i))
-      ∙ ap (compared changed (options_at m) i x) picked
+    left-same : (i x : ℕ) → Memᴰ x (options i) → least_left m options i x ≡ least_left changed options i x
+    unfolding least_left
+    left-same zero x h = refl
+    left-same (suc i) x h =
+        let agree : (left : ℕ) → Memᴰ left (options i) → compared m options i x left ≡ compared changed options i x left = λ left o. bond-with i x left _ _ h o (entry-with i left _ _ o (left-same i left o)) in
+        let picked = last-same (compared m options i x) (compared changed options i x) (options i) agree in
+        agree (last_least (compared m options i x) (options i)) (last_one (compared m options i x) (options i) (nonempty i))
+        ∙ ap (compared changed options i x) picked
 
-  entry-same : (i x : ℕ) → Memᴰ x (options_at m i) → entry m (options_at m) i x ≡ entry changed (options_at m) i x
-  entry-same i x o = entry-with i x _ _ o (left-same i x o)
+    entry-same : (i x : ℕ) → Memᴰ x (options i) → entry m options i x ≡ entry changed options i x
+    entry-same i x o = entry-with i x _ _ o (left-same i x o)
 
-  compared_same : (i x left : ℕ) → Memᴰ x (options_at m (suc i)) → Memᴰ left (options_at m i) → compared m (options_at m) i x left ≡ compared changed (options_at m) i x left
-  compared_same i x left h o = bond-with i x left _ _ h o (entry-same i left o)
+    compared_same : (i x left : ℕ) → Memᴰ x (options (suc i)) → Memᴰ left (options i) → compared m options i x left ≡ compared changed options i x left
+    compared_same i x left h o = bond-with i x left _ _ h o (entry-same i left o)
 
-  choice-same : (i x : ℕ) → Memᴰ x (options_at m i) → left_choice m (options_at m) i x ≡ left_choice changed (options_at m) i x
-  unfolding left_choice
-  choice-same zero x h = refl
-  choice-same (suc i) x h = last-same (compared m (options_at m) i x) (compared changed (options_at m) i x) (options_at m i) (λ left. compared_same i x left h)
+    choice-same : (i x : ℕ) → Memᴰ x (options i) → left_choice m options i x ≡ left_choice changed options i x
+    unfolding left_choice
+    choice-same zero x h = refl
+    choice-same (suc i) x h = last-same (compared m options i x) (compared changed options i x) (options i) (λ left. compared_same i x left h)
 
-  choice-option : (i x : ℕ) → Memᴰ (left_choice m (options_at m) (suc i) x) (options_at m i)
-  unfolding left_choice
-  choice-option i x = last_one (compared m (options_at m) i x) (options_at m i) (some-option m i)
+    choice-option : (i x : ℕ) → Memᴰ (left_choice m options (suc i) x) (options i)
+    unfolding left_choice
+    choice-option i x = last_one (compared m options i x) (options i) (nonempty i)
 
-  over-same : (k : ℕ) → search_over m (options_at m) (times_rt m) k ≡ search_over changed (options_at m) (times_rt m) k
-  unfolding search_over
-  over-same zero = refl
-  over-same (suc last) =
-      let agree : (x : ℕ) → Memᴰ x (options_at m last) → product m (options_at m) (times_rt m) last x ≡ product changed (options_at m) (times_rt m) last x = λ x o. ap (times_rt m x) (entry-same last x o) in
-      let key = product m (options_at m) (times_rt m) last in
-      let first : last_strand m (options_at m) (times_rt m) last ≡ last_strand changed (options_at m) (times_rt m) last = first-same key (product changed (options_at m) (times_rt m) last) (options_at m last) agree in
-      let o = first_one key (options_at m last) (some-option m last) in
-      result
-      (sym (traced-same (left_choice m (options_at m)) (left_choice changed (options_at m)) (options_at m) last (λ i x l k. choice-option i x) (λ i x l k. sym (choice-same (suc i) x k)) last (last_strand m (options_at m) (times_rt m) last) [] (le_refl last) o) ∙ ap (λ (x : ℕ). traced (left_choice changed (options_at m)) last x []) first)
-      (agree (last_strand m (options_at m) (times_rt m) last) o ∙ ap (product changed (options_at m) (times_rt m) last) first)
-    where
-      result : {s t : List ℕ} {e f : Float} → s ≡ t → e ≡ f → ◌≡◌ {A = SearchResult} (record { configuration = s; energy = e }) (record { configuration = t; energy = f })
-      result p q = cc
+    over-same : (k : ℕ) → search_over m options ending k ≡ search_over changed options ending k
+    unfolding search_over
+    over-same zero = refl
+    over-same (suc last) =
+        let agree : (x : ℕ) → Memᴰ x (options last) → product m options ending last x ≡ product changed options ending last x = λ x o. ap (ending x) (entry-same last x o) in
+        let key = product m options ending last in
+        let first : last_strand m options ending last ≡ last_strand changed options ending last = first-same key (product changed options ending last) (options last) agree in
+        let o = first_one key (options last) (nonempty last) in
+        result
+        (sym (traced-same (left_choice m options) (left_choice changed options) options last (λ i x l k. choice-option i x) (λ i x l k. sym (choice-same (suc i) x k)) last (last_strand m options ending last) [] (le_refl last) o) ∙ ap (λ (x : ℕ). traced (left_choice changed options) last x []) first)
+        (agree (last_strand m options ending last) o ∙ ap (product changed options ending last) first)
+      where
+        result : {s t : List ℕ} {e f : Float} → s ≡ t → e ≡ f → ◌≡◌ {A = SearchResult} (record { configuration = s; energy = e }) (record { configuration = t; energy = f })
+        result p q = cc
 
   search-same : search m ≡ search changed
   unfolding search
-  search-same = over-same (positions m)
+  search-same = over-same (options_at m) (own m) (some-option m) (times_rt m) (positions m)
 
   pub alike-with : Alike m changed
   unfolding count
@@ -180,8 +183,41 @@ module _ (m : Model) (site pair : ℕ → ℕ → Float) (potential : ℕ → Fl
     searched = search-same;
   }
 
+-- ---- other potentials alone
+
+module _ (m : Model) (potential : ℕ → Float) (same : (i x : ℕ) → Friend m i x → m.potential x ≡ potential x) where
+  abbrev with_potential : Model
+  with_potential = with_terms m m.site m.pair potential
+
+  -- the one occupant of position 0 is an option of it
+  first_owned : (f : ℕ) → Memᴰ f (options_at m 0) → (i x : ℕ) → Memᴰ x (with_first m f i) → Held m i x
+  first_owned f o zero x k = subst (λ (y : ℕ). Held m 0 y) (sym (mathlib.Core.List.Memᴰ.eq_of_singleton k)) (own m 0 f o)
+  first_owned f o (suc i) x k = own m (suc i) x k
+
+  first_nonempty : (f i : ℕ) → 0 < length (with_first m f i)
+  first_nonempty f zero = omega arith
+  first_nonempty f (suc i) = some-option m (suc i)
+
+  from_same : (f : ℕ) → Memᴰ f (options_at m 0) → ring_from m f ≡ ring_from with_potential f
+  unfolding ring_from
+  from_same f o = over-same m m.site m.pair potential (λ i x g. refl) (λ i x y h k. refl) same (with_first m f) (first_owned f o) (first_nonempty f) (closed_times_rt m f) (positions m)
+
+  first_is : ring_first m ≡ ring_first with_potential
+  first_is = first-same (ring_least m) (ring_least with_potential) (options_at m 0) (λ x o. ap (λ (found : SearchResult). found.energy) (from_same x o))
+
+  pub rings-with : RingAlike m with_potential
+  unfolding ring_energy ring_search
+  rings-with = record {
+    energies = λ s w. ap (closed_times_rt m (occupant s 0) (occupant s (length s - 1))) (chain_same m m.site m.pair potential (λ i x g. refl) (λ i x y h k. refl) same s w);
+    searched = from_same (ring_first m) (first_one (ring_least m) (options_at m 0) (some-option m 0)) ∙ ap (ring_from with_potential) first_is;
+  }
+
+-- models that are the same but for potentials that are not read
+whole : (m n : Model) → SameRead m n → with_terms m m.site m.pair n.potential ≡ n
+whole m n r = let e : with_terms m m.site m.pair n.potential ≡ with_terms n n.site n.pair n.potential = cc in e
+
 pub only-friends-read : OnlyFriendsRead
-only-friends-read m n r = subst (Alike m) whole (alike-with m m.site m.pair n.potential (λ i x f. refl) (λ i x y h k. refl) r.potential)
-  where
-    whole : with_terms m m.site m.pair n.potential ≡ n
-    whole = let e : with_terms m m.site m.pair n.potential ≡ with_terms n n.site n.pair n.potential = cc in e
+only-friends-read m n r = subst (Alike m) (whole m n r) (alike-with m m.site m.pair n.potential (λ i x f. refl) (λ i x y h k. refl) r.potential)
+
+pub rings-read : OnlyFriendsReadByRings
+rings-read m n r = subst (RingAlike m) (whole m n r) (rings-with m n.potential r.potential)

@@ -4,6 +4,7 @@ use Rattle.model.specs.Model.{Model, State, Friend}
 use Rattle.model.specs.States.{states, count, state_at}
 use Rattle.model.specs.Energy.{state_energy, chain_energy, chain_product, walk}
 use Rattle.model.specs.Search.{search}
+use Rattle.model.specs.Ring.{ring_energy, ring_search}
 
 -- the same friends, bonds and RT, and the same potentials of strands that are friends somewhere
 pub record SameRead (m n : Model) : Type 0 where
@@ -27,3 +28,12 @@ pub record Alike (m n : Model) : Type 0 where
 -- of every two models
 abbrev pub OnlyFriendsRead : Type 0
 OnlyFriendsRead = (m n : Model) → SameRead m n → Alike m n
+
+-- and of rings: the ring energy of each state, and the search
+pub record RingAlike (m n : Model) : Type 0 where
+  pub energies : (s : List ℕ) → State m s → ring_energy m s ≡ ring_energy n s
+  pub searched : ring_search m ≡ ring_search n
+
+-- of every two models
+abbrev pub OnlyFriendsReadByRings : Type 0
+OnlyFriendsReadByRings = (m n : Model) → SameRead m n → RingAlike m n

@@ -1,3 +1,4 @@
 pub mod Lent
 pub mod Told
 pub mod Replies
+pub mod Unread
