@@ -21,10 +21,10 @@ use design::terms::terms_of;
 use ensemble::energies::Places;
 use ensemble::options::OPTIONS;
 use ensemble::states::{MOST_STATES, write_state};
+use occupants::not_all_friends;
 use prepared::options::{Counted, count_options};
 use reply::limits::{POSITIONS, STRANDS};
 use reply::{Refusal, Refused, refused_if};
-use occupants::not_all_friends;
 use units::KcalPerMol;
 
 // The bond between strand x and strand y to the east of it.

@@ -107,6 +107,12 @@ impl Energies {
         self.about(&setters, &lent, &lists, ask);
     }
 
+    /// Of a design whose sizes are in order.
+    pub(super) fn of_one(&self, random: &mut Random, lent: &Lent, ask: &mut Ask) {
+        let lists = lists(random, lent);
+        self.about(&raw_lines(lent), lent, &lists, ask);
+    }
+
     /// A small design with every fault by itself, and each two of them.
     fn faults(&self, ask: &mut Ask) {
         type Change = fn(&mut Lent, &mut Lists);
@@ -179,6 +185,7 @@ fn two_friends() -> Lent {
         rt: 0.5,
         strand_excess: 0.0,
         scaffold_excess: 0.0,
+        ..Lent::default()
     };
     (lent.dg[65], lent.dg[130]) = (-0.5, -2.0);
     (lent.dg[4 * 65], lent.dg[3 * 64 + 4]) = (-1.25, 3.0);

@@ -127,6 +127,12 @@ impl Kind for Sheets {
 
 impl Sheets {
     /// The slices go with the first question and hold for the rest.
+    /// The worked sheet on another design.
+    pub(super) fn ask_worked(&self, lent: &Lent, ask: &mut Ask) {
+        self.ask_sheets(lent, &[fitting(lent, WORKED.to_vec())], ask);
+    }
+
+    /// The slices go with the first question and hold for the rest.
     fn ask_sheets(&self, lent: &Lent, sheets: &[Sheet], ask: &mut Ask) {
         let lines: Rc<str> = raw_lines(lent).into();
         for (index, (words, lengths)) in sheets.iter().enumerate() {

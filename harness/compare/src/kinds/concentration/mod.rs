@@ -6,6 +6,7 @@ mod fixed;
 
 use super::ceiling::ask_under;
 use super::design::{ask_about, WALKED};
+use super::energies::Energies;
 use super::raw::{ask_every_call, damage, Arguments};
 use super::ring::Rings;
 use super::sheet::Sheets;
@@ -31,6 +32,7 @@ pub struct Concentrations {
     rings: Rings,
     sheets: Sheets,
     sums: Sums,
+    energies: Energies,
     designs: Cell<u64>,
     /// Those with a concentration out of range that is not looked at.
     unread: Cell<u64>,
@@ -170,7 +172,8 @@ impl Concentrations {
         add(&self.moved, settled(lent) != settled(&turned));
     }
 
-    /// The calls over tables, for rings, of a job sheet, under a ceiling, and both sums.
+    /// The calls over tables, for rings, of a job sheet, under a ceiling, both sums, and those of
+    /// energies.
     fn ask_further(&self, random: &mut Random, lent: &Lent, state: Vec<u8>, ask: &mut Ask) {
         let (positions, strands) = (lent.positions(), lent.strands());
         let tables = Tables {
@@ -184,6 +187,7 @@ impl Concentrations {
         let is_sized = lent.count_verdict().number() != 1;
         if is_sized {
             self.sums.all_of(random, lent, ask);
+            self.energies.of_one(random, lent, ask);
         }
         if !is_sized || !(WALKED + 1..=MOST_STATES).contains(&lent.count()) {
             ask_under(lent, &[0.0, -1e300, f64::NAN], positions, ask);
