@@ -99,7 +99,7 @@ fn checks(stated: &Rc<designs::Stated>) -> Row {
         rust: Box::new(move || {
             for state in &left.0.states {
                 let design = mj::Design {
-                    potentials: &unfit,
+                    amounts: &unfit,
                     ..left.0.both.port()
                 };
                 let told = energy_over(design, &left.1, state);
