@@ -3,6 +3,7 @@
 use crate::designs::Asked;
 use crate::guarded::Guarded;
 use crate::{near, Tally, REPLIES};
+use compare::judge::design::{CONCENTRATIONS, POTENTIALS};
 use compare::random::Random;
 use mujplesten as mj;
 
@@ -51,7 +52,8 @@ pub fn call(asked: &Asked, random: &mut Random, tally: &mut Tally) {
     let number = mj::job_sheet(asked.design, sheet);
     let kept = numbers.is_fit(number) && energies.is_fit(number) && counts.is_fit(number);
     let mut fit = kept && stretches.is_fit(number);
-    fit &= number == u32::from(count > MOST_JOBS || lengths != wanted);
+    let unnamed = ![POTENTIALS, CONCENTRATIONS].contains(&asked.design.given);
+    fit &= number == u32::from(unnamed || count > MOST_JOBS || lengths != wanted);
     if number == 0 {
         let told = numbers.lent().iter().zip(energies.lent().iter());
         let told: Vec<_> = told.zip(counts.lent().iter()).collect();
