@@ -4,3 +4,4 @@ pub mod Parts
 pub mod Once
 pub mod Theorems
 pub mod Cases
+pub mod Said

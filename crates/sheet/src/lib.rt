@@ -5,3 +5,4 @@ pub mod faults;
 pub mod once;
 pub mod parts;
 pub mod rows;
+pub mod said;

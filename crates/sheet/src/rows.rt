@@ -2,7 +2,7 @@
 ghost use Rattle.std.specs.Prelude.{◌≡◌, ◌<◌, length};
 ghost use Rattle.std.specs.Option.{option_copied};
 ghost use Rattle.statements.specs.Layout.{word_in};
-ghost use Rattle.sheet.specs.Rows.{group_of, count_of, first_of, laid, row_among, word_among, number_among, kind_among};
+ghost use Rattle.sheet.specs.Rows.{group_of, count_of, first_of, rows_of, laid, row_among, word_among, number_among, kind_among};
 
 use statements::grammar::Kind;
 use statements::statement::Row;
@@ -85,9 +85,11 @@ pub struct Chosen<'a> {
 
 impl<'a> Chosen<'a> {
     // A group's rows: their places are written into a slice, as far as they fit, and what was in it past them counts as places too.
+    #[tactic(auto, using(crate::proofs::Theorems::laid_whole))]
     pub fn of(rows: &'a [Row], group: Group, places: &'a mut [usize]) -> Self
         ensures rows { result.rows.now ≡ rows.now }
         ensures places { result.places.now ≡ laid group rows.now places.old }
+        ensures whole { length places.old ≡ count_of group rows.now → result.places.now ≡ rows_of group rows.now }
     {
         rows_of(rows, group, places);
         Chosen { rows, places }
