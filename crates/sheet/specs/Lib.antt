@@ -5,3 +5,4 @@ pub mod Once
 pub mod Theorems
 pub mod Cases
 pub mod Said
+pub mod Place

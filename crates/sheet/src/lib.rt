@@ -4,5 +4,6 @@
 pub mod faults;
 pub mod once;
 pub mod parts;
+pub mod place;
 pub mod rows;
 pub mod said;

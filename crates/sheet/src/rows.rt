@@ -98,7 +98,7 @@ impl<'a> Chosen<'a> {
 
 impl Chosen<'_> {
     // Row k of these.
-    fn row(&self, k: usize) -> Option<&Row>
+    pub(crate) fn row(&self, k: usize) -> Option<&Row>
         ensures { option_copied result ≡ row_among self.now.rows.now self.now.places.now k }
     {
         self.rows.get(*self.places.get(k)?)

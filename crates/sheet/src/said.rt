@@ -48,7 +48,7 @@ impl<'a> Sheet<'a> {
 
 impl Sheet<'_> {
     // The glue names of the strands, as many as there is room for.
-    fn strand_names(&self, names: &mut [usize])
+    pub(crate) fn strand_names(&self, names: &mut [usize])
         ensures { names.new ≡ tabulate (length names.old) (name_number_at (glue_at self.now.rows.now (rows_of group.Strand self.now.rows.now))) }
     {
         let mut places = [0usize; MOST_STRANDS];
@@ -81,7 +81,7 @@ impl Sheet<'_> {
     }
 
     // Whose glues the quencher and the reporter copy.
-    fn copies(&self) -> Copies
+    pub(crate) fn copies(&self) -> Copies
         ensures { result ≡ copies_said self.now.text.now self.now.rows.now }
     {
         let mut places = [0usize; MOST_STRANDS];
@@ -168,11 +168,10 @@ impl Sheet<'_> {
         strands.potentials(out);
     }
 
-    // A mark for each position, and its glue, as many as there is room for.
-    #[tactic(auto, unfolding(crate::specs::Said::marks_said, crate::specs::Said::glues_shown))]
-    pub fn positions(&self, marks: &mut [u8], glues: &mut [Word])
-        ensures marks { marks.new ≡ marks_said (length marks.old) self.now.rows.now }
-        ensures glues { glues.new ≡ glues_shown (length glues.old) self.now.rows.now }
+    // A mark for each position, as many as there is room for.
+    #[tactic(auto, unfolding(crate::specs::Said::marks_said))]
+    pub fn marks(&self, marks: &mut [u8])
+        ensures { marks.new ≡ marks_said (length marks.old) self.now.rows.now }
     {
         let mut places = [0usize; POSITIONS];
         let positions = Chosen::of(
@@ -181,6 +180,19 @@ impl Sheet<'_> {
             &mut places[..self.counts.positions],
         );
         positions.blocks(marks);
+    }
+
+    // The glue of each position, as many as there is room for.
+    #[tactic(auto, unfolding(crate::specs::Said::glues_shown))]
+    pub fn glues(&self, glues: &mut [Word])
+        ensures { glues.new ≡ glues_shown (length glues.old) self.now.rows.now }
+    {
+        let mut places = [0usize; POSITIONS];
+        let positions = Chosen::of(
+            self.rows,
+            Group::Position,
+            &mut places[..self.counts.positions],
+        );
         positions.shown(glues);
     }
 
