@@ -1,5 +1,5 @@
 -- Where the fault of a build that is refused lies in the file, and what is wrong there: the line of a row, and a word in it.
-use Rattle.std.specs.Prelude.{Bool, cond, List, [], ◌∷◌, ℕ, ◌+◌, ◌*◌, eqb, take, drop, find, replicate, Option, None, Some}
+use Rattle.std.specs.Prelude.{Bool, cond, List, [], ◌∷◌, ℕ, ◌+◌, ◌-◌, ◌*◌, eqb, ltb, take, drop, find, replicate, Option, None, Some}
 use Rattle.std.specs.Option.{option_map, option_and_then, option_or}
 use Rattle.lists.specs.Build.{up_to}
 use Rattle.reply.specs.Number.{number_of}
@@ -18,7 +18,7 @@ use Rattle.statements.specs.declared.grammar.Kind.{Kind}
 use Rattle.statements.specs.declared.grammar.Kind.TheVariants as kind
 use Rattle.statements.specs.declared.statement.Row.{Row}
 use Rattle.statements.specs.declared.words.Word.{Word}
-use Rattle.sheet.specs.Rows.{rows_of, count_of, row_among}
+use Rattle.sheet.specs.Rows.{rows_of, count_of, first_of, row_among}
 use Rattle.sheet.specs.Faults.{counts_of}
 use Rattle.sheet.specs.Once.{copied_of}
 use Rattle.sheet.specs.Said.{strand_names, params_first}
@@ -158,3 +158,13 @@ place_of text rows refusal.TooManyGlues = option_map (at_first_word cause.TooMan
 place_of text rows refusal.DuplicatePair = option_map (at_first_word cause.PairTwice) (first_refused text rows Entry refusal.DuplicatePair)
 place_of text rows refusal.OutOfRange = option_map (at_first_word cause.EnergyRange) (first_refused text rows Entry refusal.OutOfRange)
 place_of text rows other = first_fault (row_fault text rows other) rows
+
+-- ---- the row of a strand
+
+-- by its number: strand 0 has none; then come the user strands, the quencher and the reporter
+unfoldable pub row_of_strand : List Row → ℕ → Option Row
+row_of_strand rows strand =
+    cond (eqb strand 0) None
+    (cond (ltb (strand - 1) (count_of Strand rows)) (row_among rows (rows_of Strand rows) (strand - 1))
+    (cond (eqb (strand - 1) (count_of Strand rows)) (first_of Quencher rows)
+    (first_of Reporter rows)))

@@ -3,14 +3,14 @@ ghost use Rattle.std.specs.Prelude.{◌≡◌, Bool, ◌∷◌, ◌≤◌, eqb, 
 ghost use Rattle.std.specs.Option.{option_copied};
 ghost use Rattle.reply.specs.Number.{number_of};
 ghost use Rattle.statements.specs.declared.grammar.Kind.TheVariants as kind;
-ghost use Rattle.sheet.specs.Rows.{count_of, row_among, rows_of};
+ghost use Rattle.sheet.specs.Rows.{count_of, first_of};
 ghost use Rattle.sheet.specs.Once.{copied_of};
-ghost use Rattle.sheet.specs.Place.{own_names, all_names, sequence_by, is_long, has_stars, long_name, starred_name, refused_sequence, lost_by, at_word, size_fault, row_fault, first_fault, with_first, build_number, glues_number, refused_with, first_refused, at_first_word, place_of};
+ghost use Rattle.sheet.specs.Place.{own_names, all_names, sequence_by, is_long, has_stars, long_name, starred_name, refused_sequence, lost_by, at_word, size_fault, row_fault, first_fault, with_first, build_number, glues_number, refused_with, first_refused, place_of, row_of_strand};
 ghost use Rattle.sheet.specs.declared.rows.Group.TheVariants as group;
 
 use crate::faults::Counts;
 use crate::once::copied;
-use crate::rows::{Chosen, Group, count_of};
+use crate::rows::{Chosen, Group, count_of, first_of};
 use crate::said::Sheet;
 use reply::limits::{CELLS, POSITIONS, SIDES, STRANDS};
 use reply::{Refusal, number};
@@ -287,5 +287,31 @@ impl Sheet<'_> {
         };
         let row = self.first_refused(group, refusal)?;
         Some(at_word(&row, cause, row.words[0]))
+    }
+
+    // The first row of a group.
+    pub fn first_of(&self, group: Group) -> Option<Row>
+        ensures { result ≡ first_of group self.now.rows.now }
+    {
+        first_of(self.rows, group).copied()
+    }
+
+    // The row of a strand by its number: 0 is none, then the user strands, the quencher, the reporter.
+    #[tactic(auto, unfolding(crate::specs::Place::row_of_strand))]
+    pub fn row_of_strand(&self, strand: usize) -> Option<Row>
+        ensures { result ≡ row_of_strand self.now.rows.now strand }
+    {
+        let users = self.counts.strands;
+        if strand == 0 {
+            None
+        } else if strand - 1 < users {
+            let mut places = [0usize; MOST_STRANDS];
+            let strands = Chosen::of(self.rows, Group::Strand, &mut places[..users]);
+            strands.row(strand - 1).copied()
+        } else if strand - 1 == users {
+            self.first_of(Group::Quencher)
+        } else {
+            self.first_of(Group::Reporter)
+        }
     }
 }
