@@ -19,7 +19,8 @@ use native.Mathlib.Numerals.{add-one}
 use Rattle.sheet.proofs.Faulty.{fault-none}
 use Rattle.lists.specs.Front.{over}
 use Rattle.statements.specs.declared.statement.Row.{Row}
-use Rattle.sheet.specs.Rows.{group_of, is_of, places_from, rows_of, count_of, first_of, laid}
+use Rattle.sheet.specs.Rows.{group_of, is_of, places_from, rows_of, count_of, first_of}
+use Rattle.sheet.specs.inner.Laid.{laid}
 use Rattle.sheet.specs.Faults.{limit_of, same_word, name_of, has_name, is_name_twice, fault_of, and_then, fault_from, counts_of, counts_if, sheet_answer}
 use Rattle.sheet.specs.Theorems.{Sound, Sheets}
 use Rattle.sheet.specs.declared.faults.Counts.{Counts}
@@ -152,5 +153,4 @@ sheets =
       numbers = λ rows chosen k row j e. rw e;
       sound = sound;
       counted = λ group rows. places-counted group 0 rows;
-      rows = laid_whole;
     }

@@ -6,3 +6,4 @@ pub mod Theorems
 pub mod Cases
 pub mod Said
 pub mod Place
+pub mod inner
