@@ -14,7 +14,7 @@ pub taken : {A : Type 0} (n : ℕ) (xs rest : List A) → n ≡ length xs → ta
 taken n xs rest e = rw e (take-append_seam xs rest)
 
 -- settled designs that are alike in each part
-pub same_settled : {counts counts' : Counts} {glues glues' names names' : List Word} {marks marks' configuration configuration' : List ℕ} {energy energy' : Float} {states states' : Option ℕ}
-    → counts ≡ counts' → glues ≡ glues' → names ≡ names' → marks ≡ marks' → configuration ≡ configuration' → energy ≡ energy' → states ≡ states'
-    → ◌≡◌ {A = Settled} (record { counts = counts; glues = glues; strand_names = names; marks = marks; configuration = configuration; energy = energy; states = states }) (record { counts = counts'; glues = glues'; strand_names = names'; marks = marks'; configuration = configuration'; energy = energy'; states = states' })
-same_settled a b c d e f g = cc
+pub same_settled : {counts counts' : Counts} {glues glues' names names' : List Word} {marks marks' configuration configuration' : List ℕ} {energy energy' : Float} {states states' : Option ℕ} {deck deck' : List ℕ}
+    → counts ≡ counts' → glues ≡ glues' → names ≡ names' → marks ≡ marks' → configuration ≡ configuration' → energy ≡ energy' → states ≡ states' → deck ≡ deck'
+    → ◌≡◌ {A = Settled} (record { counts = counts; glues = glues; strand_names = names; marks = marks; configuration = configuration; energy = energy; states = states; deck = deck }) (record { counts = counts'; glues = glues'; strand_names = names'; marks = marks'; configuration = configuration'; energy = energy'; states = states'; deck = deck' })
+same_settled a b c d e f g h = cc

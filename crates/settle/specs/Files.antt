@@ -1,5 +1,5 @@
 -- What becomes of a design file: what each call answers of what its lines say, the calls in their order. The first that does not answer ends it.
-use Rattle.std.specs.Prelude.{cond, List, ℕ, ◌+◌, eqb, replicate, Option, None, Some, Result, Ok, Err}
+use Rattle.std.specs.Prelude.{cond, List, ℕ, ◌+◌, eqb, take, replicate, Option, None, Some, Result, Ok, Err}
 use Rattle.reply.specs.Number.{number_of, answered, Reply}
 use Rattle.reply.specs.First.{first_of}
 use Rattle.reply.specs.Figures.{Figures}
@@ -21,6 +21,8 @@ use Rattle.sheet.specs.declared.faults.Counts.{Counts}
 use Rattle.sheet.specs.declared.faults.SheetFault.{SheetFault}
 use Rattle.sheet.specs.declared.faults.SheetFault.TheVariants as fault
 use Rattle.sheet.specs.declared.rows.Group.TheVariants.{Strand, Position}
+use Rattle.deck.specs.Form.{singles}
+use Rattle.deck.specs.Writing.{write_figures, write_words}
 use Rattle.design.specs.Design.{Design, design}
 use Rattle.design.specs.Answers.{count_answer}
 use Rattle.mfe.specs.Answers.{search_checks, search_answer, search_entries}
@@ -68,6 +70,10 @@ states_by count = cond (eqb count.number answered) (Some count.figure) None
 abbrev pub room_for : List Row → List ℕ
 room_for rows = replicate (count_of Position rows) 0
 
+-- the deck of a configuration in document 01's form: the words that writing it leaves in 129 zeros
+unfoldable pub deck_written : List ℕ → List ℕ
+deck_written configuration = take (write_figures singles configuration (replicate 129 0)).count (write_words singles configuration (replicate 129 0))
+
 -- a settled design of the rows: the configuration that the search of a design writes, the energy that it gives, and the number of states
 abbrev pub settled_of : List Row → Design → Settled
 settled_of rows d =
@@ -79,6 +85,7 @@ settled_of rows d =
       configuration = search_entries d (room_for rows);
       energy = (search_answer d (room_for rows)).figure;
       states = states_by (count_answer d);
+      deck = deck_written (search_entries d (room_for rows));
     }
 
 -- what the search's reply comes to

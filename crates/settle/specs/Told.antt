@@ -9,7 +9,7 @@ use Rattle.settle.specs.declared.settle.SettledFile.{SettledFile}
 use Rattle.settle.specs.declared.settle.Unsettled.{Unsettled}
 
 -- a settled design: how many strands, positions and energies it has, the glues of its positions, the names of its strands, its marks, the
--- configuration that the search gives, its energy, and the number of states where so many are counted
+-- configuration that the search gives, its energy, the number of states where so many are counted, and the configuration's deck
 pub record Settled : Type 0 where
   pub counts : Counts
   pub glues : List Word
@@ -18,6 +18,7 @@ pub record Settled : Type 0 where
   pub configuration : List ℕ
   pub energy : Float
   pub states : Option ℕ
+  pub deck : List ℕ
 
 -- what becomes of a file: it can't be read, or a call refuses its design with a number, each at a place; or it is settled
 pub data Told : Type 0 where
@@ -36,6 +37,7 @@ settled_file f =
       configuration = take f.counts.positions f.configuration;
       energy = f.energy.0;
       states = f.states;
+      deck = take f.deck.count f.deck.words;
     }
 
 -- a file without a settled configuration: refused where a call refuses it

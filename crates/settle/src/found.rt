@@ -129,12 +129,8 @@ pub(crate) fn build_found(sheet: &Sheet, refusal: Refusal) -> Found
 pub(crate) fn kelvin_found(sheet: &Sheet) -> Found
     ensures { result ≡ kelvin_found sheet.now.text.now sheet.now.rows.now }
 {
-    on_row(
-        sheet.text,
-        sheet.first_of(Group::Ambient),
-        1,
-        Why::KelvinRange,
-    )
+    let row = sheet.first_of(Group::Ambient);
+    on_row(sheet.text, row, 1, Why::KelvinRange)
 }
 
 // The word of the ambient's line that holds one of its numbers: RT, then the two excesses. A refusal's place is a number, as C is told it.

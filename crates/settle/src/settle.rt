@@ -8,12 +8,13 @@ ghost use Rattle.sheet.specs.declared.rows.Group.TheVariants as group;
 ghost use Rattle.design.specs.Answers.{count_answer};
 ghost use Rattle.mfe.specs.Answers.{search_answer, search_entries};
 ghost use Rattle.settle.specs.Told.{Settled, Told, settled, told, unsettled};
-ghost use Rattle.settle.specs.Files.{lent_said, built_said, build_told, ambient_from, ambient_told, room_for, states_by, search_reply, search_by, search_told, design_told, read_fault, sheet_fault, rows_told, settle_told};
+ghost use Rattle.settle.specs.Files.{lent_said, built_said, build_told, ambient_from, ambient_told, room_for, deck_written, states_by, search_reply, search_by, search_told, design_told, read_fault, sheet_fault, rows_told, settle_told};
 
 use crate::found::{at_line, build_found, design_found, kelvin_found, on_line, too_many};
 use crate::reads::first;
 use answers::reasons::{FileFault, Why};
 use answers::{Found, Spot};
+use deck::DeckForm;
 use design::Design;
 use mfe::mfe_configuration;
 use reply::Refusal;
@@ -71,6 +72,14 @@ pub(crate) struct SettledFile {
     pub(crate) energy: KcalPerMol,
     // How many states it has, where so many are counted.
     pub(crate) states: Option<u64>,
+    pub(crate) deck: Deck,
+}
+
+// The words of a configuration's deck: a first word, and one for each position at most.
+#[derive(Clone, Copy)]
+pub(crate) struct Deck {
+    pub(crate) words: [u32; 1 + POSITIONS],
+    pub(crate) count: usize,
 }
 
 // Why the lines of a text can't be read.
@@ -136,6 +145,15 @@ fn marks_of(sheet: &Sheet) -> [u8; POSITIONS]
     marks
 }
 
+// The deck of a configuration, in document 01's form.
+fn deck_of(configuration: &[u8]) -> Deck
+    ensures { take result.count result.words ≡ deck_written configuration.now }
+{
+    let mut words = [0u32; 1 + POSITIONS];
+    let count = deck::write(DeckForm::Singles, configuration, &mut words).unwrap_or(0);
+    Deck { words, count }
+}
+
 // The number of states. A design that the search has answered is refused its count only where it has too many.
 fn states_of(design: &Design) -> Option<u64>
     ensures { result ≡ states_by (count_answer design.now) }
@@ -171,6 +189,7 @@ fn searched(sheet: &Sheet, design: &Design) -> Result<SettledFile, Unsettled>
         configuration,
         energy,
         states: states_of(design),
+        deck: deck_of(&configuration[..sheet.counts.positions]),
     })
 }
 

@@ -6,8 +6,9 @@ use lib.ListN.{take, replicate}
 use Rattle.std.proofs.Common.{rules}
 use Rattle.std.specs.Prelude.{Err}
 use Rattle.std.proofs.lemmas.List.{take-replicate}
+use Rattle.mfe.specs.Answers.{search_entries}
 use Rattle.settle.specs.Told.{settled}
-use Rattle.settle.specs.Files.{room_for, settled_of, search_told}
+use Rattle.settle.specs.Files.{room_for, deck_written, settled_of, search_told}
 use Rattle.settle.proofs.Taken.{taken, same_settled}
 use Rattle.settle.proofs.settle.searched.Goals as goal
 
@@ -36,4 +37,6 @@ returns c =
     let goes = rw c.in_ok-energy.was at c.search.ensures.goes_on in
     let energy = rw c.in_ok-energy.was at c.search.ensures.energy in
     let front = taken s.counts.positions c.search.new.configuration _ (search rules) ∙ c.search.ensures.written in
-    ap settled (same_settled s.counted c.glues_of.ensures c.names_of.ensures c.marks_of.ensures front energy c.states_of.ensures) ∙ sym (goes (settled_of s.rows.now d))
+    let slice : take s.counts.positions _ ≡ search_entries d (room_for s.rows.now) = front in
+    let deck = c.deck_of.ensures ∙ ap deck_written slice in
+    ap settled (same_settled s.counted c.glues_of.ensures c.names_of.ensures c.marks_of.ensures front energy c.states_of.ensures deck) ∙ sym (goes (settled_of s.rows.now d))
