@@ -85,12 +85,12 @@ pub(crate) struct Chosen<'a> {
 }
 
 impl<'a> Chosen<'a> {
-    // A group's rows: their places are written into a slice, as far as they fit, and what was in it past them counts as places too.
+    // A group's rows: their places are written into a slice that has an entry for each.
     #[tactic(auto, using(crate::proofs::Theorems::laid_whole))]
     pub(crate) fn of(rows: &'a [Row], group: Group, places: &'a mut [usize]) -> Self
+        requires { length places.old ≡ count_of group rows.now }
         ensures rows { result.rows.now ≡ rows.now }
-        ensures places { result.places.now ≡ laid group rows.now places.old }
-        ensures whole { length places.old ≡ count_of group rows.now → result.places.now ≡ rows_of group rows.now }
+        ensures places { result.places.now ≡ rows_of group rows.now }
     {
         rows_of(rows, group, places);
         Chosen { rows, places }

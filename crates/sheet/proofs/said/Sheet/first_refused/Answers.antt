@@ -29,6 +29,13 @@ slice_bounds-of-end c =
     let h : c.count_of-count.result ≤ 1024 = omega (arith, few, most) in
     search rules
 
+pub of-members-requires : goal.of-members-requires
+of-members-requires c =
+    let few = c.args.self.now.sound.few c.args.group in
+    let most = limit_most c.args.group in
+    let h : c.count_of-count.result ≤ 1024 = omega (arith, few, most) in
+    search rules
+
 pub returns-in_err-k : goal.returns-in_err-k
 unfolding first_refused
 returns-in_err-k c =
