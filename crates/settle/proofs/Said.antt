@@ -3,7 +3,7 @@ use mathlib.Core.Path.{◌≡◌, refl}
 use mathlib.Core.List.{List}
 use Prim.Native.Nat.{ℕ}
 use lib.ListN.{length, take}
-use Rattle.std.specs.Prelude.{Float, Ok, Err}
+use Rattle.std.specs.Prelude.{Float, Result, Ok, Err, IfOk}
 use Rattle.lists.proofs.Front.{take-over}
 use Rattle.statements.specs.Rows.{rows_of, read_answer, rows_after}
 use Rattle.statements.specs.declared.statement.Row.{Row}
@@ -38,3 +38,8 @@ module _ (which : Build) (text : List ℕ) (room : ℕ) (long : room ≡ 2048) w
   pub told_fault : {fault : ReadFault} → read_answer text room ≡ Err fault → settle_told which text ≡ read_fault fault
   unfolding settle_told
   told_fault e = rw (rw long at e)
+
+-- what holds whatever is answered holds where it is an answer
+pub where_ok : {T E : Type 0} (r : Result T E) {P : Type 0} → P → IfOk r (λ (x : T). P)
+where_ok (Ok x) p = p
+where_ok (Err e) p = tt

@@ -7,8 +7,10 @@ ghost use Rattle.sheet.specs.Said.{ambient_said, marks_said, glues_shown, strand
 ghost use Rattle.sheet.specs.declared.rows.Group.TheVariants as group;
 ghost use Rattle.design.specs.Answers.{count_answer};
 ghost use Rattle.mfe.specs.Answers.{search_answer, search_entries};
+ghost use Rattle.mfe.specs.Answered.{SearchAnswered};
+ghost use Rattle.statements.specs.Rows.{rows_of};
 ghost use Rattle.settle.specs.Told.{Settled, Told, settled, told, unsettled};
-ghost use Rattle.settle.specs.Files.{lent_said, built_said, build_told, ambient_from, ambient_told, room_for, deck_written, states_by, search_reply, search_by, search_told, design_told, read_fault, sheet_fault, rows_told, settle_told};
+ghost use Rattle.settle.specs.Files.{lent_said, built_said, build_told, ambient_from, ambient_told, design_said, room_for, deck_written, states_by, search_reply, search_by, search_told, design_told, read_fault, sheet_fault, rows_told, settle_told};
 
 use crate::found::{at_line, build_found, design_found, kelvin_found, on_line, too_many};
 use crate::reads::first;
@@ -177,8 +179,10 @@ fn search(sheet: &Sheet, design: &Design, configuration: &mut [u8]) -> Result<Kc
 
 // The search over a design, and what is shown of it.
 fn searched(sheet: &Sheet, design: &Design) -> Result<SettledFile, Unsettled>
-    ensures { told result ≡ search_told sheet.now.text.now sheet.now.rows.now design.now }
+    ensures told { told result ≡ search_told sheet.now.text.now sheet.now.rows.now design.now }
+    ensures lowest { SearchAnswered design.now (room_for sheet.now.rows.now) }
 {
+    design.hold_doubles();
     let mut configuration = [0u8; POSITIONS];
     let energy = search(sheet, design, &mut configuration[..sheet.counts.positions])?;
     Ok(SettledFile {
@@ -227,7 +231,8 @@ fn ambient_of(sheet: &Sheet) -> Result<Ambient, Unsettled>
 
 // The design of a file, built and searched.
 fn settled(which: Build, sheet: &Sheet) -> Result<SettledFile, Unsettled>
-    ensures { told result ≡ design_told which sheet.now.text.now sheet.now.rows.now }
+    ensures told { told result ≡ design_told which sheet.now.text.now sheet.now.rows.now }
+    ensures lowest { IfOk result (λ _. SearchAnswered (design_said which sheet.now.text.now sheet.now.rows.now) (room_for sheet.now.rows.now)) }
 {
     let counts = sheet.counts;
     let strands = counts.strands + OTHERS;
@@ -260,7 +265,8 @@ fn settled(which: Build, sheet: &Sheet) -> Result<SettledFile, Unsettled>
 // The rows of a text.
 #[tactic(auto, unfolding(crate::specs::Files::rows_told))]
 fn settle_rows(which: Build, text: &[u8], rows: &[Row]) -> Result<SettledFile, Unsettled>
-    ensures { told result ≡ rows_told which text.now rows.now }
+    ensures told { told result ≡ rows_told which text.now rows.now }
+    ensures lowest { IfOk result (λ _. SearchAnswered (design_said which text.now rows.now) (room_for rows.now)) }
 {
     match Sheet::of(text, rows) {
         Ok(sheet) => settled(which, &sheet),
@@ -268,9 +274,10 @@ fn settle_rows(which: Build, text: &[u8], rows: &[Row]) -> Result<SettledFile, U
     }
 }
 
-// The text of a file.
+// The text of a file. Where it is settled, the configuration is the lowest that its design has.
 pub(crate) fn settle(which: Build, text: &[u8]) -> Result<SettledFile, Unsettled>
-    ensures { told result ≡ settle_told which text.now }
+    ensures told { told result ≡ settle_told which text.now }
+    ensures lowest { IfOk result (λ _. SearchAnswered (design_said which text.now (rows_of text.now)) (room_for (rows_of text.now))) }
 {
     // More rows than any design has. This array and those above are of a fixed size, as in every crate here: what a design holds is bounded, and no
     // call has to tell that memory could not be had.

@@ -9,6 +9,7 @@ use Rattle.std.proofs.lemmas.List.{take-replicate}
 use Rattle.mfe.specs.Answers.{search_entries}
 use Rattle.settle.specs.Told.{settled}
 use Rattle.settle.specs.Files.{room_for, deck_written, settled_of, search_told}
+use Rattle.mfe.proofs.Answered.{search-answered}
 use Rattle.settle.proofs.Taken.{taken, same_settled}
 use Rattle.settle.proofs.settle.searched.Goals as goal
 
@@ -21,17 +22,17 @@ search-requires c =
     let zeros : take m (replicate {A = ℕ} 128 0) ≡ room_for s.rows.now = take-replicate m 128 0 (omega arith) ∙ ap (λ (k : ℕ). replicate k 0) sound.positions.0 in
     zeros
 
-pub returns-in_err-energy : goal.returns-in_err-energy
+pub returns-in_err-energy-clause-told : goal.returns-in_err-energy-clause-told
 unfolding search_told
-returns-in_err-energy c =
+returns-in_err-energy-clause-told c =
     let u = c.in_err-energy.field-0.0 in
     let out : c.from_residual.result ≡ Err u = search rules in
     let ends = rw c.in_err-energy.was at c.search.ensures.ends in
     rw out (sym (ends _))
 
-pub returns : goal.returns
+pub returns-clause-told : goal.returns-clause-told
 unfolding search_told
-returns c =
+returns-clause-told c =
     let s = c.args.sheet.now in
     let d = c.args.design.now in
     let goes = rw c.in_ok-energy.was at c.search.ensures.goes_on in
@@ -40,3 +41,9 @@ returns c =
     let slice : take s.counts.positions _ ≡ search_entries d (room_for s.rows.now) = front in
     let deck = c.deck_of.ensures ∙ ap deck_written slice in
     ap settled (same_settled s.counted c.glues_of.ensures c.names_of.ensures c.marks_of.ensures front energy c.states_of.ensures deck) ∙ sym (goes (settled_of s.rows.now d))
+
+pub returns-in_err-energy-clause-lowest : goal.returns-in_err-energy-clause-lowest
+returns-in_err-energy-clause-lowest c = search-answered c.args.design.now (room_for c.args.sheet.now.rows.now) c.hold_doubles.ensures
+
+pub returns-clause-lowest : goal.returns-clause-lowest
+returns-clause-lowest c = search-answered c.args.design.now (room_for c.args.sheet.now.rows.now) c.hold_doubles.ensures
