@@ -3,6 +3,9 @@ use Rattle.std.specs.Prelude.{cond, if◌then◌else◌, nat_lt, List, [], ◌�
 use lib.Chars.{codes}
 use Rattle.statements.specs.Words.{word_at}
 use Rattle.statements.specs.declared.words.Word.{Word}
+use Rattle.answers.specs.declared.SettledDesign.{SettledDesign}
+use Rattle.answers.specs.declared.draw.Line.{Line}
+use Rattle.answers.specs.declared.draw.Line.TheVariants.{Strands, Scaffold}
 use Rattle.answers.specs.declared.names.Occupant.{Occupant}
 use Rattle.answers.specs.declared.names.Occupant.TheVariants.{Nobody, Strand, Quencher, Reporter, Blocked}
 
@@ -35,3 +38,8 @@ name_of text names Blocked = codes "blocked"
 abbrev pub or_dash : List ℕ → List ℕ
 or_dash [] = codes "-"
 or_dash (byte ∷ rest) = byte ∷ rest
+
+-- what a line of the drawing shows of a position: the name of who sits there, or its glue
+abbrev pub shown : Line → SettledDesign → ℕ → List ℕ
+shown Strands d i = name_of d.text.now d.strand_names.now (occupant_at d.marks.now d.configuration.now (length d.strand_names.now) i)
+shown Scaffold d i = or_dash (word_of d.text.now d.glues.now i)
