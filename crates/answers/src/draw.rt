@@ -1,5 +1,6 @@
 // The settled configuration as people see it: the strands over the positions on which they sit, in as many stretches as lines are wide.
-ghost use Rattle.std.specs.Prelude.{◌<◌, IfOk, length};
+ghost use Rattle.std.specs.Prelude.{◌≡◌, ◌<◌, IfOk, length};
+ghost use Rattle.answers.specs.Names.{shown};
 
 use crate::SettledDesign;
 use crate::print::{Printer, width};
@@ -26,7 +27,9 @@ fn head(line: Line) -> &'static str {
 
 impl SettledDesign<'_> {
     // What a line shows of position i: the name of who sits there, or its glue.
-    fn shown(&self, line: Line, i: usize) -> &[u8] {
+    fn shown(&self, line: Line, i: usize) -> &[u8]
+        ensures { result.now ≡ shown line self.now i }
+    {
         match line {
             Line::Strands => self.name_of(self.occupant_at(i)),
             Line::Scaffold => self.glue_at(i),

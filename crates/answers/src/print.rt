@@ -1,4 +1,9 @@
 // What is written: texts, numbers, and the bytes of a file as people or a JSON reader can take them.
+ghost use Rattle.std.specs.Prelude.{OnOk};
+ghost use Rattle.std.specs.Io.KnownBytes.{Appends};
+ghost use Rattle.answers.specs.Text.{fixed_shown};
+
+use crate::reads::first;
 use std::io;
 use std::io::Write;
 
@@ -19,12 +24,13 @@ pub(crate) struct Printer<'a, W: Write> {
 
 impl<W: Write> Printer<'_, W> {
     // A number to six places, where it has such a text. Of std's formats none has a clause on the text of a double.
-    pub(crate) fn print_fixed(&mut self, x: f64) -> io::Result<()> {
+    #[tactic(auto, unfolding(crate::specs::Text::fixed_shown))]
+    pub(crate) fn print_fixed(&mut self, x: f64) -> io::Result<()>
+        ensures { OnOk result (Appends (W.contents self.old.out.now) (W.contents self.new.out.now) (fixed_shown x)) }
+    {
         let mut text = [0u8; 32];
-        if let Ok(size) = decimals::write_fixed(x, &mut text) {
-            self.out.write_all(text.get(..size).unwrap_or(&[]))?;
-        }
-        Ok(())
+        let size = decimals::write_fixed(x, &mut text).unwrap_or(0);
+        self.out.write_all(first(&text, size))
     }
 
     // A byte that is not plain. People get \x and two digits; JSON \u and four, so that the character's number is the byte.

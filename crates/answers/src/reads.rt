@@ -11,3 +11,10 @@ pub fn part(text: &[u8], word: Word) -> &[u8]
         .and_then(|rest| rest.get(..word.size))
         .unwrap_or(&[])
 }
+
+// The first n bytes, or all where there are fewer.
+pub(crate) fn first(text: &[u8], n: usize) -> &[u8]
+    ensures { result.now ≡ take n text.now }
+{
+    text.get(..n).unwrap_or(text)
+}

@@ -1,8 +1,13 @@
 // The documents' trade words for the refusals.
+ghost use Rattle.std.specs.Prelude.{◌≡◌};
+ghost use Rattle.answers.specs.TradeWords.{trade_word};
+
 use reply::Refusal;
 
 // The trade word of a refusal.
-pub(crate) fn trade_word(refusal: Refusal) -> &'static str {
+pub(crate) fn trade_word(refusal: Refusal) -> &'static str
+    ensures { result.now ≡ trade_word refusal }
+{
     match refusal {
         Refusal::WrongSize => "size",
         Refusal::NotABase => "base",

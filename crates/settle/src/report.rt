@@ -1,11 +1,11 @@
 // What is printed of a file.
+ghost use Rattle.std.specs.Prelude.{◌≡◌};
+ghost use Rattle.settle.specs.Told.{settled_file};
+
 use crate::reads::first;
 use crate::settle::{SettledFile, Unsettled};
 use answers::print::Style;
 use answers::{DesignFile, SettledDesign, refused, settled, unreadable};
-use deck::DeckForm;
-use reply::limits::POSITIONS;
-use sheet::faults::Counts;
 use std::io;
 use std::io::Write;
 
@@ -18,7 +18,10 @@ pub(crate) fn report<W: Write>(
     outcome: Result<SettledFile, Unsettled>,
 ) -> io::Result<bool> {
     match outcome {
-        Ok(design) => report_settled(out, style, file, &design),
+        Ok(design) => {
+            settled(out, style, file.path, &design.shown(file.text))?;
+            Ok(true)
+        }
         Err(Unsettled { found, refusal }) => {
             match refusal {
                 Some(refusal) => refused(out, style, file, refusal, found)?,
@@ -29,35 +32,30 @@ pub(crate) fn report<W: Write>(
     }
 }
 
-// A settled design, with the deck of its configuration.
-fn report_settled<W: Write>(
-    out: &mut W,
-    style: Style,
-    file: DesignFile,
-    design: &SettledFile,
-) -> io::Result<bool> {
-    let Counts {
-        strands,
-        positions,
-        entries,
-    } = design.counts;
-    let configuration = first(&design.configuration, positions);
-    // A first word, and one for each position at most.
-    let mut deck = [0u32; 1 + POSITIONS];
-    let Ok(size) = deck::write(DeckForm::Singles, configuration, &mut deck) else {
-        return Ok(false);
-    };
-    let shown = SettledDesign {
-        text: file.text,
-        glues: first(&design.glues, positions),
-        strand_names: first(&design.strand_names, strands),
-        entries,
-        states: design.states,
-        configuration,
-        marks: first(&design.marks, positions),
-        energy: design.energy.0,
-        deck: first(&deck, size),
-    };
-    settled(out, style, file.path, &shown)?;
-    Ok(true)
+impl SettledFile {
+    // What the printer is handed of a settled design.
+    fn shown<'a>(&'a self, text: &'a [u8]) -> SettledDesign<'a>
+        ensures text { result.text.now ≡ text.now }
+        ensures glues { result.glues.now ≡ (settled_file self.now).glues }
+        ensures strand_names { result.strand_names.now ≡ (settled_file self.now).strand_names }
+        ensures entries { result.entries ≡ self.now.counts.entries }
+        ensures states { result.states ≡ (settled_file self.now).states }
+        ensures configuration { result.configuration.now ≡ (settled_file self.now).configuration }
+        ensures marks { result.marks.now ≡ (settled_file self.now).marks }
+        ensures energy { result.energy ≡ (settled_file self.now).energy }
+        ensures deck { result.deck.now ≡ (settled_file self.now).deck }
+    {
+        let positions = self.counts.positions;
+        SettledDesign {
+            text,
+            glues: first(&self.glues, positions),
+            strand_names: first(&self.strand_names, self.counts.strands),
+            entries: self.counts.entries,
+            states: self.states,
+            configuration: first(&self.configuration, positions),
+            marks: first(&self.marks, positions),
+            energy: self.energy.0,
+            deck: first(&self.deck.words, self.deck.count),
+        }
+    }
 }

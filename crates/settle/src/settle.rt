@@ -1,19 +1,32 @@
 // From a file's text to the configuration in which its strands settle.
-use crate::build::{EMPTY, Tables, build, glue_count};
-use crate::reads::{first, first_mut};
-use crate::rows::{FileRows, at_line, on_line};
+ghost use Rattle.std.specs.Prelude.{◌≡◌, take, None, Some, IfOk, IfErr};
+ghost use Rattle.reply.specs.Number.{answered};
+ghost use Rattle.sdc1d_params.specs.Params.{lent_of, outcome_of};
+ghost use Rattle.sheet.specs.Rows.{count_of};
+ghost use Rattle.sheet.specs.Said.{ambient_said, marks_said, glues_shown, strands_shown};
+ghost use Rattle.sheet.specs.declared.rows.Group.TheVariants as group;
+ghost use Rattle.design.specs.Answers.{count_answer};
+ghost use Rattle.mfe.specs.Answers.{search_answer, search_entries};
+ghost use Rattle.mfe.specs.Answered.{SearchAnswered};
+ghost use Rattle.statements.specs.Rows.{rows_of};
+ghost use Rattle.settle.specs.Told.{Settled, Told, settled, told, unsettled};
+ghost use Rattle.settle.specs.Files.{lent_said, built_said, build_told, ambient_from, ambient_told, design_said, room_for, deck_written, states_by, search_reply, search_by, search_told, design_told, read_fault, sheet_fault, rows_told, settle_told};
+
+use crate::found::{at_line, build_found, design_found, kelvin_found, on_line, too_many};
+use crate::reads::first;
 use answers::reasons::{FileFault, Why};
 use answers::{Found, Spot};
+use deck::DeckForm;
 use design::{Amounts, Design};
 use mfe::mfe_configuration;
-use reply::limits::{POSITIONS, STRANDS};
-use reply::{Refusal, Refused};
+use reply::Refusal;
+use reply::limits::{CELLS, POSITIONS, SIDES, STRANDS};
 use sdc_common::MOST_STRANDS;
 use sdc1d::number_of_states;
 use sdc1d_params::Build;
 use sheet::faults::{Counts, SheetFault};
-use sheet::once;
-use sheet::rows::{Chosen, Group};
+use sheet::rows::Group;
+use sheet::said::Sheet;
 use statements::ReadFault;
 use statements::grammar::Kind;
 use statements::statement::Row;
@@ -28,7 +41,9 @@ pub(crate) struct Unsettled {
 }
 
 // Of a file that can't be read.
-fn unreadable(found: Found) -> Unsettled {
+fn unreadable(found: Found) -> Unsettled
+    ensures { (result.refusal ≡ None) × (result.found ≡ found) }
+{
     Unsettled {
         found,
         refusal: None,
@@ -36,7 +51,9 @@ fn unreadable(found: Found) -> Unsettled {
 }
 
 // Of a design that a call refuses.
-fn refused(refusal: Refusal, found: Found) -> Unsettled {
+fn refused(refusal: Refusal, found: Found) -> Unsettled
+    ensures { (result.refusal ≡ Some refusal) × (result.found ≡ found) }
+{
     Unsettled {
         found,
         refusal: Some(refusal),
@@ -57,10 +74,20 @@ pub(crate) struct SettledFile {
     pub(crate) energy: KcalPerMol,
     // How many states it has, where so many are counted.
     pub(crate) states: Option<u64>,
+    pub(crate) deck: Deck,
+}
+
+// The words of a configuration's deck: a first word, and one for each position at most.
+#[derive(Clone, Copy)]
+pub(crate) struct Deck {
+    pub(crate) words: [u32; 1 + POSITIONS],
+    pub(crate) count: usize,
 }
 
 // Why the lines of a text can't be read.
-fn of_lines(fault: ReadFault) -> Unsettled {
+fn of_lines(fault: ReadFault) -> Unsettled
+    ensures { unsettled result.refusal result.found ≡ read_fault fault }
+{
     match fault {
         ReadFault::Unreadable(line, fault) => unreadable(Found {
             spot: Spot::at(Some(line), fault.word),
@@ -73,24 +100,16 @@ fn of_lines(fault: ReadFault) -> Unsettled {
     }
 }
 
-// What is too many, by the group of its rows.
-fn too_many(group: Group) -> Why {
-    match group {
-        Group::Strand => Why::TooManyStrands,
-        Group::Position => Why::TooManyPositions,
-        Group::Entry => Why::TooManyEnergies,
-        _ => Why::Refused,
-    }
-}
-
 // Why the lines make no sheet.
-fn of_sheet(text: &[u8], fault: SheetFault) -> Unsettled {
+fn of_sheet(text: &[u8], fault: SheetFault) -> Unsettled
+    ensures { unsettled result.refusal result.found ≡ sheet_fault text.now fault }
+{
     match fault {
         SheetFault::NameTwice(line, word) => unreadable(Found {
             spot: Spot::at(Some(line), word),
             why: Why::NameTwice,
         }),
-        SheetFault::GivenTwice(line, _) => { unreadable(on_line(text, line, 1, Why::GivenTwice)) }
+        SheetFault::GivenTwice(line, _) => { unreadable(on_line(text, line, 0, Why::GivenTwice)) }
         SheetFault::TooMany(line, group) => {
             refused(Refusal::WrongSize, at_line(line, too_many(group)))
         }
@@ -98,79 +117,174 @@ fn of_sheet(text: &[u8], fault: SheetFault) -> Unsettled {
     }
 }
 
-// The text of a file.
-pub(crate) fn settle(which: Build, text: &[u8]) -> Result<SettledFile, Unsettled> {
-    // More rows than any design has. This array and those below are of a fixed size, as in every crate here: what a design holds is bounded, and no
+// How many strands a design has beside those of the file: strand 0, the quencher and the reporter.
+const OTHERS: usize = 3;
+
+// The glues of the positions.
+fn glues_of(sheet: &Sheet) -> [Word; POSITIONS]
+    ensures { take sheet.now.counts.positions result ≡ glues_shown (count_of group.Position sheet.now.rows.now) sheet.now.rows.now }
+{
+    let mut glues = [Word::default(); POSITIONS];
+    sheet.glues(&mut glues[..sheet.counts.positions]);
+    glues
+}
+
+// The names of the strands.
+fn names_of(sheet: &Sheet) -> [Word; MOST_STRANDS]
+    ensures { take sheet.now.counts.strands result ≡ strands_shown (count_of group.Strand sheet.now.rows.now) sheet.now.rows.now }
+{
+    let mut names = [Word::default(); MOST_STRANDS];
+    sheet.strands(&mut names[..sheet.counts.strands]);
+    names
+}
+
+// The marks of the positions.
+fn marks_of(sheet: &Sheet) -> [u8; POSITIONS]
+    ensures { take sheet.now.counts.positions result ≡ marks_said (count_of group.Position sheet.now.rows.now) sheet.now.rows.now }
+{
+    let mut marks = [0u8; POSITIONS];
+    sheet.marks(&mut marks[..sheet.counts.positions]);
+    marks
+}
+
+// The deck of a configuration, in document 01's form.
+fn deck_of(configuration: &[u8]) -> Deck
+    ensures { take result.count result.words ≡ deck_written configuration.now }
+{
+    let mut words = [0u32; 1 + POSITIONS];
+    let count = deck::write(DeckForm::Singles, configuration, &mut words).unwrap_or(0);
+    Deck { words, count }
+}
+
+// The number of states. A design that the search has answered is refused its count only where it has too many.
+fn states_of(design: &Design) -> Option<u64>
+    ensures { result ≡ states_by (count_answer design.now) }
+{
+    number_of_states(design).ok()
+}
+
+// The search over a design, with an entry for each position.
+fn search(sheet: &Sheet, design: &Design, configuration: &mut [u8]) -> Result<KcalPerMol, Unsettled>
+    requires { configuration.old ≡ room_for sheet.now.rows.now }
+    ensures energy { IfOk result (λ energy. energy.0 ≡ (search_answer design.now (room_for sheet.now.rows.now)).figure) }
+    ensures written { configuration.new ≡ search_entries design.now (room_for sheet.now.rows.now) }
+    ensures goes_on { IfOk result (λ _. (s : Settled) → search_by (search_reply sheet.now.rows.now design.now) sheet.now.text.now sheet.now.rows.now s ≡ settled s) }
+    ensures ends { IfErr result (λ u. (s : Settled) → search_by (search_reply sheet.now.rows.now design.now) sheet.now.text.now sheet.now.rows.now s ≡ unsettled u.refusal u.found) }
+{
+    match mfe_configuration(design, configuration) {
+        Ok(energy) => Ok(energy),
+        Err(given) => Err(refused(given.refusal, design_found(sheet, given))),
+    }
+}
+
+// The search over a design, and what is shown of it.
+fn searched(sheet: &Sheet, design: &Design) -> Result<SettledFile, Unsettled>
+    ensures told { told result ≡ search_told sheet.now.text.now sheet.now.rows.now design.now }
+    ensures lowest { SearchAnswered design.now (room_for sheet.now.rows.now) }
+{
+    design.hold_doubles();
+    let mut configuration = [0u8; POSITIONS];
+    let energy = search(sheet, design, &mut configuration[..sheet.counts.positions])?;
+    Ok(SettledFile {
+        counts: sheet.counts,
+        glues: glues_of(sheet),
+        strand_names: names_of(sheet),
+        marks: marks_of(sheet),
+        configuration,
+        energy,
+        states: states_of(design),
+        deck: deck_of(&configuration[..sheet.counts.positions]),
+    })
+}
+
+// The build of a file's design, which is lent zeros.
+fn build(
+    which: Build,
+    sheet: &Sheet,
+    strand_glues: &mut [u8],
+    scaffold_glues: &mut [u8],
+    dg: &mut [f64],
+    ds: &mut [f64],
+) -> Result<(), Unsettled>
+    requires lent { lent_of strand_glues.old scaffold_glues.old dg.old ds.old ≡ lent_said sheet.now.rows.now }
+    ensures built { IfOk result (λ _. outcome_of answered strand_glues.new scaffold_glues.new dg.new ds.new ≡ built_said which sheet.now.text.now sheet.now.rows.now) }
+    ensures goes_on { IfOk result (λ _. (after : Told) → build_told which sheet.now.text.now sheet.now.rows.now after ≡ after) }
+    ensures ends { IfErr result (λ u. (after : Told) → build_told which sheet.now.text.now sheet.now.rows.now after ≡ unsettled u.refusal u.found) }
+{
+    match sheet.build(which, strand_glues, scaffold_glues, dg, ds) {
+        Ok(()) => Ok(()),
+        Err(refusal) => Err(refused(refusal, build_found(sheet, refusal))),
+    }
+}
+
+// The ambient of a file.
+fn ambient_of(sheet: &Sheet) -> Result<Ambient, Unsettled>
+    ensures given { IfOk result (λ ambient. ambient ≡ ambient_from (ambient_said sheet.now.rows.now)) }
+    ensures goes_on { IfOk result (λ _. (after : Told) → ambient_told sheet.now.text.now sheet.now.rows.now after ≡ after) }
+    ensures ends { IfErr result (λ u. (after : Told) → ambient_told sheet.now.text.now sheet.now.rows.now after ≡ unsettled u.refusal u.found) }
+{
+    match sheet.ambient() {
+        Ok(ambient) => Ok(ambient),
+        Err(refusal) => Err(refused(refusal, kelvin_found(sheet))),
+    }
+}
+
+// The design of a file, built and searched.
+fn settled(which: Build, sheet: &Sheet) -> Result<SettledFile, Unsettled>
+    ensures told { told result ≡ design_told which sheet.now.text.now sheet.now.rows.now }
+    ensures lowest { IfOk result (λ _. SearchAnswered (design_said which sheet.now.text.now sheet.now.rows.now) (room_for sheet.now.rows.now)) }
+{
+    let counts = sheet.counts;
+    let strands = counts.strands + OTHERS;
+    let mut strand_glues = [0u8; SIDES * STRANDS];
+    let strand_glues = &mut strand_glues[..3 * strands];
+    let mut scaffold_glues = [0u8; POSITIONS];
+    let scaffold_glues = &mut scaffold_glues[..counts.positions];
+    let mut dg = [0.0; CELLS];
+    let mut ds = [0.0; CELLS];
+    build(which, sheet, strand_glues, scaffold_glues, &mut dg, &mut ds)?;
+    let ambient = ambient_of(sheet)?;
+    let mut marks = [0u8; POSITIONS];
+    let marks = &mut marks[..counts.positions];
+    sheet.marks(marks);
+    let mut potentials = [0.0; STRANDS];
+    let potentials = &mut potentials[..strands];
+    sheet.potentials(potentials);
+    let design = Design::new(
+        scaffold_glues,
+        marks,
+        strand_glues,
+        &dg,
+        &ds,
+        potentials,
+        Amounts::Potentials,
+        ambient,
+    );
+    searched(sheet, &design)
+}
+
+// The rows of a text.
+#[tactic(auto, unfolding(crate::specs::Files::rows_told))]
+fn settle_rows(which: Build, text: &[u8], rows: &[Row]) -> Result<SettledFile, Unsettled>
+    ensures told { told result ≡ rows_told which text.now rows.now }
+    ensures lowest { IfOk result (λ _. SearchAnswered (design_said which text.now rows.now) (room_for rows.now)) }
+{
+    match Sheet::of(text, rows) {
+        Ok(sheet) => settled(which, &sheet),
+        Err(fault) => Err(of_sheet(text, fault)),
+    }
+}
+
+// The text of a file. Where it is settled, the configuration is the lowest that its design has.
+pub(crate) fn settle(which: Build, text: &[u8]) -> Result<SettledFile, Unsettled>
+    ensures told { told result ≡ settle_told which text.now }
+    ensures lowest { IfOk result (λ _. SearchAnswered (design_said which text.now (rows_of text.now)) (room_for (rows_of text.now))) }
+{
+    // More rows than any design has. This array and those above are of a fixed size, as in every crate here: what a design holds is bounded, and no
     // call has to tell that memory could not be had.
     let mut room = [Row::blank(Kind::Kelvin, 0); 2048];
-    let count = statements::read(text, &mut room).map_err(of_lines)?;
-    let rows = first(&room, count);
-    let counts = sheet::faults::check(text, rows).map_err(|fault| of_sheet(text, fault))?;
-    let mut strand_rows = [0usize; MOST_STRANDS];
-    let strand_rows = first_mut(&mut strand_rows, counts.strands);
-    let file = FileRows::of(text, rows, counts, strand_rows);
-    file.settled(which)
-}
-
-// The ambient as given, or at a temperature.
-fn ambient_of(rows: &[Row]) -> Result<Ambient, Refusal> {
-    match once::ambient_of(rows) {
-        Some(once::Ambient::At(temperature)) => units::ambient_at(temperature),
-        Some(once::Ambient::Given(ambient)) => Ok(ambient),
-        None => Err(Refusal::OutOfRange),
-    }
-}
-
-impl FileRows<'_> {
-    // The design, built and searched.
-    fn settled(&self, which: Build) -> Result<SettledFile, Unsettled> {
-        let mut tables = EMPTY;
-        build(which, self, self.counts, &mut tables).map_err(|refusal| refused(
-            refusal,
-            self.of_build(refusal),
-        ))?;
-        let ambient = ambient_of(self.rows).map_err(|refusal| refused(refusal, self.of_kelvin()))?;
-        self.search(&tables, ambient)
-            .map_err(|given| refused(given.refusal, self.of_design(given)))
-    }
-
-    // The search over the design of these tables, and what is shown of it.
-    fn search(&self, tables: &Tables, ambient: Ambient) -> Result<SettledFile, Refused> {
-        let users = self.counts.strands;
-        let positions = self.counts.positions;
-        let mut places = [0usize; POSITIONS];
-        let places = first_mut(&mut places, positions);
-        let scaffold = Chosen::of(self.rows, Group::Position, places);
-        let mut marks = [0u8; POSITIONS];
-        scaffold.blocks(first_mut(&mut marks, positions));
-        let mut potentials = [0.0; STRANDS];
-        self.strands.potentials(&mut potentials);
-        let design = Design::new(
-            first(&tables.scaffold_glues, positions),
-            first(&marks, positions),
-            first(&tables.strand_glues, glue_count(users)),
-            &tables.dg,
-            &tables.ds,
-            first(&potentials, users.saturating_add(3)),
-            Amounts::Potentials,
-            ambient,
-        );
-        let mut configuration = [0u8; POSITIONS];
-        let energy = mfe_configuration(&design, first_mut(&mut configuration, positions))?;
-        // A design that the search has answered is refused its count only where it has too many states.
-        let states = number_of_states(&design).ok();
-        let mut glues = [Word::default(); POSITIONS];
-        scaffold.shown(&mut glues);
-        let mut strand_names = [Word::default(); MOST_STRANDS];
-        self.strands.shown(&mut strand_names);
-        Ok(SettledFile {
-            counts: self.counts,
-            glues,
-            strand_names,
-            marks,
-            configuration,
-            energy,
-            states,
-        })
+    match statements::read(text, &mut room) {
+        Ok(count) => settle_rows(which, text, first(&room, count)),
+        Err(fault) => Err(of_lines(fault)),
     }
 }

@@ -19,7 +19,8 @@ use native.Mathlib.Numerals.{add-one}
 use Rattle.sheet.proofs.Faulty.{fault-none}
 use Rattle.lists.specs.Front.{over}
 use Rattle.statements.specs.declared.statement.Row.{Row}
-use Rattle.sheet.specs.Rows.{group_of, is_of, places_from, rows_of, count_of, first_of, laid}
+use Rattle.sheet.specs.Rows.{group_of, is_of, places_from, rows_of, count_of, first_of}
+use Rattle.sheet.specs.inner.Laid.{laid}
 use Rattle.sheet.specs.Faults.{limit_of, same_word, name_of, has_name, is_name_twice, fault_of, and_then, fault_from, counts_of, counts_if, sheet_answer}
 use Rattle.sheet.specs.Theorems.{Sound, Sheets}
 use Rattle.sheet.specs.declared.faults.Counts.{Counts}
@@ -105,7 +106,11 @@ answered (Err fault) o rows counts e = absurd (cc)
 any-row : Row
 any-row = record { kind = Kelvin; line = 0; words = []; numbers = [] }
 
-sound : (text : List ℕ) (rows : List Row) (counts : Counts) → sheet_answer text rows ≡ Ok counts → Sound text rows counts
+pub counted : (text : List ℕ) (rows : List Row) (counts : Counts) → sheet_answer text rows ≡ Ok counts → counts ≡ counts_of rows
+unfolding sheet_answer
+counted text rows counts e = (answered (fault_from text [] rows) (first_of Ambient rows) rows counts e).2
+
+pub sound : (text : List ℕ) (rows : List Row) (counts : Counts) → sheet_answer text rows ≡ Ok counts → Sound text rows counts
 unfolding sheet_answer
 sound text rows counts e =
     let w = answered (fault_from text [] rows) (first_of Ambient rows) rows counts e in
@@ -133,9 +138,9 @@ places-counted group at (row ∷ rest) =
     go true e = omega (arith, e)
     go false e = omega (arith, e)
 
-laid-whole : (group : Group) (rows : List Row) (lent : List ℕ) → length lent ≡ count_of group rows → laid group rows lent ≡ rows_of group rows
+pub laid_whole : (group : Group) (rows : List Row) (lent : List ℕ) → length lent ≡ count_of group rows → laid group rows lent ≡ rows_of group rows
 unfolding laid over
-laid-whole group rows lent e =
+laid_whole group rows lent e =
     let many = places-counted group 0 rows in
     let all : take (length lent) (rows_of group rows) ≡ rows_of group rows = take_all (length lent) (rows_of group rows) (omega arith) in
     let none : drop (length (rows_of group rows)) lent ≡ [] = drop_of_length-le lent {i = length (rows_of group rows)} (omega arith) in
@@ -148,5 +153,4 @@ sheets =
       numbers = λ rows chosen k row j e. rw e;
       sound = sound;
       counted = λ group rows. places-counted group 0 rows;
-      rows = laid-whole;
     }

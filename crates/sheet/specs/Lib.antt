@@ -4,3 +4,6 @@ pub mod Parts
 pub mod Once
 pub mod Theorems
 pub mod Cases
+pub mod Said
+pub mod Place
+pub mod inner

@@ -1,8 +1,7 @@
 -- Rows of a design file, as crate `statements` reads them: rows by what they stand for, and lists of rows.
-use Rattle.std.specs.Prelude.{Bool, cond, List, [], ◌∷◌, ℕ, ◌+◌, Float, length, take, Option, slice_get}
+use Rattle.std.specs.Prelude.{Bool, cond, List, [], ◌∷◌, ℕ, ◌+◌, Float, Option, slice_get}
 use Rattle.std.specs.List.{count_by, find}
 use Rattle.std.specs.Option.{option_map, option_and_then}
-use Rattle.lists.specs.Front.{over}
 use Rattle.statements.specs.Layout.{row_word, row_number}
 use Rattle.statements.specs.declared.grammar.Kind.{Kind}
 use Rattle.statements.specs.declared.grammar.Kind.TheVariants as kind
@@ -50,10 +49,6 @@ places_from group at (row ∷ rest) = cond (is_of group row) (at ∷ places_from
 -- the places of all rows of a group
 abbrev pub rows_of : Group → List Row → List ℕ
 rows_of group rows = places_from group 0 rows
-
--- they stand first in what is lent, as far as they fit
-unfoldable pub laid : Group → List Row → List ℕ → List ℕ
-laid group rows lent = over (take (length lent) (rows_of group rows)) lent
 
 -- ---- what stands in the rows of a list; there is none past its end
 

@@ -2,7 +2,7 @@
 use Rattle.std.specs.Prelude.{true, false, List, ◌≡◌, ℕ, ◌≤◌, ◌<◌, length, Some, Ok, IsSome, slice_get}
 use Rattle.statements.specs.Layout.{word_in, number_in}
 use Rattle.statements.specs.declared.statement.Row.{Row}
-use Rattle.sheet.specs.Rows.{is_of, rows_of, count_of, first_of, laid, word_among, number_among}
+use Rattle.sheet.specs.Rows.{is_of, rows_of, count_of, first_of, word_among, number_among}
 use Rattle.sheet.specs.Faults.{limit_of, same_word, name_of, sheet_answer}
 use Rattle.sheet.specs.declared.faults.Counts.{Counts}
 use Rattle.sheet.specs.declared.rows.Group.{Group}
@@ -27,5 +27,3 @@ pub record Sheets : Type 0 where
   pub sound : (text : List ℕ) (rows : List Row) (counts : Counts) → sheet_answer text rows ≡ Ok counts → Sound text rows counts
   -- a list of a group's rows has as many as there are
   pub counted : (group : Group) (rows : List Row) → length (rows_of group rows) ≡ count_of group rows
-  -- a slice as long as there are rows of a group holds these rows
-  pub rows : (group : Group) (rows : List Row) (lent : List ℕ) → length lent ≡ count_of group rows → laid group rows lent ≡ rows_of group rows

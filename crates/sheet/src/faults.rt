@@ -87,7 +87,7 @@ fn check_row(text: &[u8], before: &[Row], row: &Row) -> Result<(), SheetFault>
 }
 
 // What is wrong with the rows of a text, or how much there is to gather.
-pub fn check(text: &[u8], rows: &[Row]) -> Result<Counts, SheetFault>
+pub(crate) fn check(text: &[u8], rows: &[Row]) -> Result<Counts, SheetFault>
     ensures { result ≡ sheet_answer text.now rows.now }
 {
     // By number: a row is held against those before it.

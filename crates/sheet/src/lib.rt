@@ -2,6 +2,8 @@
 #![tactic(auto)]
 
 pub mod faults;
-pub mod once;
-pub mod parts;
+mod once;
+mod parts;
+pub mod place;
 pub mod rows;
+pub mod said;

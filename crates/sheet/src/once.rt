@@ -13,7 +13,7 @@ use utils::DgDs;
 
 // The ambient as a file gives it: its temperature, or itself.
 #[derive(Clone, Copy)]
-pub enum Ambient {
+pub(crate) enum Ambient {
     At(Kelvin),
     Given(units::Ambient),
 }
@@ -27,7 +27,7 @@ pub(crate) fn number_once(rows: &[Row], group: Group, j: usize) -> f64
 }
 
 // The ambient, as kelvin or as three numbers.
-pub fn ambient_of(rows: &[Row]) -> Option<Ambient>
+pub(crate) fn ambient_of(rows: &[Row]) -> Option<Ambient>
     ensures { result ≡ ambient_of rows.now }
 {
     let row = first_of(rows, Group::Ambient)?;
@@ -39,7 +39,7 @@ pub fn ambient_of(rows: &[Row]) -> Option<Ambient>
 }
 
 // The junction penalty; 0.0 twice where there is none.
-pub fn junction_penalty(rows: &[Row]) -> DgDs
+pub(crate) fn junction_penalty(rows: &[Row]) -> DgDs
     ensures { (result.dg.0 ≡ number_once group.Penalty rows.now 0) × (result.ds.0 ≡ number_once group.Penalty rows.now 1) }
 {
     let dg = number_once(rows, Group::Penalty, 0);
@@ -56,7 +56,7 @@ fn strand_named(text: &[u8], strands: &Chosen, name: Word) -> Option<usize>
 
 // Whose glues the quencher or the reporter, by its group, copies; strands are numbered from 1. A name that no strand has gives strand 0, which
 // `from_params` refuses.
-pub fn copied(text: &[u8], strands: &Chosen, group: Group) -> Option<usize>
+pub(crate) fn copied(text: &[u8], strands: &Chosen, group: Group) -> Option<usize>
     ensures { result ≡ copied_of group text.now strands.now.rows.now strands.now.places.now }
 {
     match first_of(strands.rows, group) {

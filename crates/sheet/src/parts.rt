@@ -90,7 +90,7 @@ impl Chosen<'_> {
     }
 
     // The potentials of strand 0, the strands of the rows, the quencher and the reporter.
-    pub fn potentials(&self, out: &mut [f64])
+    pub(crate) fn potentials(&self, out: &mut [f64])
         ensures { out.new ≡ tabulate (length out.old) (potential_at self.now.rows.now self.now.places.now) }
     {
         fill(out, |m| self.potential_at(m));
@@ -98,7 +98,7 @@ impl Chosen<'_> {
 
     // The glue names of the strands, three for each: a row of mark, start and size for each name.
     #[tactic(auto, unfolding(crate::specs::Parts::name_number_at))]
-    pub fn strands(&self, names: &mut [usize])
+    pub(crate) fn strands(&self, names: &mut [usize])
         ensures { names.new ≡ tabulate (length names.old) (name_number_at (glue_at self.now.rows.now self.now.places.now)) }
     {
         fill(names, |k| {
@@ -109,21 +109,21 @@ impl Chosen<'_> {
 
     // The glue names of the positions, a row of mark, start and size for each.
     #[tactic(auto, unfolding(crate::specs::Parts::name_number_at))]
-    pub fn positions(&self, names: &mut [usize])
+    pub(crate) fn positions(&self, names: &mut [usize])
         ensures { names.new ≡ tabulate (length names.old) (name_number_at (first_at self.now.rows.now self.now.places.now)) }
     {
         fill(names, |k| name_row(self.word(k / 3, 0))[k % 3]);
     }
 
     // The names that are shown, of positions or of strands: the first word of each row.
-    pub fn shown(&self, names: &mut [Word])
+    pub(crate) fn shown(&self, names: &mut [Word])
         ensures { names.new ≡ tabulate (length names.old) (first_at self.now.rows.now self.now.places.now) }
     {
         fill(names, |m| self.word(m, 0));
     }
 
     // A mark for each position: 1 where it is blocked.
-    pub fn blocks(&self, marks: &mut [u8])
+    pub(crate) fn blocks(&self, marks: &mut [u8])
         ensures { marks.new ≡ tabulate (length marks.old) (blocked_at self.now.rows.now self.now.places.now) }
     {
         fill(marks, |m| {
@@ -134,14 +134,14 @@ impl Chosen<'_> {
     // The entries, a row of eight for each: start and size of the first name; mark, start and size of the second, which is there where the entry
     // is for a pair; the form, and start and size of the bases.
     #[tactic(auto, unfolding(crate::specs::Parts::entry_number_at))]
-    pub fn entries(&self, out: &mut [usize])
+    pub(crate) fn entries(&self, out: &mut [usize])
         ensures { out.new ≡ tabulate (length out.old) (entry_number_at self.now.rows.now self.now.places.now) }
     {
         fill(out, |k| self.entry_row(k / 8)[k % 8]);
     }
 
     // The energies of the entries, a row of dG and dS for each.
-    pub fn energies(&self, out: &mut [f64])
+    pub(crate) fn energies(&self, out: &mut [f64])
         ensures { out.new ≡ tabulate (length out.old) (energy_at self.now.rows.now self.now.places.now) }
     {
         fill(out, |k| self.number(k / 2, k % 2));

@@ -2,7 +2,8 @@
 ghost use Rattle.std.specs.Prelude.{◌≡◌, ◌<◌, length};
 ghost use Rattle.std.specs.Option.{option_copied};
 ghost use Rattle.statements.specs.Layout.{word_in};
-ghost use Rattle.sheet.specs.Rows.{group_of, count_of, first_of, laid, row_among, word_among, number_among, kind_among};
+ghost use Rattle.sheet.specs.inner.Laid.{laid};
+ghost use Rattle.sheet.specs.Rows.{group_of, count_of, first_of, rows_of, row_among, word_among, number_among, kind_among};
 
 use statements::grammar::Kind;
 use statements::statement::Row;
@@ -54,7 +55,7 @@ pub(crate) fn first_of(rows: &[Row], group: Group) -> Option<&Row>
 }
 
 // The places of a group's rows, in order and as far as they fit, into lent memory: no heap for a list of them.
-pub fn rows_of(rows: &[Row], group: Group, chosen: &mut [usize])
+pub(crate) fn rows_of(rows: &[Row], group: Group, chosen: &mut [usize])
     ensures { chosen.new ≡ laid group rows.now chosen.old }
 {
     // Stored by number: of what is written through a `zip` of an `iter_mut` nothing is known.
@@ -68,7 +69,7 @@ pub fn rows_of(rows: &[Row], group: Group, chosen: &mut [usize])
 }
 
 // Word j of a row; a size of 0 where there is none.
-pub fn word_of(rows: &[Row], row: usize, j: usize) -> Word
+pub(crate) fn word_of(rows: &[Row], row: usize, j: usize) -> Word
     ensures { result ≡ word_in rows.now row j }
 {
     rows.get(row)
@@ -78,16 +79,18 @@ pub fn word_of(rows: &[Row], row: usize, j: usize) -> Word
 
 // Rows of one group, by their places among all rows.
 #[derive(Clone, Copy)]
-pub struct Chosen<'a> {
-    pub rows: &'a [Row],
-    pub places: &'a [usize],
+pub(crate) struct Chosen<'a> {
+    pub(crate) rows: &'a [Row],
+    pub(crate) places: &'a [usize],
 }
 
 impl<'a> Chosen<'a> {
-    // A group's rows: their places are written into a slice, as far as they fit, and what was in it past them counts as places too.
-    pub fn of(rows: &'a [Row], group: Group, places: &'a mut [usize]) -> Self
+    // A group's rows: their places are written into a slice that has an entry for each.
+    #[tactic(auto, using(crate::proofs::Theorems::laid_whole))]
+    pub(crate) fn of(rows: &'a [Row], group: Group, places: &'a mut [usize]) -> Self
+        requires { length places.old ≡ count_of group rows.now }
         ensures rows { result.rows.now ≡ rows.now }
-        ensures places { result.places.now ≡ laid group rows.now places.old }
+        ensures places { result.places.now ≡ rows_of group rows.now }
     {
         rows_of(rows, group, places);
         Chosen { rows, places }
@@ -96,7 +99,7 @@ impl<'a> Chosen<'a> {
 
 impl Chosen<'_> {
     // Row k of these.
-    fn row(&self, k: usize) -> Option<&Row>
+    pub(crate) fn row(&self, k: usize) -> Option<&Row>
         ensures { option_copied result ≡ row_among self.now.rows.now self.now.places.now k }
     {
         self.rows.get(*self.places.get(k)?)

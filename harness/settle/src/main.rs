@@ -5,6 +5,7 @@
 
 mod damage;
 mod design;
+mod exact;
 mod json;
 mod noise;
 mod settle;
@@ -14,6 +15,7 @@ use compare::program::Program;
 use compare::random::Random;
 use damage::Expected;
 use design::Design;
+use exact::Exact;
 use settle::{fresh_folder, Answer, Settle, Settled};
 use statements::{statement, written, Statement};
 use std::path::{Path, PathBuf};
@@ -194,7 +196,8 @@ fn fixed(settle: &Settle, tally: &mut Tally) -> Result<(), String> {
 
 // ---- designs
 
-/// Each design is built and settled by the oracle, and written to a file with the oracle's own ambient.
+/// Each design is built and settled by the oracle, and written to a file with the oracle's own ambient; every other one with two
+/// excesses of its own, a penalty, a quencher and a reporter.
 fn settled_as_the_oracle(
     arguments: &Arguments,
     oracle: &mut Program,
@@ -205,8 +208,15 @@ fn settled_as_the_oracle(
     while left > 0 {
         let mut files: Vec<(Design, Vec<u8>, Lowest)> = vec![];
         while files.len() < left.min(BATCH / 4) {
-            let design = Design::random(&mut random);
-            if let Some((ambient, lowest)) = lowest(oracle, &design, &mut random)? {
+            let (asked, design, excesses) = match files.len() % 2 {
+                0 => (None, Design::random(&mut random), None),
+                _ => {
+                    let exact = Exact::random(&mut random);
+                    (Some(exact.asked), exact.stated, Some(exact.excesses))
+                }
+            };
+            let asked = asked.as_ref().unwrap_or(&design);
+            if let Some((ambient, lowest)) = lowest(oracle, asked, excesses, &mut random)? {
                 let statements = design.statements(&mut random, ambient);
                 let (text, _) = written(&mut random, &statements);
                 files.push((design, text, lowest));
@@ -250,10 +260,12 @@ struct Lowest {
     states: Option<u64>,
 }
 
-/// The ambient as a statement, and what the Rust settles; none where the Rust takes no such design.
+/// The ambient as a statement, with other excesses where they are given, and what the Rust settles; none where the Rust takes no
+/// such design.
 fn lowest(
     oracle: &mut Program,
     design: &Design,
+    excesses: Option<[f64; 2]>,
     random: &mut Random,
 ) -> Result<Option<(Statement, Lowest)>, String> {
     oracle.send(format!(
@@ -274,9 +286,20 @@ fn lowest(
         Ok(words.split(' ').map(String::from).collect())
     };
     let ambient = words(&here)?;
+    let own = [
+        protocol::double(&ambient[3])?,
+        protocol::double(&ambient[4])?,
+    ];
+    if excesses.is_some() && own != [0.0, 0.0] {
+        return Err(format!("at 37 C the oracle has the excesses {own:?}"));
+    }
+    let [strand_excess, scaffold_excess] = excesses.unwrap_or(own);
     let mut parts = vec![b"ambient".to_vec()];
-    for figure in [&ambient[1], &ambient[3], &ambient[4]] {
-        let figure = protocol::double(figure)?;
+    for figure in [
+        protocol::double(&ambient[1])?,
+        strand_excess,
+        scaffold_excess,
+    ] {
         parts.push(statements::number(random, figure));
     }
     let settled = words(&settled)?;

@@ -6,7 +6,8 @@ use lib.ListN.{length, drop, take}
 use lib.Seq.{take-nil}
 use Rattle.lists.specs.Front.{over}
 use Rattle.lists.proofs.Front.{front-step, front_same, front-whole}
-use Rattle.sheet.specs.Rows.{places_from, laid}
+use Rattle.sheet.specs.Rows.{places_from}
+use Rattle.sheet.specs.inner.Laid.{laid}
 use Rattle.sheet.proofs.Chosen.{chosen-here, chosen-later, chosen-past}
 use Rattle.sheet.proofs.Fill.{take_next}
 use Rattle.sheet.proofs.rows.rows_of.Goals as goal

@@ -1,0 +1,3 @@
+pub mod Text
+pub mod Names
+pub mod TradeWords

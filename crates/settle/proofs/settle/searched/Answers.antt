@@ -1,0 +1,49 @@
+-- `settle::settle::searched` meets its contract. Assumes nothing.
+use mathlib.Core.Path.{◌≡◌, sym, ap, ◌∙◌}
+use Prim.Native.Nat.{ℕ}
+use native.Mathlib.Omega.{arith}
+use lib.ListN.{take, replicate}
+use Rattle.std.proofs.Common.{rules}
+use Rattle.std.specs.Prelude.{Err}
+use Rattle.std.proofs.lemmas.List.{take-replicate}
+use Rattle.mfe.specs.Answers.{search_entries}
+use Rattle.settle.specs.Told.{settled}
+use Rattle.settle.specs.Files.{room_for, deck_written, settled_of, search_told}
+use Rattle.mfe.proofs.Answered.{search-answered}
+use Rattle.settle.proofs.Taken.{taken, same_settled}
+use Rattle.settle.proofs.settle.searched.Goals as goal
+
+pub search-requires : goal.search-requires
+search-requires c =
+    let s = c.args.sheet.now in
+    let sound = s.sound in
+    let m = s.counts.positions in
+    let short = sound.positions.1 in
+    let zeros : take m (replicate {A = ℕ} 128 0) ≡ room_for s.rows.now = take-replicate m 128 0 (omega arith) ∙ ap (λ (k : ℕ). replicate k 0) sound.positions.0 in
+    zeros
+
+pub returns-in_err-energy-clause-told : goal.returns-in_err-energy-clause-told
+unfolding search_told
+returns-in_err-energy-clause-told c =
+    let u = c.in_err-energy.field-0.0 in
+    let out : c.from_residual.result ≡ Err u = search rules in
+    let ends = rw c.in_err-energy.was at c.search.ensures.ends in
+    rw out (sym (ends _))
+
+pub returns-clause-told : goal.returns-clause-told
+unfolding search_told
+returns-clause-told c =
+    let s = c.args.sheet.now in
+    let d = c.args.design.now in
+    let goes = rw c.in_ok-energy.was at c.search.ensures.goes_on in
+    let energy = rw c.in_ok-energy.was at c.search.ensures.energy in
+    let front = taken s.counts.positions c.search.new.configuration _ (search rules) ∙ c.search.ensures.written in
+    let slice : take s.counts.positions _ ≡ search_entries d (room_for s.rows.now) = front in
+    let deck = c.deck_of.ensures ∙ ap deck_written slice in
+    ap settled (same_settled s.counted c.glues_of.ensures c.names_of.ensures c.marks_of.ensures front energy c.states_of.ensures deck) ∙ sym (goes (settled_of s.rows.now d))
+
+pub returns-in_err-energy-clause-lowest : goal.returns-in_err-energy-clause-lowest
+returns-in_err-energy-clause-lowest c = search-answered c.args.design.now (room_for c.args.sheet.now.rows.now) c.hold_doubles.ensures
+
+pub returns-clause-lowest : goal.returns-clause-lowest
+returns-clause-lowest c = search-answered c.args.design.now (room_for c.args.sheet.now.rows.now) c.hold_doubles.ensures
