@@ -331,7 +331,7 @@ uint32_t mj_exp(double x, uint32_t *digits, int32_t *power);
 /* The same sums over the weights of a design's own energies: a position and a strand weigh the
  * exponential of minus their bond less the strand's potential, rounded once; a left and a right strand
  * that of minus their bond. Each sum lies within one part in 2^14 of that of the exact exponentials.
- * Replies 1, 9, 10, 16, 17, 18. */
+ * Replies 1, 9, 10, 15, 16, 17, 18. */
 uint32_t mj_free_sum_of_energies(MJ_DESIGN, uint64_t *place, uint32_t *digits, int32_t *power);
 uint32_t mj_constrained_sum_of_energies(MJ_DESIGN, const uint8_t *numbers, size_t number_count,
                                         const size_t *starts, size_t start_count,
@@ -340,7 +340,7 @@ uint32_t mj_constrained_sum_of_energies(MJ_DESIGN, const uint8_t *numbers, size_
 
 /* The probability of the states that meet a constraint: their sum of energies by that over all states,
  * in the form of a sum, within one part in 2^12 of the exact quotient; 0 * 2^0 exactly if no state meets
- * it. Replies 1, 9, 10, 16, 17, 18. */
+ * it. Replies 1, 9, 10, 15, 16, 17, 18. */
 uint32_t mj_probability(MJ_DESIGN, const uint8_t *numbers, size_t number_count, const size_t *starts,
                         size_t start_count, const size_t *lengths, size_t length_count,
                         uint64_t *place, uint32_t *digits, int32_t *power);

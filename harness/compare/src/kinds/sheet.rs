@@ -126,7 +126,6 @@ impl Kind for Sheets {
 }
 
 impl Sheets {
-    /// The slices go with the first question and hold for the rest.
     /// The worked sheet on another design.
     pub(super) fn ask_worked(&self, lent: &Lent, ask: &mut Ask) {
         self.ask_sheets(lent, &[fitting(lent, WORKED.to_vec())], ask);
