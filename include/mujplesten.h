@@ -34,7 +34,7 @@
  *               that the design lacks; more than 61 user strands or 1,024 energy entries; a name of
  *               more than 64 bytes; a name or a sequence that leaves the text; a mark, a form, a build or
  *               a kind of amounts of another value; marks that are not one for each position; a quencher or reporter that is no user strand;
- *               weights, or lists of a constraint, that are not as many as the design asks for; a list that
+ *               weights, lists of a constraint, or cells for occupants that are not as many as the design asks for; a list that
  *               leaves the numbers
  *    2 base     a byte other than a, c, g, t in either case
  *    3 short    a single sequence of fewer than 2 bases
@@ -344,6 +344,14 @@ uint32_t mj_constrained_sum_of_energies(MJ_DESIGN, const uint8_t *numbers, size_
 uint32_t mj_probability(MJ_DESIGN, const uint8_t *numbers, size_t number_count, const size_t *starts,
                         size_t start_count, const size_t *lengths, size_t length_count,
                         uint64_t *place, uint32_t *digits, int32_t *power);
+
+/* The probability of each occupant at each position: that of the states that have it there, by the free
+ * sum. Digits and powers have a cell for each position and strand, [position * strands + strand], column
+ * 0 for the empty place; each is as mj_probability tells it of a list of that occupant alone, 0 * 2^0
+ * for a strand that is no friend there. It takes a constrained sum for each friend of each position. On
+ * a refusal all cells are kept. Replies 1, 9, 10, 15, 16, 17, 18. */
+uint32_t mj_occupants(MJ_DESIGN, uint32_t *digits, size_t digit_count, int32_t *powers,
+                      size_t power_count, uint64_t *place);
 
 /* The first state in listing order whose state energy is at most the ceiling, into one lent entry for
  * each position, 0 for an empty place, and its state energy in kcal/mol; on a refusal all entries are

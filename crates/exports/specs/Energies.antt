@@ -1,5 +1,5 @@
 -- What the C functions on a design's own energies tell: a weight that is known by how near it lies.
-use Rattle.std.specs.Prelude.{◌≡◌, true, false, ℕ, Float, Option, None, Some}
+use Rattle.std.specs.Prelude.{◌≡◌, true, false, List, ℕ, ℤ, Float, Option, None, Some}
 use Rattle.reply.specs.Number.{Reply, answered, number_of}
 use Rattle.reply.specs.First.{first_of}
 use Rattle.reply.specs.Figures.{reply_figures, refused_with}
@@ -12,6 +12,7 @@ use Rattle.state_sums.specs.Sizes.{Lists, wrong_lists}
 use Rattle.state_sums.specs.Answers.{constraint_of}
 use Rattle.probabilities.specs.Numbers.{FreeEnergySum, ConstrainedEnergySum, Probability}
 use Rattle.probabilities.specs.Answers.{energy_checks}
+use Rattle.probabilities.specs.Occupants.{OccupantsFilled, occupants_reply}
 use Rattle.exports.specs.Place.{place_number}
 use Rattle.exports.specs.Told.{Told}
 
@@ -33,6 +34,20 @@ ConstrainedEnergyTold d l = NearTold (first_of (energy_checks (wrong_lists (posi
 -- of the probability
 abbrev pub ProbabilityTold : Design → Lists → ℕ → ℕ → Weight → Type 0
 ProbabilityTold d l = NearTold (first_of (energy_checks (wrong_lists (positions d) l) d)) (Probability (model_of d) (constraint_of l))
+
+-- Of the occupants: number and place are the reply's; where the number is 0 each cell holds the probability of its occupant, and else both tables are as
+-- they were.
+pub record OccupantsTold (d : Design) (digits : List ℕ) (powers : List ℤ) (r at : ℕ) (digits_after : List ℕ) (powers_after : List ℤ) : Type 0 where
+  pub told : Told (reply_figures (occupants_reply d digits powers)) r at (tt {0})
+  pub filled : r ≡ answered → OccupantsFilled d digits_after powers_after
+  pub digits_kept : (r ≡ answered → ⊥) → digits_after ≡ digits
+  pub powers_kept : (r ≡ answered → ⊥) → powers_after ≡ powers
+
+-- of the design that a C function is lent; where the number of its amounts says nothing, 1, nowhere, and both tables as they were
+abbrev pub OccupantsIn : Option Design → List ℕ → List ℤ → ℕ → ℕ → List ℕ → List ℤ → Type 0
+OccupantsIn (Some d) digits powers r at digits_after powers_after = OccupantsTold d digits powers r at digits_after powers_after
+OccupantsIn None digits powers r at digits_after powers_after =
+    Told (refused_with (tt {0}) WrongSize None) r at (tt {0}) × ((digits_after ≡ digits) × (powers_after ≡ powers))
 
 -- of the design that a C function is lent; where the number of its amounts says nothing, 1, nowhere, and zero
 abbrev pub NearIn : Option Design → (Design → ℕ → ℕ → Weight → Type 0) → ℕ → ℕ → Weight → Type 0

@@ -2,8 +2,9 @@
 // each is told as its digits and its exponent.
 ghost use Rattle.fractions.specs.Weight.{weight};
 ghost use Rattle.state_sums.specs.Sizes.{lists_lent};
-ghost use Rattle.exports.specs.Energies.{FreeEnergyTold, ConstrainedEnergyTold, ProbabilityTold, ExpTold};
+ghost use Rattle.exports.specs.Energies.{FreeEnergyTold, ConstrainedEnergyTold, ProbabilityTold, ExpTold, OccupantsTold};
 
+use super::answers::tell;
 use super::sums::tell_sum;
 use design::Design;
 use reply::ANSWERED;
@@ -77,5 +78,17 @@ pub fn mj_probability(
         place,
         digits,
         power,
+    )
+}
+
+// The probability of each occupant at each position, into a cell of its own.
+pub fn mj_occupants(design: &Design, digits: &mut [u32], powers: &mut [i32], place: &mut u64) -> u32
+    ensures { OccupantsTold design.now digits.old powers.old result place.new digits.new powers.new }
+{
+    tell(
+        probabilities::occupant_probabilities(design, digits, powers),
+        (),
+        place,
+        &mut (),
     )
 }

@@ -4,11 +4,11 @@
 ghost use Rattle.fractions.specs.Weight.{weight};
 ghost use Rattle.state_sums.specs.Sizes.{lent_lists};
 ghost use Rattle.exports.specs.Lent.{amounts_numbered, lent_at};
-ghost use Rattle.exports.specs.Energies.{FreeEnergyTold, ConstrainedEnergyTold, ProbabilityTold, ExpTold, NearIn};
+ghost use Rattle.exports.specs.Energies.{FreeEnergyTold, ConstrainedEnergyTold, ProbabilityTold, ExpTold, NearIn, OccupantsIn};
 
 use design::Design;
 use exports::designs::ambient;
-use exports::lent::amounts_of;
+use exports::lent::{amounts_of, tell_unnamed};
 use exports::sums::tell_unnamed_sum;
 use state_sums::LentLists;
 
@@ -139,4 +139,39 @@ pub extern "C" fn mj_probability(
         lengths,
     };
     exports::energies::mj_probability(&design, &lists, place, digits, power)
+}
+
+// The probability of each occupant at each position, into a cell of its own.
+#[unsafe(no_mangle)]
+pub extern "C" fn mj_occupants(
+    scaffold: &[u8],
+    marks: &[u8],
+    glues: &[u8],
+    dg: &[f64],
+    ds: &[f64],
+    amounts: &[f64],
+    given: u32,
+    rt: f64,
+    strand_excess: f64,
+    scaffold_excess: f64,
+    digits: &mut [u32],
+    powers: &mut [i32],
+    place: &mut u64,
+) -> u32
+    ensures { OccupantsIn (lent_at scaffold.entry marks.entry glues.entry dg.entry ds.entry amounts.entry (amounts_numbered given) rt strand_excess scaffold_excess) digits.old powers.old result place.new digits.new powers.new }
+{
+    let Some(given) = amounts_of(given) else {
+        return tell_unnamed((), place, &mut ());
+    };
+    let design = Design {
+        scaffold,
+        marks,
+        glues,
+        dg,
+        ds,
+        amounts,
+        given,
+        ambient: ambient(rt, strand_excess, scaffold_excess),
+    };
+    exports::energies::mj_occupants(&design, digits, powers, place)
 }

@@ -9,3 +9,4 @@ pub mod NearWeights
 pub mod Used
 pub mod Replies
 pub mod Summable
+pub mod Here

@@ -2,4 +2,5 @@ pub mod Numbers
 pub mod Weighed
 pub mod Quotient
 pub mod Answers
+pub mod Occupants
 pub mod inner

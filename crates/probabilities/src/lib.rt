@@ -2,20 +2,23 @@
 // minus its scaffold bond less its strand's potential, a pair of neighbours that of minus their strand bond.
 #![tactic(auto)]
 
+mod occupants;
 pub mod quotient;
 mod tables;
 mod weights;
 
-ghost use Rattle.std.specs.Prelude.{◌≡◌, false, ◌<◌, ◌≤◌, length, OnOk, IfOk};
+ghost use Rattle.std.specs.Prelude.{◌≡◌, false, ◌<◌, ◌≤◌, length, OnOk, IfOk, IfErr};
 ghost use Rattle.reply.specs.First.{first_of};
 ghost use Rattle.design.specs.Design.{positions};
 ghost use Rattle.design.specs.Passed.{reply_of};
 ghost use Rattle.state_sums.specs.Sizes.{lists_lent};
 ghost use Rattle.probabilities.specs.Answers.{energy_checks, FreeSaid, ConstrainedSaid, ProbabilitySaid};
+ghost use Rattle.probabilities.specs.Occupants.{OccupantsFilled, occupants_reply};
 
 use design::Design;
 use design::passed::{AdmittedDesign, admitted};
 use fractions::Weight;
+use occupants::{fill_occupants, wrong_entries};
 use partition_sums::constraint::Constraint;
 use partition_sums::sums::{constrained_sum, free_sum};
 use quotient::quotient;
@@ -88,4 +91,27 @@ pub fn probability(design: &Design, lists: &LentLists<'_>) -> Result<Weight, Ref
     let mut room = Room::empty();
     let formed = room.formed(&admitted);
     Ok(quotient(constrained_sum(&formed, &constraint), free_sum(&formed)))
+}
+
+// The probability of each occupant at each position, into lent tables of positions by strands, row first, digits and powers apart; column 0 is the empty
+// place. Replies as the free sum's; a refusal leaves both tables as they were.
+pub fn occupant_probabilities(
+    design: &Design,
+    digits: &mut [u32],
+    powers: &mut [i32],
+) -> Result<(), Refused>
+    ensures value { result ≡ occupants_reply design.now digits.old powers.old }
+    ensures digits_len { length digits.new ≡ length digits.old }
+    ensures powers_len { length powers.new ≡ length powers.old }
+    ensures filled { OnOk result (OccupantsFilled design.now digits.new powers.new) }
+    ensures digits_kept { IfErr result (λ refused. digits.new ≡ digits.old) }
+    ensures powers_kept { IfErr result (λ refused. powers.new ≡ powers.old) }
+{
+    let own_size = wrong_entries(design, digits.len(), powers.len());
+    let mut logarithms = [0.0; STRANDS];
+    let admitted = scaffolded(own_size, design, &mut logarithms)?;
+    let mut room = Room::empty();
+    let formed = room.formed(&admitted);
+    fill_occupants(&admitted, &formed, digits, powers);
+    Ok(())
 }

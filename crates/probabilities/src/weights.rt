@@ -63,7 +63,12 @@ fn pair_weight(admitted: &AdmittedDesign, left: u8, right: u8) -> Weight
 }
 
 // Writes the weight of each cell, digits and exponents apart.
-fn fill<F: Fn(usize) -> Weight>(weight: F, cells: usize, digits: &mut [u32], powers: &mut [i32])
+pub(crate) fn fill<F: Fn(usize) -> Weight>(
+    weight: F,
+    cells: usize,
+    digits: &mut [u32],
+    powers: &mut [i32],
+)
     requires callable { (cell : ℕ) → cell < cells → F.pre weight cell }
     requires digits_in_bounds { cells ≤ length digits.old }
     requires powers_in_bounds { cells ≤ length powers.old }

@@ -28,6 +28,13 @@ functions_of_a_design! {
         digits: *mut u32,
         power: *mut i32
     );
+    mj_occupants(
+        digits: *mut u32,
+        digit_count: usize,
+        powers: *mut i32,
+        power_count: usize,
+        place: *mut u64
+    );
 }
 
 mod single {
@@ -98,6 +105,22 @@ pub fn probability(
             place,
             digits,
             power,
+        )
+    }
+}
+
+/// The probability of each occupant at each position, row first, each row as many cells as strands.
+pub fn occupants(design: Design, digits: &mut [u32], powers: &mut [i32], place: &mut u64) -> u32 {
+    let (all_digits, digit_count) = (digits.as_mut_ptr(), digits.len());
+    let (all_powers, power_count) = (powers.as_mut_ptr(), powers.len());
+    unsafe {
+        mj_occupants(
+            design,
+            all_digits,
+            digit_count,
+            all_powers,
+            power_count,
+            place,
         )
     }
 }

@@ -25,7 +25,9 @@ pub use design::{
     chain_energy, first_state_under, friends, ring_energy, ring_search, scaffold_bond, search,
     state, state_energy, states, strand_bond, Design,
 };
-pub use energies::{constrained_sum_of_energies, exp, free_sum_of_energies, probability};
+pub use energies::{
+    constrained_sum_of_energies, exp, free_sum_of_energies, occupants, probability,
+};
 pub use logarithm::ln;
 pub use names::{name, strand_glues};
 pub use params::{params, Built, Params};

@@ -634,6 +634,22 @@ static void sums(void)
 #undef WEIGHTS
 }
 
+/* Of the bench table's two positions each has its friend or is empty: at the first both are as
+ * probable, at the second the friend is with e^3 / (1 + e^3). */
+static void occupants(void)
+{
+    uint64_t place = unread;
+    uint32_t digits[6] = {9, 9, 9, 9, 9, 9};
+    int32_t powers[6] = {9, 9, 9, 9, 9, 9};
+    reply("a cell too few", mj_occupants(DESIGN, digits, 6, powers, 5, &place), 1);
+    count("all kept", digits[0] == 9 && digits[5] == 9 && powers[0] == 9 && powers[4] == 9);
+    reply("all occupants", mj_occupants(DESIGN, digits, 6, powers, 6, &place), 0);
+    count("their place", place == MJ_NOWHERE);
+    count("one half", powers[0] >= -32 && powers[0] <= -31 && powers[1] >= -32 && powers[1] <= -31);
+    count("strangers", digits[2] == 0 && powers[2] == 0 && digits[4] == 0 && powers[4] == 0);
+    count("it is near 0.953", powers[5] == -31 && digits[5] / 1000000 == 2045);
+}
+
 /* The friends of the bench table's two positions weigh 1 and e^3, and as neighbours 1. */
 static void energies(void)
 {
@@ -663,6 +679,7 @@ static void energies(void)
     count("it is 1", digits == 1u << 30 && power == -30);
     reply("lists of another size",
           mj_probability(DESIGN, numbers, 2, starts, 1, lengths, 2, &place, &digits, &power), 1);
+    occupants();
 }
 
 /* Position 0 has the scaffold name at `site`; the entry for b is the sequence AC, and the quencher

@@ -3,7 +3,7 @@
 use crate::judge::Verdict;
 use crate::kinds::Kind;
 use crate::logarithms;
-use crate::sums::Asked;
+use crate::sums::{Asked, Occupants};
 use protocol::Reply;
 use std::rc::Rc;
 
@@ -29,6 +29,8 @@ pub enum Expected {
     Near { exact: Option<f64>, slack: f64 },
     /// A sum over states, or a quotient of two, near the exact one.
     Sum(Rc<Asked>),
+    /// A table of such quotients.
+    Occupants(Rc<Occupants>),
     /// A logarithm, within 2^-40 of the exact one.
     Logarithm(Rc<logarithms::Asked>),
 }
@@ -85,7 +87,7 @@ impl Question {
         match &self.expected {
             Expected::Judged(verdict) => verdict.number(),
             Expected::Figures(_) | Expected::Near { .. } => 0,
-            Expected::Sum(_) | Expected::Logarithm(_) => 0,
+            Expected::Sum(_) | Expected::Occupants(_) | Expected::Logarithm(_) => 0,
         }
     }
 
@@ -96,6 +98,7 @@ impl Question {
             Expected::Figures(figures) => format!("ok {figures}"),
             Expected::Near { exact, slack } => format!("ok, near {exact:?}, by {slack:e}"),
             Expected::Sum(asked) => format!("ok, near {:?} by {:?}", asked.exact, asked.by),
+            Expected::Occupants(table) => format!("ok, near {:?}", table.cells),
             Expected::Logarithm(asked) => format!("ok, within 2^-40 of {:?}", asked.exact),
         }
     }
@@ -121,6 +124,10 @@ impl Question {
             },
             Expected::Sum(asked) => match port {
                 Reply::Ok(figures) => asked.difference(figures),
+                _ => Some("the port does not answer"),
+            },
+            Expected::Occupants(table) => match port {
+                Reply::Ok(figures) => table.difference(figures),
                 _ => Some("the port does not answer"),
             },
             Expected::Logarithm(asked) => match port {

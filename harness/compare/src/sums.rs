@@ -25,6 +25,13 @@ pub struct Asked {
     pub seen: Rc<Seen>,
 }
 
+/// The probabilities of all occupants, row first: a row for each position, so many cells wide.
+#[derive(Debug)]
+pub struct Occupants {
+    pub cells: Vec<Asked>,
+    pub width: usize,
+}
+
 fn one_more(count: &Cell<u64>) {
     count.set(count.get() + 1);
 }
@@ -58,6 +65,40 @@ impl Asked {
         self.seen.apart.set(self.seen.apart.get().max(apart));
         let within = self.exact.is_within(self.seen.parts, &given);
         (!within).then_some("not near enough to the exact one")
+    }
+}
+
+impl Occupants {
+    /// Why the port's lists of digits and of powers are not these, or None. A row adds up to 1 within
+    /// 2^-11.
+    pub fn difference(&self, figures: &str) -> Option<&'static str> {
+        let (digits, powers) = figures.split_once(' ').unwrap_or((figures, ""));
+        let digits: Vec<&str> = digits.split(',').collect();
+        let powers: Vec<&str> = powers.split(',').collect();
+        if digits.len() != self.cells.len() || powers.len() != self.cells.len() {
+            return Some("not a cell for each occupant");
+        }
+        let told = digits.iter().zip(&powers);
+        let mut differences = self
+            .cells
+            .iter()
+            .zip(told.clone())
+            .filter_map(|(cell, (digits, power))| cell.difference(&format!("{digits} {power}")));
+        if let Some(difference) = differences.next() {
+            return Some(difference);
+        }
+        let told: Vec<Exact> = told
+            .map(|(digits, power)| {
+                let (digits, power) = (digits.parse().ok(), power.parse::<i32>().ok());
+                Exact::one().times(digits.unwrap_or(0), i64::from(power.unwrap_or(0)))
+            })
+            .collect();
+        let is_whole = |row: &[Exact]| {
+            let sum = row.iter().fold(Exact::default(), |sum, x| sum.plus(x));
+            Exact::one().is_within(11, &sum)
+        };
+        let whole = told.chunks(self.width).all(is_whole);
+        (!whole).then_some("a row of occupants does not add up to 1")
     }
 }
 
@@ -122,5 +163,30 @@ mod tests {
         assert_eq!(third.difference("1431655765 -32"), None);
         assert!(third.difference("1431655765 -31").is_some());
         assert!(third.difference("1073741824 -30").is_some());
+    }
+
+    #[test]
+    fn a_row_of_occupants_adds_up() {
+        let seen = Seen::of("occupants", 12);
+        let half = || Asked {
+            exact: Exact::one(),
+            by: Exact::one().times(2, 0),
+            seen: seen.clone(),
+        };
+        let table = Occupants {
+            cells: vec![half(), half(), Asked::sum(Exact::default(), &seen)],
+            width: 3,
+        };
+        assert_eq!(table.difference("1073741824,1073741824,0 -31,-31,0"), None);
+        assert!(table.difference("1073741824,1073741824 -31,-31").is_some());
+        let whole = table.difference("1073741824,1073741824,0 -31,-30,0");
+        assert!(whole.is_some());
+        let stranger = table.difference("1073741824,1073741824,1073741824 -31,-31,-99");
+        assert!(stranger.is_some());
+        let open = Occupants {
+            cells: vec![half(), Asked::sum(Exact::default(), &seen)],
+            width: 2,
+        };
+        assert!(open.difference("1073741824,0 -31,0").is_some());
     }
 }

@@ -3,15 +3,17 @@
 //!
 //! * `exp X` is the exponential of a double, as its bits;
 //! * `energy.sum` is the free sum, `energy.lists NUMBERS STARTS LENGTHS` the constrained one, each a
-//!   list, and `energy.part NUMBERS STARTS LENGTHS` the probability.
+//!   list, and `energy.part NUMBERS STARTS LENGTHS` the probability;
+//! * `energy.occupants DIGITS POWERS` lends so many cells for the probability of each occupant at each
+//!   position.
 //!
-//! `ok DIGITS POWER` answers each.
+//! `ok DIGITS POWER` answers each, the last with two lists.
 
-use crate::slices::list;
+use crate::slices::{list, Filled};
 use crate::sums::{DIGITS, POWER};
 use crate::{counted, WHOLE};
 use mujplesten as mj;
-use protocol::{double, expect_words, whole, Complaint, Reply, Words};
+use protocol::{double, expect_words, joined, whole, Complaint, Reply, Words};
 
 fn told(number: u32, place: u64, digits: u32, power: i32) -> Reply {
     let none = digits == 0 && power == 0;
@@ -26,8 +28,27 @@ pub fn exponential(words: Words) -> Result<Reply, Complaint> {
     Ok(told(number, mj::NOWHERE, digits, power))
 }
 
+/// `energy.occupants DIGITS POWERS`
+fn occupants(design: mj::Design, words: Words) -> Result<Reply, Complaint> {
+    expect_words(words, &[2])?;
+    let mut digits = Filled::words(whole(words[1])?);
+    let mut powers = Filled::powers(whole(words[2])?);
+    let mut place = WHOLE;
+    let number = mj::occupants(design, &mut digits.slice, &mut powers.slice, &mut place);
+    let told = format!(
+        "{} {}",
+        joined(&digits.slice, ","),
+        joined(&powers.slice, ",")
+    );
+    let kept = digits.is_kept() && powers.is_kept();
+    Ok(counted(number, place, told, kept))
+}
+
 /// The lines on a design.
 pub fn answer(design: mj::Design, words: Words) -> Result<Reply, Complaint> {
+    if words[0] == "energy.occupants" {
+        return occupants(design, words);
+    }
     let (mut place, mut digits, mut power) = (WHOLE, DIGITS, POWER);
     let number = match words[0] {
         "energy.sum" => {

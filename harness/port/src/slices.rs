@@ -1,5 +1,6 @@
 //! Lists of a line as slices, and slices that are lent to be written.
 
+use crate::sums::POWER;
 use crate::{DOUBLE, WHOLE};
 use protocol::Complaint;
 
@@ -34,6 +35,15 @@ impl Filled<u32> {
         Filled {
             slice: vec![0xa5a5_a5a5; length],
             before: 0xa5a5_a5a5,
+        }
+    }
+}
+
+impl Filled<i32> {
+    pub fn powers(length: usize) -> Self {
+        Filled {
+            slice: vec![POWER; length],
+            before: POWER,
         }
     }
 }

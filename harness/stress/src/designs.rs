@@ -209,7 +209,8 @@ impl Asked<'_> {
             5 | 6 => self.energies(random, tally),
             7 => self.ring(random, tally),
             8 if random.once_in(2) => sums::call(self, random, tally),
-            8 => sums::call_of_energies(self, random, tally),
+            8 if random.once_in(2) => sums::call_of_energies(self, random, tally),
+            8 => sums::call_of_occupants(self, random, tally),
             9 => self.first_under(random, tally),
             10 => sheets::call(self, random, tally),
             _ => {

@@ -1,10 +1,13 @@
 //! Sums over the states of a design: weights in and out of their form, lists in and out of the numbers.
 
 use crate::designs::Asked;
-use crate::guarded::Figure;
+use crate::guarded::{Figure, Guarded};
 use crate::{near, Tally};
 use compare::random::Random;
 use mujplesten as mj;
+
+/// Of designs of up to so many positions times strands all occupants are asked for.
+const MOST_CELLS: usize = 200;
 
 fn digits(random: &mut Random, wild: bool) -> u32 {
     let any = random.bits() as u32;
@@ -130,6 +133,28 @@ pub fn call_of_energies(asked: &Asked, random: &mut Random, tally: &mut Tally) {
     let figures = digits.is_fit(number) && power.is_fit(number);
     let fit = asked.is_placed(&place, number) && figures && (in_form || zero);
     tally.call(function, number, fit);
+}
+
+/// The probability of each occupant at each position. Of a long scaffold the tables are of other lengths:
+/// all occupants of 128 positions of 63 friends take seconds.
+pub fn call_of_occupants(asked: &Asked, random: &mut Random, tally: &mut Tally) {
+    let cells = asked.positions * asked.strands;
+    let lent = |random: &mut Random| match cells > MOST_CELLS {
+        true => cells + 1 + random.below(2),
+        false => near(random, cells),
+    };
+    let mut digits = Guarded::new(lent(random), 0xa5a5_a5a5);
+    let mut powers = Guarded::new(lent(random), i32::MIN);
+    let mut place = Figure::whole();
+    let number = mj::occupants(asked.design, digits.lent(), powers.lent(), place.lent());
+    let kept = digits.is_fit(number) && powers.is_fit(number);
+    let fit = |(digits, power): (&u32, &i32)| match digits {
+        0 => *power == 0,
+        _ => (1 << 30..1 << 31).contains(digits) && *power < 0,
+    };
+    let written = number != 0 || digits.lent().iter().zip(powers.lent().iter()).all(fit);
+    let fit = asked.is_placed(&place, number) && kept && written;
+    tally.call("occupants", number, fit);
 }
 
 /// The exponential of a double.

@@ -81,6 +81,27 @@ fn energies(checks: &mut Checks, design: mj::Design) {
     checks.reply("energies of no positions", number, 18);
     let number = mj::probability(bare, both, &mut place, &mut digits, &mut power);
     checks.reply("lists of another size", number, 1);
+    occupants(checks, design);
+}
+
+/// At the first position friend and empty place are as probable, at the second the friend is with
+/// e^3 / (1 + e^3).
+fn occupants(checks: &mut Checks, design: mj::Design) {
+    let (mut place, mut digits, mut powers) = (WHOLE, [9; 6], [9; 6]);
+    let number = mj::occupants(design, &mut digits, &mut powers[..5], &mut place);
+    checks.reply("a cell too few", number, 1);
+    let kept = (digits, powers) == ([9; 6], [9; 6]);
+    checks.count("all kept", kept, format!("{digits:?} {powers:?}"));
+    let number = mj::occupants(design, &mut digits, &mut powers, &mut place);
+    checks.reply("all occupants", number, 0);
+    checks.place("their place", place, mj::NOWHERE);
+    let cube = 3f64.exp();
+    let exact = [0.5, 0.5, 0.0, 1.0 / (1.0 + cube), 0.0, cube / (1.0 + cube)];
+    for (cell, exact) in exact.into_iter().enumerate() {
+        let told = double(digits[cell], powers[cell]);
+        let near = (told - exact).abs() <= 2.5e-4 * exact;
+        checks.count("an occupant", near, format!("{cell}: {told}, not {exact}"));
+    }
 }
 
 fn exponentials(checks: &mut Checks) {

@@ -3,7 +3,7 @@
 
 use super::design::Lent;
 use super::exact::Exact;
-use super::sums::{Factors, Lists};
+use super::sums::{sum, Factors, Lists};
 use super::Verdict;
 
 /// digits × 2^power, far nearer to an exponential than one part in 2^40.
@@ -123,11 +123,37 @@ pub fn verdict(lent: &Lent, lists: Option<&Lists>) -> Verdict {
     lent.verdict(own_size, || vec![(18, lent.positions() == 0)])
 }
 
+/// Refusals of the probabilities of all occupants, into so many cells: one digit and one power for each
+/// position and strand.
+pub fn occupants_verdict(lent: &Lent, digits: usize, powers: usize) -> Verdict {
+    let cells = lent.positions() * lent.strands();
+    lent.verdict(digits != cells || powers != cells, || {
+        vec![(18, lent.positions() == 0)]
+    })
+}
+
+/// The exact sum over the states that have each occupant at each position, row first.
+pub fn occupants(lent: &Lent, weights: &Energies) -> Vec<Exact> {
+    let alone = |position: usize, occupant: usize| {
+        let mut lengths = vec![0; lent.positions()];
+        lengths[position] = 1;
+        Lists {
+            numbers: vec![occupant as u8],
+            starts: vec![0; lent.positions()],
+            lengths,
+        }
+    };
+    let cells = 0..lent.positions() * lent.strands();
+    let places = cells.map(|cell| (cell / lent.strands(), cell % lent.strands()));
+    places
+        .map(|(position, occupant)| sum(lent, weights, Some(&alone(position, occupant))))
+        .collect()
+}
+
 #[cfg(test)]
 mod tests {
     use super::*;
     use crate::judge::design::tests::bench;
-    use crate::judge::sums::sum;
     use crate::random::Random;
 
     fn double(x: Exponential) -> f64 {
@@ -199,5 +225,23 @@ mod tests {
         let power = (expected.to_bits() >> 52) as i64 - 1075;
         assert!(all.parting(&Exact::one().times_long(digits, power)) < 1e-12);
         assert_eq!(verdict(&lent, None), Verdict::Admitted);
+    }
+
+    /// Each state has one occupant at a position: the sums of a row are the sum over all states.
+    #[test]
+    fn a_row_of_occupants_is_the_whole() {
+        let mut lent = bench(&[1, 2, 1], &[-1.0, -2.0]);
+        lent.potentials[2] = -3.5;
+        let weights = Energies::of(&lent);
+        let cells = occupants(&lent, &weights);
+        assert_eq!(cells.len(), 9);
+        for row in cells.chunks(3) {
+            let whole = row.iter().fold(Exact::default(), |sum, x| sum.plus(x));
+            assert_eq!(whole, sum(&lent, &weights, None));
+        }
+        let stranger = [2, 4, 8].map(|cell| cells[cell].is_zero());
+        assert_eq!(stranger, [true; 3]);
+        assert_eq!(occupants_verdict(&lent, 9, 9), Verdict::Admitted);
+        assert_eq!(occupants_verdict(&lent, 9, 8).number(), 1);
     }
 }

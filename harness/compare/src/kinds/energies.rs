@@ -1,5 +1,5 @@
 //! Sums over the states of a design, over the exponentials of its own energies, and probabilities:
-//! `energy.sum`, `energy.lists` and `energy.part`. The Rust takes its exponentials from astro_float and is
+//! `energy.sum`, `energy.lists` and `energy.part`, and `energy.occupants`. The Rust takes its exponentials from astro_float and is
 //! not held against them; the judge has sums over exponentials of its own.
 
 use super::sums::{lists, lists_line};
@@ -12,7 +12,7 @@ use crate::judge::sums::{sum, Lists};
 use crate::judge::Verdict;
 use crate::question::{Expected, Question};
 use crate::random::Random;
-use crate::sums::{Asked, Seen};
+use crate::sums::{Asked, Occupants, Seen};
 use std::cell::Cell;
 use std::rc::Rc;
 
@@ -20,10 +20,15 @@ use std::rc::Rc;
 const SMALL: usize = 990;
 const MIDDLING: usize = 10;
 
+/// The occupants of a design are asked for up to so many positions, and of every so many.
+const SHORT: usize = 24;
+const EVERY: usize = 40;
+
 pub struct Energies {
     designs: Cell<u64>,
     sums: Rc<Seen>,
     probabilities: Rc<Seen>,
+    occupants: Rc<Seen>,
 }
 
 impl Default for Energies {
@@ -32,6 +37,7 @@ impl Default for Energies {
             designs: Cell::default(),
             sums: Seen::of("sums of energies", 14),
             probabilities: Seen::of("probabilities", 12),
+            occupants: Seen::of("probabilities of occupants", 12),
         }
     }
 }
@@ -58,6 +64,19 @@ fn exact_sums(lent: &Lent, lists: &Lists, of_all: Verdict, of_some: Verdict) -> 
     (sum(lent, &weights, None), some)
 }
 
+/// A line for the port, with what is expected where it is admitted.
+fn of_energies(setters: &str, line: String, verdict: Verdict, answered: Expected) -> Question {
+    Question {
+        port: format!("{setters}{line}"),
+        oracle: None,
+        expected: match verdict {
+            Verdict::Admitted => answered,
+            refused => Expected::Judged(refused),
+        },
+        about: None,
+    }
+}
+
 impl Energies {
     /// The free sum, the constrained one and the probability; and the probability of all states, which is 1.
     fn about(&self, setters: &str, lent: &Lent, lists: &Lists, ask: &mut Ask) {
@@ -82,16 +101,38 @@ impl Energies {
             (lists_line("energy.part", &free), of_all, whole),
         ];
         for (line, verdict, answered) in asked {
-            ask(Question {
-                port: format!("{setters}{line}"),
-                oracle: None,
-                expected: match verdict {
-                    Verdict::Admitted => answered,
-                    refused => Expected::Judged(refused),
-                },
-                about: None,
-            });
+            ask(of_energies(setters, line, verdict, answered));
         }
+        if lent.positions() <= SHORT || lent.positions() % EVERY == 0 {
+            self.about_occupants(setters, lent, &all, ask);
+        }
+    }
+
+    /// The probability of each occupant at each position; now and then into too few cells.
+    fn about_occupants(&self, setters: &str, lent: &Lent, all: &Exact, ask: &mut Ask) {
+        let fit = lent.positions() * lent.strands();
+        let (digits, powers) = match self.designs.get() % 16 {
+            0 => (fit + 1, fit),
+            1 => (fit, fit.saturating_sub(1)),
+            _ => (fit, fit),
+        };
+        let verdict = energies::occupants_verdict(lent, digits, powers);
+        let exact = match verdict {
+            Verdict::Admitted => energies::occupants(lent, &Weights::of(lent)),
+            _ => vec![],
+        };
+        let cell = |exact: Exact| Asked {
+            exact,
+            by: all.clone(),
+            seen: self.occupants.clone(),
+        };
+        let table = Occupants {
+            cells: exact.into_iter().map(cell).collect(),
+            width: lent.strands(),
+        };
+        let line = format!("energy.occupants {digits} {powers}");
+        let answered = Expected::Occupants(Rc::new(table));
+        ask(of_energies(setters, line, verdict, answered));
     }
 
     fn drawn(&self, random: &mut Random, shape: &Shape, ask: &mut Ask) {
@@ -233,12 +274,17 @@ impl Kind for Energies {
         vec![
             ("designs", self.designs.get()),
             ("probabilities of no state", self.probabilities.zeros()),
+            ("occupants of no state", self.occupants.zeros()),
         ]
     }
 
     fn watched(&self) -> Option<Result<String, String>> {
-        let said = [self.sums.said(), self.probabilities.said()];
-        let lines = |said: [Result<String, String>; 2]| {
+        let said = [
+            self.sums.said(),
+            self.probabilities.said(),
+            self.occupants.said(),
+        ];
+        let lines = |said: [Result<String, String>; 3]| {
             said.map(|line| line.unwrap_or_else(|line| line)).join("\n")
         };
         match said.iter().all(Result::is_ok) {
