@@ -328,6 +328,11 @@ uint32_t mj_constrained_sum(MJ_DESIGN, const uint32_t *place_digits, size_t plac
  * to, not including, 2^31: within one part in 2^24, and exactly 2^30 * 2^-30 of 0. Reply 9. */
 uint32_t mj_exp(double x, uint32_t *digits, int32_t *power);
 
+/* digits * 2^power as a double, its 64 bits: rounded once to the nearest. 0.0 of zero alone: where the
+ * nearest double of anything else would be 0.0 it is the smallest above; past the largest it is
+ * infinity. So a sum or a probability is 0.0 exactly if no state meets its constraint. */
+uint64_t mj_weight(uint32_t digits, int32_t power);
+
 /* The same sums over the weights of a design's own energies: a position and a strand weigh the
  * exponential of minus their bond less the strand's potential, rounded once; a left and a right strand
  * that of minus their bond. Each sum lies within one part in 2^14 of that of the exact exponentials.

@@ -1,6 +1,10 @@
 // Sums over the weights of a design's own energies and the probability of a constrained set as C callers have them, and the exponential of one double:
 // each is told as its digits and its exponent.
+ghost use Rattle.std.specs.Prelude.{◌≡◌};
+ghost use Rattle.std.specs.Float.Ieee as Ieee;
+ghost use Rattle.std.specs.Float.{binary64};
 ghost use Rattle.fractions.specs.Weight.{weight};
+ghost use Rattle.probabilities.specs.Double.{double_of};
 ghost use Rattle.state_sums.specs.Sizes.{lists_lent};
 ghost use Rattle.exports.specs.Energies.{FreeEnergyTold, ConstrainedEnergyTold, ProbabilityTold, ExpTold, OccupantsTold};
 
@@ -91,4 +95,11 @@ pub fn mj_occupants(design: &Design, digits: &mut [u32], powers: &mut [i32], pla
         place,
         &mut (),
     )
+}
+
+// A weight as the bits of a double.
+pub fn mj_weight(digits: u32, power: i32) -> u64
+    ensures { result ≡ Ieee.to_bits binary64 (double_of (weight digits power)) }
+{
+    doubles::bits(probabilities::double::double_of(digits, power))
 }

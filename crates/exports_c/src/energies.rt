@@ -1,7 +1,11 @@
 // Sums over the weights of a design's own energies and the probability of a constrained set as C functions, and the exponential of one double. A weight
 // is told as its digits and its exponent.
 
+ghost use Rattle.std.specs.Prelude.{◌≡◌};
+ghost use Rattle.std.specs.Float.Ieee as Ieee;
+ghost use Rattle.std.specs.Float.{binary64};
 ghost use Rattle.fractions.specs.Weight.{weight};
+ghost use Rattle.probabilities.specs.Double.{double_of};
 ghost use Rattle.state_sums.specs.Sizes.{lent_lists};
 ghost use Rattle.exports.specs.Lent.{amounts_numbered, lent_at};
 ghost use Rattle.exports.specs.Energies.{FreeEnergyTold, ConstrainedEnergyTold, ProbabilityTold, ExpTold, NearIn, OccupantsIn};
@@ -174,4 +178,12 @@ pub extern "C" fn mj_occupants(
         ambient: ambient(rt, strand_excess, scaffold_excess),
     };
     exports::energies::mj_occupants(&design, digits, powers, place)
+}
+
+// A weight as the bits of a double.
+#[unsafe(no_mangle)]
+pub extern "C" fn mj_weight(digits: u32, power: i32) -> u64
+    ensures { result ≡ Ieee.to_bits binary64 (double_of (weight digits power)) }
+{
+    exports::energies::mj_weight(digits, power)
 }

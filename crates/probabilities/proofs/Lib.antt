@@ -10,3 +10,5 @@ pub mod Used
 pub mod Replies
 pub mod Summable
 pub mod Here
+pub mod Doubled
+pub mod ZeroAlone

@@ -3,4 +3,5 @@ pub mod Weighed
 pub mod Quotient
 pub mod Answers
 pub mod Occupants
+pub mod Double
 pub mod inner

@@ -2,6 +2,7 @@
 // minus its scaffold bond less its strand's potential, a pair of neighbours that of minus their strand bond.
 #![tactic(auto)]
 
+pub mod double;
 mod occupants;
 pub mod quotient;
 mod tables;

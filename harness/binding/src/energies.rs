@@ -40,6 +40,7 @@ functions_of_a_design! {
 mod single {
     extern "C" {
         pub fn mj_exp(x: f64, digits: *mut u32, power: *mut i32) -> u32;
+        pub fn mj_weight(digits: u32, power: i32) -> u64;
     }
 }
 
@@ -49,6 +50,11 @@ mod single {
 /// The exponential of a double: digits × 2^power.
 pub fn exp(x: f64, digits: &mut u32, power: &mut i32) -> u32 {
     unsafe { single::mj_exp(x, digits, power) }
+}
+
+/// digits × 2^power as the bits of a double.
+pub fn weight(digits: u32, power: i32) -> u64 {
+    unsafe { single::mj_weight(digits, power) }
 }
 
 /// The sum over all states.

@@ -26,7 +26,7 @@ pub use design::{
     state, state_energy, states, strand_bond, Design,
 };
 pub use energies::{
-    constrained_sum_of_energies, exp, free_sum_of_energies, occupants, probability,
+    constrained_sum_of_energies, exp, free_sum_of_energies, occupants, probability, weight,
 };
 pub use logarithm::ln;
 pub use names::{name, strand_glues};

@@ -661,6 +661,9 @@ static void energies(void)
     int32_t power = INT32_MIN;
     reply("an exponential", mj_exp(0.0, &digits, &power), 0);
     count("it is 1", digits == 1u << 30 && power == -30);
+    count("as a double", mj_weight(digits, power) == UINT64_C(0x3ff0000000000000));
+    count("zero as a double", mj_weight(0, 0) == 0);
+    count("the least double", mj_weight(1u << 30, -400000) == 1);
     reply("the exponential of no number", mj_exp(NAN, &digits, &power), 9);
     count("no exponential", digits == 0 && power == 0);
     reply("a sum of energies", mj_free_sum_of_energies(DESIGN, &place, &digits, &power), 0);

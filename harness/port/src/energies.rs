@@ -2,6 +2,7 @@
 //! exponential of one double.
 //!
 //! * `exp X` is the exponential of a double, as its bits;
+//! * `weight DIGITS POWER` is a weight as a double, `ok BITS`;
 //! * `energy.sum` is the free sum, `energy.lists NUMBERS STARTS LENGTHS` the constrained one, each a
 //!   list, and `energy.part NUMBERS STARTS LENGTHS` the probability;
 //! * `energy.occupants DIGITS POWERS` lends so many cells for the probability of each occupant at each
@@ -26,6 +27,13 @@ pub fn exponential(words: Words) -> Result<Reply, Complaint> {
     let (mut digits, mut power) = (DIGITS, POWER);
     let number = mj::exp(double(words[1])?, &mut digits, &mut power);
     Ok(told(number, mj::NOWHERE, digits, power))
+}
+
+/// `weight DIGITS POWER`
+pub fn weight(words: Words) -> Result<Reply, Complaint> {
+    expect_words(words, &[2])?;
+    let figure = mj::weight(whole(words[1])?, whole(words[2])?);
+    Ok(Reply::Ok(format!("{figure:016x}")))
 }
 
 /// `energy.occupants DIGITS POWERS`

@@ -38,6 +38,7 @@ fn answer(lent: &mut Lent, tables: &mut Tables, words: Words) -> Result<Option<R
         "ln" => logarithm::answer(words).map(Some),
         "ambient" => temperature::answer(words).map(Some),
         "exp" => energies::exponential(words).map(Some),
+        "weight" => energies::weight(words).map(Some),
         "deck.read" | "deck.write" | "deck.move" => deck::answer(words).map(Some),
         "params" => params::answer(words).map(Some),
         "name" | "raw.name" | "raw.glues" => names::answer(words).map(Some),

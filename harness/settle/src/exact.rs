@@ -59,7 +59,11 @@ impl Exact {
         let users = stated.strands.len();
         let quencher = Some((Some(random.below(users)), next(random)));
         let reporter = Some((Some(random.below(users)), next(random)));
-        let known: Vec<Name> = stated.known().into_iter().filter(|base| base[0] == b's').collect();
+        let known: Vec<Name> = stated
+            .known()
+            .into_iter()
+            .filter(|base| base[0] == b's')
+            .collect();
         for design in [&mut asked, &mut stated] {
             (design.quencher, design.reporter) = (quencher, reporter);
         }
@@ -81,11 +85,19 @@ impl Exact {
                     starred(random, name)
                 })
                 .collect();
-            if stated.entries.iter().any(|entry| pair(&entry.names) == pair(&names)) {
+            if stated
+                .entries
+                .iter()
+                .any(|entry| pair(&entry.names) == pair(&names))
+            {
                 continue;
             }
             let (dg, ds) = (dyadic(random, 12, 16), dyadic(random, 4, 64) / 16.0);
-            let excess = if of_scaffold { scaffold_excess } else { strand_excess };
+            let excess = if of_scaffold {
+                scaffold_excess
+            } else {
+                strand_excess
+            };
             let whole = (dg + penalty.0, ds + penalty.1);
             let difference = whole.0 - excess * whole.1;
             asked.entries.push(Entry {

@@ -1,7 +1,7 @@
 //! Sequences, those by rank, loops, strengths, logarithms, temperatures and decks.
 
 use crate::guarded::{Figure, Guarded};
-use crate::sums::call_of_one;
+use crate::sums::{call_of_one, call_of_weight};
 use crate::{near, Tally};
 use compare::bases::{spoil, strand};
 use compare::decks::{self, any_configuration};
@@ -100,6 +100,7 @@ pub fn call(random: &mut Random, tally: &mut Tally) {
             let fit = x.is_fit(number) && (number == 15) == is_dilute(argument);
             tally.call("ln", number, fit);
         }
+        9 if random.once_in(2) => call_of_weight(random, tally),
         9 => call_of_one(random.pick(&[excess, 400.0 * excess]), tally),
         _ => deck(random, tally),
     }

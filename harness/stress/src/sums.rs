@@ -166,6 +166,14 @@ pub fn call_of_one(x: f64, tally: &mut Tally) {
     tally.call("exp", number, fit);
 }
 
+/// A weight of any digits and power.
+pub fn call_of_weight(random: &mut Random, tally: &mut Tally) {
+    let (digits, power) = (digits(random, true), power(random, true));
+    let told = f64::from_bits(mj::weight(digits, power));
+    let fit = (digits == 0) == (told == 0.0) && told >= 0.0;
+    tally.call("weight", 0, fit);
+}
+
 /// Where each list starts and how long it is, among so many numbers; now and then one past them.
 fn spans(random: &mut Random, positions: usize, lent: usize) -> (Vec<usize>, Vec<usize>) {
     let positions = match random.once_in(16) {

@@ -33,6 +33,7 @@ pub fn sums(checks: &mut Checks) {
     stack(checks);
     energies(checks, design);
     stack_of_energies(checks);
+    stack_of_occupants(checks);
     exponentials(checks);
 }
 
@@ -109,6 +110,16 @@ fn exponentials(checks: &mut Checks) {
     checks.reply("an exponential", mj::exp(-0.0, &mut digits, &mut power), 0);
     let told = format!("{digits} {power}");
     checks.count("it", (digits, power) == (ONE, -30), told);
+    checks.figure(
+        "as a double",
+        f64::from_bits(mj::weight(digits, power)),
+        1.0,
+    );
+    checks.figure(
+        "the least double",
+        f64::from_bits(mj::weight(ONE, -400_000)),
+        5e-324,
+    );
     checks.reply("a large one", mj::exp(80_000.0, &mut digits, &mut power), 0);
     let told = format!("{digits} {power}");
     checks.count("it", (1 << 30..1 << 31).contains(&digits), told);
@@ -152,6 +163,39 @@ fn stack_of_energies(checks: &mut Checks) {
         "the probability of two at each",
         of_two == (0, ONE, 128 - 6 * 128 - 30),
         format!("{of_two:?}"),
+    );
+}
+
+/// The same stack for all occupants of 128 positions, of two friends each that weigh 1.
+fn stack_of_occupants(checks: &mut Checks) {
+    let asked = std::thread::Builder::new()
+        .stack_size(160 * 1024)
+        .spawn(|| {
+            let mut dg = vec![0.0; 4096];
+            dg[65] = -1.0;
+            let design = mj::Design {
+                scaffold: &[1; 128],
+                marks: &[0; 128],
+                glues: &[0, 0, 0, 2, 1, 2, 2, 1, 2],
+                dg: &dg,
+                ds: &vec![0.0; 4096],
+                amounts: &vec![-2.0; 3],
+                given: 0,
+                rt: 0.5,
+                strand_excess: 0.0,
+                scaffold_excess: 0.0,
+            };
+            let (mut place, mut digits, mut powers) = (WHOLE, vec![0; 384], vec![0; 384]);
+            let number = mj::occupants(design, &mut digits, &mut powers, &mut place);
+            let third =
+                |cell: usize| (double(digits[cell], powers[cell]) * 3.0 - 1.0).abs() < 2.5e-4;
+            (number, (0..384).all(third))
+        });
+    let told = asked.expect("a thread").join().expect("an answer");
+    checks.count(
+        "each of three as probable",
+        told == (0, true),
+        format!("{told:?}"),
     );
 }
 

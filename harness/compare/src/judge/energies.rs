@@ -117,6 +117,35 @@ impl Factors for Energies {
     }
 }
 
+/// digits × 2^power as a double, by whole numbers: the nearest, of two equally near the even one, and the
+/// smallest above 0 for what is not zero.
+pub fn weight_double(digits: u32, power: i32) -> f64 {
+    const SMALLEST: i64 = -1074;
+    let (long, power) = (i64::from(32 - digits.leading_zeros()), i64::from(power));
+    let digits = u64::from(digits);
+    if digits == 0 {
+        return 0.0;
+    }
+    if long + power > 1024 {
+        return f64::INFINITY;
+    }
+    let bits = match power - SMALLEST {
+        // No digit is lost; 53 digits from the first on, without the first.
+        0.. if long + power > SMALLEST + 52 => {
+            let exponent = (long + power - 1 + 1023) as u64;
+            (exponent << 52) | ((digits << (53 - long)) & ((1 << 52) - 1))
+        }
+        up @ 0.. => digits << up,
+        down @ -63.. => {
+            let (kept, lost) = (digits >> -down, digits & ((1 << -down) - 1));
+            let half = 1u64 << (-down - 1);
+            kept + u64::from(lost > half || lost == half && kept % 2 == 1)
+        }
+        _ => 0,
+    };
+    f64::from_bits(bits.max(1))
+}
+
 /// Refusals of the free sum, and with lists of the constrained one and of the probability: "18 as before".
 pub fn verdict(lent: &Lent, lists: Option<&Lists>) -> Verdict {
     let own_size = lists.is_some_and(|lists| lists.wrong_sizes(lent));
@@ -196,6 +225,23 @@ mod tests {
             let parting = product.parting(&exponential(a + b).exact());
             assert!(parting < 2f64.powi(-48), "{a} {b} {parting:e}");
         }
+    }
+
+    #[test]
+    fn weights_are_as_the_machine_has_them() {
+        let random = &mut Random::new(9);
+        for _ in 0..20_000 {
+            let digits = (random.bits() >> random.within(32..=63)) as u32;
+            let power = random.below(2_300) as i32 - 1_150;
+            // Both factors are doubles, so the product rounds once.
+            let low = power.clamp(-1_000, 900);
+            let exact = f64::from(digits) * 2f64.powi(low) * 2f64.powi(power - low);
+            let least = if digits == 0 { 0.0 } else { 5e-324 };
+            assert_eq!(weight_double(digits, power), exact.max(least));
+        }
+        assert_eq!(weight_double(1, i32::MIN), 5e-324);
+        assert_eq!(weight_double(0, i32::MAX), 0.0);
+        assert_eq!(weight_double(1, i32::MAX), f64::INFINITY);
     }
 
     #[test]

@@ -1,8 +1,8 @@
 //! `exp X`: the exponential of a double, which the Rust takes from astro_float and is not held against.
-//! The judge has it by whole numbers.
+//! The judge has it by whole numbers. `weight DIGITS POWER`: a weight as a double.
 
 use super::{Ask, Kind};
-use crate::judge::energies::{exponential, exponential_verdict};
+use crate::judge::energies::{exponential, exponential_verdict, weight_double};
 use crate::judge::Verdict;
 use crate::question::{Expected, Question};
 use crate::random::Random;
@@ -39,6 +39,13 @@ impl Exponentials {
             expected,
             about: None,
         }
+    }
+
+    /// A weight as a double, bit for bit.
+    fn weight(&self, digits: u32, power: i32) -> Question {
+        let figure = weight_double(digits, power).to_bits();
+        let port = format!("weight {digits} {power}");
+        Question::of_port(port, Verdict::Admitted, || format!("{figure:016x}"))
     }
 
     /// A double with its neighbours, of both signs.
@@ -81,6 +88,13 @@ impl Kind for Exponentials {
         for quarter in 0..=2_000 {
             self.around(f64::from(quarter) / 4.0, ask);
         }
+        let powers = (-1_160..=-1_020).chain(990..=1_030);
+        for power in powers.chain([-400_000, 0, 400_000, i32::MIN, i32::MAX]) {
+            let whole = 1 << 30;
+            for digits in [0, 1, 3, whole, whole + 1, 2 * whole - 1, u32::MAX] {
+                ask(self.weight(digits, power));
+            }
+        }
     }
 
     fn random(&self, random: &mut Random, ask: &mut Ask) {
@@ -92,6 +106,9 @@ impl Kind for Exponentials {
                 false => (part - 0.5) * 2.0 * most,
             };
             ask(self.question(x));
+            let digits = (random.bits() >> random.within(32..=63)) as u32;
+            let power = random.below(2_400) as i32 - 1_200;
+            ask(self.weight(digits, power));
         }
     }
 
