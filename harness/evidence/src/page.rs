@@ -45,8 +45,10 @@ fn table(page: &mut String, crates: &[Crate]) {
 
 pub fn page(crates: &[Crate], runs: &Runs) -> String {
     let mut page = String::from("# Evidence\n\nWritten by `harness/write-evidence`; nothing is typed by hand.\n\n## Proved\n\n");
-    page.push_str(
-        "Lines of code (`src/`), of definitions (`specs/`) and of proofs (`proofs/`); each crate checked by itself, on one core. \
+    let processors = std::thread::available_parallelism().map_or(1, usize::from);
+    let _ = write!(
+        page,
+        "Lines of code (`src/`), of definitions (`specs/`) and of proofs (`proofs/`); each crate checked by itself, on {processors} processors. \
          Axioms are the contracts of C functions that a program reads and writes by; a library has none.\n\n",
     );
     table(&mut page, crates);
