@@ -1,3 +1,4 @@
+pub mod Cases
 pub mod Passing
 pub mod Whole
 pub mod Replies

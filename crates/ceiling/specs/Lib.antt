@@ -1,4 +1,5 @@
 pub mod Ceiling
+pub mod Cases
 pub mod Answers
 pub mod inner
 pub mod Unread

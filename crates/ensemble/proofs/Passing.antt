@@ -130,11 +130,11 @@ module _ {m : Model} {options : ℕ → List ℕ} (they : OptionsOf m options) {
 
   pub table_more : (choice : List (List ℕ)) (empty : List ℕ) → i < length choice → i < length empty → Table m options i choice empty → Table m options (i + 1) (set choice i choice_row) (set empty i r.strand)
   table_more choice empty in-choice in-empty table =
-      below_more (λ (j : ℕ). (x : ℕ) → Memᴰ x (options j) → choice_in (set choice i choice_row) (set empty i r.strand) j x ≡ left_choice m options j x) i earlier
-      (λ x o. here x o (ℕ_discrete x 0))
+      below_more (λ (j : ℕ). 0 < j → (x : ℕ) → Memᴰ x (options j) → choice_in (set choice i choice_row) (set empty i r.strand) j x ≡ left_choice m options j x) i earlier
+      (λ past x o. here x o (ℕ_discrete x 0))
     where
-      earlier : (j : ℕ) → j < i → (x : ℕ) → Memᴰ x (options j) → choice_in (set choice i choice_row) (set empty i r.strand) j x ≡ left_choice m options j x
-      earlier j l x o = rw (get_or-set_other choice i j choice_row [] (ne_of_lt l), get_or-set_other empty i j r.strand 0 (ne_of_lt l)) (table j l x o)
+      earlier : (j : ℕ) → j < i → 0 < j → (x : ℕ) → Memᴰ x (options j) → choice_in (set choice i choice_row) (set empty i r.strand) j x ≡ left_choice m options j x
+      earlier j l past x o = rw (get_or-set_other choice i j choice_row [] (ne_of_lt l), get_or-set_other empty i j r.strand 0 (ne_of_lt l)) (table j l past x o)
 
       here : (x : ℕ) → Memᴰ x (options i) → Dec (x ≡ 0) → choice_in (set choice i choice_row) (set empty i r.strand) i x ≡ left_choice m options i x
       here x o (yes e) = rw (get_or-set_same choice i choice_row [] in-choice, get_or-set_same empty i r.strand 0 in-empty, e) none.strand
@@ -157,7 +157,7 @@ module _ {m : Model} {options : ℕ → List ℕ} (they : OptionsOf m options) (
       let o = pick-member (or_earlier key) (λ kept y. swapped (either-of (lt (key y) (key kept)) y kept)) (options last) (they.some last) in (
         is
             ∙ ap (λ (y : ℕ). traced (choice_in choice empty) last y []) c.strand
-            ∙ traced-same (left_choice m options) (choice_in choice empty) options last (λ i y l k. choice-option m options they.some i y) (λ i y l k. table (suc i) (omega arith) y k) last x [] (le_refl last) o,
+            ∙ traced-same (left_choice m options) (choice_in choice empty) options last (λ i y l k. choice-option m options they.some i y) (λ i y l k. table (suc i) (omega arith) (omega arith) y k) last x [] (le_refl last) o,
         c.energy ∙ some_key key (options last) x (they.some last),
       )
 

@@ -15,7 +15,7 @@ use Rattle.doubles.specs.Least.{first_least}
 use Rattle.lists.proofs.Places.{mem-get_or}
 use Rattle.model.specs.Model as Model
 use Rattle.model.specs.Model.{Model, Friend}
-use Rattle.model.specs.Search.{options_at, least_left, left_choice, entry, search_over}
+use Rattle.model.specs.Search.{options_at, least_left, entry, search_over}
 use Rattle.model.specs.Ring.{closed_times_rt, with_first, ring_from}
 use Rattle.model.proofs.Search.{own, some-option}
 use Rattle.ensemble.specs.declared.attach.Attached.{Attached}
@@ -77,10 +77,8 @@ module _ (m : Model) (f : ℕ) (option : Memᴰ f (options_at m 0)) where
         one zero h = is ∙ first-is
         one (suc j) h = absurd (omega arith)
 
-  pub table-first : (choice : List (List ℕ)) (empty : List ℕ) → ((x : ℕ) → choice_in choice empty 0 x ≡ 0) → Table m (with_first m f) 1 choice empty
-  unfolding left_choice
-  table-first choice empty none zero h x k = none x
-  table-first choice empty none (suc i) h x k = absurd (omega arith)
+  pub table-first : (choice : List (List ℕ)) (empty : List ℕ) → Table m (with_first m f) 1 choice empty
+  table-first choice empty i h past x k = absurd (omega arith)
 
   -- ---- at the end
 

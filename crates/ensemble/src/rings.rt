@@ -7,7 +7,7 @@ ghost use Rattle.model.specs.Model.{Model};
 ghost use Rattle.model.specs.Search.{options_at};
 ghost use Rattle.ensemble.specs.Lends.{Lends};
 ghost use Rattle.ensemble.specs.Ring.{ClosingCells, FoundRing};
-ghost use Rattle.ensemble.specs.inner.Entries.{Chosen, table_bond};
+ghost use Rattle.ensemble.specs.inner.Entries.{Chosen, choice_in, table_bond, traced_back};
 ghost use Rattle.ensemble.specs.inner.Ring.{closed_in, first_entry, FoundFrom};
 
 use super::attach::{Attached, Entries};
@@ -55,32 +55,30 @@ impl LentModel<'_, '_> {
         0.0 + self.bonds.scaffold_bonds[place] - self.bonds.potentials[place]
     }
 
-    // Writes the lowest configuration with one of the options of position 0, and gives its ring energy.
-    fn ring_from(&self, option: usize, rt: KcalPerMol, configuration: &mut [u8]) -> f64
-        requires sized { length configuration.old ≡ length self.now.options.counts.now }
+    // The pass with one of the options of position 0: the last entry of its lowest configuration, with the ring energy, and the left choices by which that
+    // is traced back. Those of a pass before may stand in `choices`: each that is read is written anew.
+    fn ring_from(&self, option: usize, rt: KcalPerMol, choices: &mut Choices) -> Attached
         requires some { 0 < length self.now.options.counts.now }
         requires option_known { option < get_or self.now.options.counts.now 0 0 }
-        ensures { (m : Model) → Lends m self.now → ClosingCells m self.now.options.strands self.now.bonds.strand_bonds.cells.now → rt.0 ≡ m.rt → FoundFrom m (get_or (options_at m 0) option 0) configuration.new result }
+        ensures found { (m : Model) → Lends m self.now → ClosingCells m self.now.options.strands self.now.bonds.strand_bonds.cells.now → rt.0 ≡ m.rt → FoundFrom m (get_or (options_at m 0) option 0) (traced_back (choice_in choices.new.friends choices.new.empty) (length self.now.options.counts.now) result.strand) result.energy }
+        ensures known { result.strand < 64 }
     {
         let occupant = self.options.rows[option];
         let mut energies = [0.0; STRANDS];
-        let mut choices = Choices::new();
         // To the left of position 1 there is the one entry.
         energies[0] = self.first_entry(occupant);
         let options = self.pass(
             1,
             &self.options.rows[option..option + 1],
             &mut energies,
-            &mut choices,
+            choices,
         );
         let last = Entries {
             options,
             energies: &energies,
             bonds: self.bonds.strand_bonds,
         };
-        let lowest = lowest_closed(&last, occupant, rt);
-        choices.trace(lowest.strand, configuration);
-        lowest.energy
+        lowest_closed(&last, occupant, rt)
     }
 }
 
@@ -90,16 +88,17 @@ pub fn lowest_ring(lent: &LentModel, rt: KcalPerMol, configuration: &mut [u8]) -
     requires counts_nonzero { 0 < length lent.now.options.counts.now }
     ensures { (m : Model) → Lends m lent.now → ClosingCells m lent.now.options.strands lent.now.bonds.strand_bonds.cells.now → rt.0 ≡ m.rt → FoundRing m configuration.new result.0 }
 {
-    let mut least = lent.ring_from(0, rt, configuration);
-    let mut kept = 0;
-    // By number: the search from an option lends its place in the row, a slice of one, and the one kept is searched again.
+    let mut choices = Choices::new();
+    let first = lent.ring_from(0, rt, &mut choices);
+    choices.trace(first.strand, configuration);
+    let mut least = first.energy;
+    // By number: the pass with an option lends its place in the row, a slice of one.
     for option in 1..lent.options.of(0).len() {
-        let energy = lent.ring_from(option, rt, configuration);
-        if energy < least {
-            least = energy;
-            kept = option;
+        let next = lent.ring_from(option, rt, &mut choices);
+        if next.energy < least {
+            choices.trace(next.strand, configuration);
+            least = next.energy;
         }
     }
-    // The configuration of the one kept, once more.
-    KcalPerMol(lent.ring_from(kept, rt, configuration))
+    KcalPerMol(least)
 }

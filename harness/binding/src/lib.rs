@@ -2,8 +2,7 @@
 //!
 //! Nothing checks these declarations against the Rattle source; they are held by the comparison
 //! and by the clients' tests. No function asks anything of its input, so a wrapper only has to
-//! hand over a slice as a pointer and a length, and a number to be written as a pointer. The
-//! pointer of an empty slice is dangling but never null.
+//! hand over what it is lent. The pointer of an empty slice is dangling but never null.
 //!
 //! A function is named as in the header, answers the reply number, and writes place and figures.
 
@@ -19,6 +18,7 @@ mod short;
 mod sums;
 mod tables;
 mod temperature;
+mod wrapped;
 
 pub use deck::{deck_move, deck_read, deck_write};
 pub use design::{

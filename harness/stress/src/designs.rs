@@ -177,31 +177,22 @@ impl Asked<'_> {
         let design = self.design;
         let (x, y) = (self.strand(random), self.strand(random));
         let position = near(random, self.positions.saturating_sub(1));
-        let mut place = Figure::whole();
         match random.below(12) {
-            0 => {
-                let mut bond = Figure::double();
-                let number = mj::strand_bond(design, x, y, place.lent(), bond.lent());
-                let fit = self.is_placed(&place, number) && bond.is_fit(number);
-                tally.call("strand_bond", number, fit);
-            }
-            1 => {
-                let mut bond = Figure::double();
-                let number = mj::scaffold_bond(design, position, x, place.lent(), bond.lent());
-                let fit = self.is_placed(&place, number) && bond.is_fit(number);
-                tally.call("scaffold_bond", number, fit);
-            }
-            2 => {
-                let mut count = Figure::whole();
-                let number = mj::states(design, place.lent(), count.lent());
-                let fit = self.is_placed(&place, number) && count.is_fit(number);
-                tally.call("states", number, fit);
-            }
+            0 => self.figure(tally, "strand_bond", Figure::double(), |place, bond| {
+                mj::strand_bond(design, x, y, place, bond)
+            }),
+            1 => self.figure(tally, "scaffold_bond", Figure::double(), |place, bond| {
+                mj::scaffold_bond(design, position, x, place, bond)
+            }),
+            2 => self.figure(tally, "states", Figure::whole(), |place, count| {
+                mj::states(design, place, count)
+            }),
             3 => self.friends(random, position, tally),
             4 => {
                 let any = random.bits();
                 let rank = random.pick(&[0, 1, any, u64::MAX]);
                 let mut entries = Guarded::new(near(random, self.positions), 0xa5);
+                let mut place = Figure::whole();
                 let number = mj::state(design, rank, entries.lent(), place.lent());
                 let fit = self.is_placed(&place, number) && entries.is_fit(number);
                 tally.call("state", number, fit);
@@ -213,14 +204,37 @@ impl Asked<'_> {
             8 => sums::call_of_occupants(self, random, tally),
             9 => self.first_under(random, tally),
             10 => sheets::call(self, random, tally),
-            _ => {
-                let mut entries = Guarded::new(near(random, self.positions), 0xa5);
-                let mut energy = Figure::double();
-                let number = mj::search(design, entries.lent(), place.lent(), energy.lent());
-                let written = entries.is_fit(number) && energy.is_fit(number);
-                tally.call("search", number, self.is_placed(&place, number) && written);
-            }
+            _ => self.found(random, tally, "search", mj::search),
         }
+    }
+
+    /// A call that answers one figure.
+    fn figure<T: Copy + PartialEq + Default>(
+        &self,
+        tally: &mut Tally,
+        function: &'static str,
+        mut figure: Figure<T>,
+        ask: impl FnOnce(&mut u64, &mut T) -> u32,
+    ) {
+        let mut place = Figure::whole();
+        let number = ask(place.lent(), figure.lent());
+        let fit = self.is_placed(&place, number) && figure.is_fit(number);
+        tally.call(function, number, fit);
+    }
+
+    /// A call that writes a state and answers its energy.
+    fn found(
+        &self,
+        random: &mut Random,
+        tally: &mut Tally,
+        function: &'static str,
+        ask: impl FnOnce(mj::Design, &mut [u8], &mut u64, &mut f64) -> u32,
+    ) {
+        let mut entries = Guarded::new(near(random, self.positions), 0xa5);
+        let (mut place, mut energy) = (Figure::whole(), Figure::double());
+        let number = ask(self.design, entries.lent(), place.lent(), energy.lent());
+        let written = entries.is_fit(number) && energy.is_fit(number);
+        tally.call(function, number, self.is_placed(&place, number) && written);
     }
 
     fn strand(&self, random: &mut Random) -> u8 {
@@ -232,16 +246,10 @@ impl Asked<'_> {
         let any = f64::from_bits(random.bits());
         let any = if any.is_finite() { any } else { 0.0 };
         let ceiling = random.pick(&[-1.0, 0.0, 1e300, any]);
-        let mut entries = Guarded::new(near(random, self.positions), 0xa5);
-        let (mut place, mut energy) = (Figure::whole(), Figure::double());
-        let (lent, at) = (entries.lent(), place.lent());
-        let number = mj::first_state_under(self.design, ceiling, lent, at, energy.lent());
-        let written = entries.is_fit(number) && energy.is_fit(number);
-        tally.call(
-            "first_state_under",
-            number,
-            self.is_placed(&place, number) && written,
-        );
+        let under = |design: mj::Design, entries: &mut [u8], place: &mut u64, energy: &mut f64| {
+            mj::first_state_under(design, ceiling, entries, place, energy)
+        };
+        self.found(random, tally, "first_state_under", under);
     }
 
     fn friends(&self, random: &mut Random, position: usize, tally: &mut Tally) {
@@ -262,25 +270,19 @@ impl Asked<'_> {
             false => random.below(self.strands + 1) as u8,
         };
         let configuration: Vec<u8> = (0..length).map(|_| place(random)).collect();
-        let (mut place, mut energy) = (Figure::whole(), Figure::double());
-        let number = mj::state_energy(self.design, &configuration, place.lent(), energy.lent());
-        let fit = self.is_placed(&place, number) && energy.is_fit(number);
-        tally.call("state_energy", number, fit);
-        let (mut place, mut sum, mut energy) =
-            (Figure::whole(), Figure::double(), Figure::double());
-        let number = mj::chain_energy(
-            self.design,
-            &configuration,
-            place.lent(),
-            sum.lent(),
-            energy.lent(),
-        );
+        let (design, configuration) = (self.design, &configuration);
+        self.figure(tally, "state_energy", Figure::double(), |place, energy| {
+            mj::state_energy(design, configuration, place, energy)
+        });
+        let [mut sum, mut energy] = [Figure::double(), Figure::double()];
+        let mut place = Figure::whole();
+        let (at, told) = (place.lent(), energy.lent());
+        let number = mj::chain_energy(design, configuration, at, sum.lent(), told);
         let fit = self.is_placed(&place, number) && sum.is_fit(number) && energy.is_fit(number);
         tally.call("chain_energy", number, fit);
-        let (mut place, mut energy) = (Figure::whole(), Figure::double());
-        let number = mj::ring_energy(self.design, &configuration, place.lent(), energy.lent());
-        let fit = self.is_placed(&place, number) && energy.is_fit(number);
-        tally.call("ring_energy", number, fit);
+        self.figure(tally, "ring_energy", Figure::double(), |place, energy| {
+            mj::ring_energy(design, configuration, place, energy)
+        });
     }
 
     /// Large ones now and then: their search is many of the chain's.
@@ -288,14 +290,6 @@ impl Asked<'_> {
         if self.positions > LONG && !random.once_in(20) {
             return;
         }
-        let mut entries = Guarded::new(near(random, self.positions), 0xa5);
-        let (mut place, mut energy) = (Figure::whole(), Figure::double());
-        let number = mj::ring_search(self.design, entries.lent(), place.lent(), energy.lent());
-        let written = entries.is_fit(number) && energy.is_fit(number);
-        tally.call(
-            "ring_search",
-            number,
-            self.is_placed(&place, number) && written,
-        );
+        self.found(random, tally, "ring_search", mj::ring_search);
     }
 }

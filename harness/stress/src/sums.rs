@@ -56,83 +56,111 @@ pub fn call(asked: &Asked, random: &mut Random, tally: &mut Tally) {
         pair_digits: &pair_digits,
         pair_powers: &pair_powers,
     };
-    let (mut place, mut digits, mut power) = (Figure::whole(), Figure::digits(), Figure::power());
+    let (design, mut told) = (asked.design, Told::new());
+    let (place, digits, power) = told.lent();
     let free = random.once_in(2);
-    let number = match free {
-        true => mj::free_sum(
-            asked.design,
-            weights,
-            place.lent(),
-            digits.lent(),
-            power.lent(),
+    let (function, number) = match free {
+        true => (
+            "free_sum",
+            mj::free_sum(design, weights, place, digits, power),
         ),
         false => {
-            let lent = random.below(300);
-            let numbers: Vec<u8> = (0..lent).map(|_| random.bits() as u8 & 63).collect();
-            let (starts, lengths) = spans(random, asked.positions, lent);
-            let lists = mj::Lists {
-                numbers: &numbers,
-                starts: &starts,
-                lengths: &lengths,
-            };
-            mj::constrained_sum(
-                asked.design,
-                weights,
-                lists,
-                place.lent(),
-                digits.lent(),
-                power.lent(),
-            )
+            let drawn = Drawn::new(random, asked.positions);
+            let number = mj::constrained_sum(design, weights, drawn.lent(), place, digits, power);
+            ("constrained_sum", number)
         }
     };
-    let told = digits.told();
-    let in_form = number != 0 || (1 << 30..1 << 31).contains(&told);
-    let zero = !free && told == 0 && power.told() == 0;
-    let figures = digits.is_fit(number) && power.is_fit(number);
-    let fit = asked.is_placed(&place, number) && figures && (in_form || zero);
-    let function = if free { "free_sum" } else { "constrained_sum" };
-    tally.call(function, number, fit);
+    told.call(asked, function, number, !free, tally);
 }
 
 /// The sums over the exponentials of the design's own energies, and the probability.
 pub fn call_of_energies(asked: &Asked, random: &mut Random, tally: &mut Tally) {
-    let (mut place, mut digits, mut power) = (Figure::whole(), Figure::digits(), Figure::power());
-    let lent = random.below(300);
-    let numbers: Vec<u8> = (0..lent).map(|_| random.bits() as u8 & 63).collect();
-    let (starts, lengths) = spans(random, asked.positions, lent);
-    let lists = mj::Lists {
-        numbers: &numbers,
-        starts: &starts,
-        lengths: &lengths,
-    };
+    let (design, mut told) = (asked.design, Told::new());
+    let drawn = Drawn::new(random, asked.positions);
+    let lists = drawn.lent();
     let which = random.below(3);
-    let (place_lent, digits_lent, power_lent) = (place.lent(), digits.lent(), power.lent());
+    let (place, digits, power) = told.lent();
     let (function, number) = match which {
         0 => (
             "free_sum_of_energies",
-            mj::free_sum_of_energies(asked.design, place_lent, digits_lent, power_lent),
+            mj::free_sum_of_energies(design, place, digits, power),
         ),
         1 => (
             "constrained_sum_of_energies",
-            mj::constrained_sum_of_energies(
-                asked.design,
-                lists,
-                place_lent,
-                digits_lent,
-                power_lent,
-            ),
+            mj::constrained_sum_of_energies(design, lists, place, digits, power),
         ),
         _ => (
             "probability",
-            mj::probability(asked.design, lists, place_lent, digits_lent, power_lent),
+            mj::probability(design, lists, place, digits, power),
         ),
     };
-    let told = digits.told();
-    let in_form = number != 0 || (1 << 30..1 << 31).contains(&told);
-    let zero = which != 0 && told == 0 && power.told() == 0;
-    let figures = digits.is_fit(number) && power.is_fit(number);
-    let fit = asked.is_placed(&place, number) && figures && (in_form || zero);
-    tally.call(function, number, fit);
+    told.call(asked, function, number, which != 0, tally);
+}
+
+/// What a call that answers a weight writes.
+struct Told {
+    place: Figure<u64>,
+    digits: Figure<u32>,
+    power: Figure<i32>,
+}
+
+impl Told {
+    fn new() -> Self {
+        Told {
+            place: Figure::whole(),
+            digits: Figure::digits(),
+            power: Figure::power(),
+        }
+    }
+
+    fn lent(&mut self) -> (&mut u64, &mut u32, &mut i32) {
+        (self.place.lent(), self.digits.lent(), self.power.lent())
+    }
+
+    /// An answer is in its form, or 0 where a constraint may allow no state.
+    fn call(
+        &self,
+        asked: &Asked,
+        function: &'static str,
+        number: u32,
+        constrained: bool,
+        tally: &mut Tally,
+    ) {
+        let (digits, power) = (self.digits.told(), self.power.told());
+        let in_form = number != 0 || (1 << 30..1 << 31).contains(&digits);
+        let zero = constrained && digits == 0 && power == 0;
+        let figures = self.digits.is_fit(number) && self.power.is_fit(number);
+        let fit = asked.is_placed(&self.place, number) && figures && (in_form || zero);
+        tally.call(function, number, fit);
+    }
+}
+
+/// Lists of a constraint.
+struct Drawn {
+    numbers: Vec<u8>,
+    starts: Vec<usize>,
+    lengths: Vec<usize>,
+}
+
+impl Drawn {
+    fn new(random: &mut Random, positions: usize) -> Self {
+        let lent = random.below(300);
+        let numbers = (0..lent).map(|_| random.bits() as u8 & 63).collect();
+        let (starts, lengths) = spans(random, positions, lent);
+        Drawn {
+            numbers,
+            starts,
+            lengths,
+        }
+    }
+
+    fn lent(&self) -> mj::Lists<'_> {
+        mj::Lists {
+            numbers: &self.numbers,
+            starts: &self.starts,
+            lengths: &self.lengths,
+        }
+    }
 }
 
 /// The probability of each occupant at each position. Of a long scaffold the tables are of other lengths:

@@ -29,10 +29,10 @@ pub record Left (m : Model) (options : ℕ → List ℕ) (i : ℕ) (strands : Li
   pub are : strands ≡ left_options options i
   pub entries : Energies (left_entry m options i) strands (length strands) energies
 
--- ---- the left choices of the positions passed
+-- ---- the left choices of the positions passed; at position 0 there is none
 
 abbrev pub Table : Model → (ℕ → List ℕ) → ℕ → List (List ℕ) → List ℕ → Type 0
-Table m options position choice empty = (i : ℕ) → i < position → (x : ℕ) → Memᴰ x (options i) → choice_in choice empty i x ≡ left_choice m options i x
+Table m options position choice empty = (i : ℕ) → i < position → 0 < i → (x : ℕ) → Memᴰ x (options i) → choice_in choice empty i x ≡ left_choice m options i x
 
 -- ---- both
 

@@ -128,37 +128,48 @@ fn exponentials(checks: &mut Checks) {
     checks.count("it", (digits, power) == (0, 0), format!("{digits} {power}"));
 }
 
-/// The stack that the header says is enough for sums of energies of 128 positions with 63 friends each. All
-/// weights are 1: bond and potential are both -2.
-fn stack_of_energies(checks: &mut Checks) {
-    let summed = std::thread::Builder::new()
-        .stack_size(160 * 1024)
-        .spawn(|| {
+/// What is asked, in a thread of so much stack, of 128 positions with so many friends each: bonds are -2, and
+/// potentials the amount.
+fn of_128<T: Send + 'static>(
+    kib: usize,
+    friends: usize,
+    amount: f64,
+    ask: impl FnOnce(mj::Design) -> T + Send + 'static,
+) -> T {
+    let asked = std::thread::Builder::new()
+        .stack_size(kib * 1024)
+        .spawn(move || {
             let mut dg = vec![0.0; 4096];
             dg[65] = -1.0;
-            let glues = [vec![0; 3], [2, 1, 2].repeat(63)].concat();
-            let design = mj::Design {
+            ask(mj::Design {
                 scaffold: &[1; 128],
                 marks: &[0; 128],
-                glues: &glues,
+                glues: &[vec![0; 3], [2, 1, 2].repeat(friends)].concat(),
                 dg: &dg,
                 ds: &vec![0.0; 4096],
-                amounts: &vec![-2.0; 64],
+                amounts: &vec![amount; friends + 1],
                 given: 0,
                 rt: 0.5,
                 strand_excess: 0.0,
                 scaffold_excess: 0.0,
-            };
-            let lists = mj::Lists {
-                numbers: &[5, 63],
-                starts: &vec![0; 128],
-                lengths: &vec![2; 128],
-            };
-            let (mut place, mut digits, mut power) = (WHOLE, 0, 0);
-            let number = mj::probability(design, lists, &mut place, &mut digits, &mut power);
-            (number, digits, power)
+            })
         });
-    let of_two = summed.expect("a thread").join().expect("an answer");
+    asked.expect("a thread").join().expect("an answer")
+}
+
+/// The stack that the header says is enough for sums of energies of 128 positions with 63 friends each. All
+/// weights are 1: bond and potential are both -2.
+fn stack_of_energies(checks: &mut Checks) {
+    let of_two = of_128(160, 63, -2.0, |design| {
+        let lists = mj::Lists {
+            numbers: &[5, 63],
+            starts: &[0; 128],
+            lengths: &[2; 128],
+        };
+        let (mut place, mut digits, mut power) = (WHOLE, 0, 0);
+        let number = mj::probability(design, lists, &mut place, &mut digits, &mut power);
+        (number, digits, power)
+    });
     checks.count(
         "the probability of two at each",
         of_two == (0, ONE, 128 - 6 * 128 - 30),
@@ -168,30 +179,12 @@ fn stack_of_energies(checks: &mut Checks) {
 
 /// The same stack for all occupants of 128 positions, of two friends each that weigh 1.
 fn stack_of_occupants(checks: &mut Checks) {
-    let asked = std::thread::Builder::new()
-        .stack_size(160 * 1024)
-        .spawn(|| {
-            let mut dg = vec![0.0; 4096];
-            dg[65] = -1.0;
-            let design = mj::Design {
-                scaffold: &[1; 128],
-                marks: &[0; 128],
-                glues: &[0, 0, 0, 2, 1, 2, 2, 1, 2],
-                dg: &dg,
-                ds: &vec![0.0; 4096],
-                amounts: &vec![-2.0; 3],
-                given: 0,
-                rt: 0.5,
-                strand_excess: 0.0,
-                scaffold_excess: 0.0,
-            };
-            let (mut place, mut digits, mut powers) = (WHOLE, vec![0; 384], vec![0; 384]);
-            let number = mj::occupants(design, &mut digits, &mut powers, &mut place);
-            let third =
-                |cell: usize| (double(digits[cell], powers[cell]) * 3.0 - 1.0).abs() < 2.5e-4;
-            (number, (0..384).all(third))
-        });
-    let told = asked.expect("a thread").join().expect("an answer");
+    let told = of_128(160, 2, -2.0, |design| {
+        let (mut place, mut digits, mut powers) = (WHOLE, vec![0; 384], vec![0; 384]);
+        let number = mj::occupants(design, &mut digits, &mut powers, &mut place);
+        let third = |cell: usize| (double(digits[cell], powers[cell]) * 3.0 - 1.0).abs() < 2.5e-4;
+        (number, (0..384).all(third))
+    });
     checks.count(
         "each of three as probable",
         told == (0, true),
@@ -203,22 +196,7 @@ fn stack_of_occupants(checks: &mut Checks) {
 /// are 1, so that each sum is a count of states: 64^128, and with each place constrained to two of its
 /// friends 2^128.
 fn stack(checks: &mut Checks) {
-    let summed = std::thread::Builder::new().stack_size(64 * 1024).spawn(|| {
-        let mut dg = vec![0.0; 4096];
-        dg[65] = -1.0;
-        let glues = [vec![0; 3], [2, 1, 2].repeat(63)].concat();
-        let design = mj::Design {
-            scaffold: &[1; 128],
-            marks: &[0; 128],
-            glues: &glues,
-            dg: &dg,
-            ds: &vec![0.0; 4096],
-            amounts: &vec![0.0; 64],
-            given: 0,
-            rt: 0.5,
-            strand_excess: 0.0,
-            scaffold_excess: 0.0,
-        };
+    let (of_all, of_two) = of_128(64, 63, 0.0, |design| {
         let (digits, powers) = (vec![ONE; 8192], vec![-30; 8192]);
         let weights = mj::Weights {
             place_digits: &digits,
@@ -228,8 +206,8 @@ fn stack(checks: &mut Checks) {
         };
         let lists = mj::Lists {
             numbers: &[5, 63],
-            starts: &vec![0; 128],
-            lengths: &vec![2; 128],
+            starts: &[0; 128],
+            lengths: &[2; 128],
         };
         let (mut place, mut digits, mut power) = (WHOLE, 0, 0);
         let free = mj::free_sum(design, weights, &mut place, &mut digits, &mut power);
@@ -237,7 +215,6 @@ fn stack(checks: &mut Checks) {
         let some = mj::constrained_sum(design, weights, lists, &mut place, &mut digits, &mut power);
         (of_all, (some, digits, power))
     });
-    let (of_all, of_two) = summed.expect("a thread").join().expect("an answer");
     checks.count(
         "all states",
         of_all == (0, ONE, 6 * 128 - 30),

@@ -1,5 +1,5 @@
 -- The pass with one first occupant meets its contract. Assumes nothing.
-use mathlib.Core.Path.{sym, ap, ◌∙◌, subst}
+use mathlib.Core.Path.{refl, sym, subst}
 use Prim.Native.Nat.{ℕ, ◌<◌, ◌+◌}
 use native.Mathlib.Omega.{arith}
 use lib.ListN.{length, get_or}
@@ -24,11 +24,11 @@ pass-options-requires-clause-known c =
     let inside : c.args.option < length c.args.self.now.options.rows.now = omega arith in
     rw (part-one c.args.self.now.options.rows.now c.args.option inside) (known-one (first-known s some h))
 
-pub lowest_closed-lowest-requires : goal.lowest_closed-lowest-requires
-lowest_closed-lowest-requires c = rw c.args.self.now.same_strands (first-known c.args.self.now.options.searchable c.requires.some c.requires.option_known)
+pub lowest_closed-requires : goal.lowest_closed-requires
+lowest_closed-requires c = rw c.args.self.now.same_strands (first-known c.args.self.now.options.searchable c.requires.some c.requires.option_known)
 
-pub returns : goal.returns
-returns c = λ m w closing e.
+pub returns-clause-found : goal.returns-clause-found
+returns-clause-found c = λ m w closing e.
     let o = w.options in
     let b = w.bonds in
     let lent = c.args.self.now in
@@ -44,13 +44,13 @@ returns c = λ m w closing e.
     let p = c.pass-options in
     let passed = p.ensures.passed m (with_first m f) w (ring-options m f option) (later-options m f) (record {
       entries = left-first m f option b in-model (part lent.options.rows.now c.args.option (c.args.option + 1)) _ (part-one lent.options.rows.now c.args.option inside) c.first_entry.ensures;
-      choices = table-first m f option _ _ (c.new-choices.ensures 0);
+      choices = table-first m f option _ _;
     }) in
-    let low = c.lowest_closed-lowest in
+    let low = c.lowest_closed in
     let chosen = rw lent.same_strands at low.ensures.chosen in
     let choices = p.new.choices in
-    subst (λ (x : ℕ). FoundFrom m x c.trace.new.configuration low.result.energy) (first-option o in-model h)
+    let written = traced_back (choice_in choices.friends choices.empty) (length lent.options.counts.now) low.result.strand in
+    subst (λ (x : ℕ). FoundFrom m x written low.result.energy) (first-option o in-model h)
     (found_first m f option lent.options.strands lent.bonds.strand_bonds.cells.now closing c.args.rt.0 e
-    choices.friends choices.empty p.result.now p.new.energies low.result c.trace.new.configuration chosen
-    (length lent.options.counts.now) some o.positions passed.entries passed.choices
-    (c.trace.ensures ∙ ap (λ (n : ℕ). traced_back (choice_in choices.friends choices.empty) n low.result.strand) c.requires.sized))
+    choices.friends choices.empty p.result.now p.new.energies low.result written chosen
+    (length lent.options.counts.now) some o.positions passed.entries passed.choices refl)
