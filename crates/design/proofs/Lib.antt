@@ -6,8 +6,10 @@ pub mod Held
 pub mod FriendLaws
 pub mod Blocked
 pub mod Cells
+pub mod Chunks
 pub mod Folded
 pub mod Range
+pub mod Squares
 pub mod Concentrations
 pub mod BoundLaws
 pub mod Lowest
