@@ -2,6 +2,7 @@ pub mod Sizes
 pub mod PassedLaws
 pub mod Parts
 pub mod Optioned
+pub mod CopiedRows
 pub mod Held
 pub mod FriendLaws
 pub mod Blocked
