@@ -11,6 +11,7 @@ ghost use Rattle.bond_tables.specs.Answers.{over_checks};
 use super::BondTables;
 use design::Design;
 use design::checks::ranged_reply;
+use design::ranges::some_beyond;
 use reply::limits::{POSITIONS, STRANDS};
 use reply::{Refusal, Refused, refused_if};
 
@@ -29,15 +30,11 @@ pub(crate) fn wrong_tables(design: &Design, strand_cells: usize, scaffold_cells:
         || scaffold_cells != positions * strands
 }
 
-// Whether a cell is beyond the most that a bond may be. All are looked at, since a turn then has no way out to test: by `any` the cells of both tables of
-// a largest design take 10.0 µs and not 7.5.
+// Whether a cell is beyond the most that a bond may be.
 fn cells_beyond(cells: &[f64]) -> bool
     ensures { result ≡ any (beyond 80000) cells.now }
 {
-    cells.iter().fold(
-        false,
-        |out, cell| out | !doubles::in_range(-BOND, BOND, *cell),
-    )
+    some_beyond(BOND, cells)
 }
 
 // What is refused on account of the tables: before the reply of the same call over the design, it is the reply over the tables.

@@ -2,12 +2,15 @@ pub mod Sizes
 pub mod PassedLaws
 pub mod Parts
 pub mod Optioned
+pub mod CopiedRows
 pub mod Held
 pub mod FriendLaws
 pub mod Blocked
 pub mod Cells
+pub mod Chunks
 pub mod Folded
 pub mod Range
+pub mod Squares
 pub mod Concentrations
 pub mod BoundLaws
 pub mod Lowest

@@ -12,6 +12,7 @@ ghost use Rattle.design.specs.Unread.{PotentialsOf};
 
 use super::Design;
 use super::friends::BLOCKED;
+use super::ranges::some_beyond;
 use super::reads::number_at;
 use reply::limits::{
     CELLS, DG, DS, EXCESS, LAST_GLUE, LEAST_RT, MOST_RT, POSITIONS, POTENTIAL, SIDES, STRANDS,
@@ -46,23 +47,11 @@ fn wrong_sizes(design: &Design) -> bool
         || some_above(LAST_GLUE, design.glues)
 }
 
-// Whether a cell of either table is out of its range. All are counted, a cell of each table in a turn: so the compiler tests the two at once. By `fold`,
-// over each table or over both in a `zip`, or by `filter` and `count`, it takes twice as long.
+// Whether a cell of either table is out of its range.
 fn cells_out(design: &Design) -> bool
-    requires { length design.now.dg ≡ length design.now.ds }
     ensures { result ≡ cells_out design.now.dg design.now.ds }
 {
-    let mut dg_out: usize = 0;
-    let mut ds_out: usize = 0;
-    for (i, &dg_cell) in design.dg.iter().enumerate() {
-        if !doubles::in_range(-DG, DG, dg_cell) {
-            dg_out += 1;
-        }
-        if !doubles::in_range(-DS, DS, design.ds[i]) {
-            ds_out += 1;
-        }
-    }
-    0 < dg_out || 0 < ds_out
+    some_beyond(DG, design.dg) || some_beyond(DS, design.ds)
 }
 
 // Where the first number beyond ±most stands.

@@ -9,6 +9,7 @@ pub mod logarithms;
 pub mod needed;
 pub mod options;
 pub mod passed;
+pub mod ranges;
 pub mod reads;
 pub mod tables;
 pub mod terms;

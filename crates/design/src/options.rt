@@ -68,7 +68,8 @@ impl TabledDesign<'_> {
         (count + 1) as u8
     }
 
-    // The options of each position into its row, and how many it has.
+    // The options of each position into its row, and how many it has. A row is worked out for the first open position that has a glue, and copied for the
+    // others: where glues come again, few of up to 8,192 tests for friends are left.
     fn fill_options(&self, rows: &mut [u8], counts: &mut [u8])
         requires rows_in_bounds { 64 * positions self.now ≤ length rows.old }
         requires counts_len { length counts.old ≡ positions self.now }
@@ -77,11 +78,24 @@ impl TabledDesign<'_> {
         ensures rows_len_unchanged { length rows.new ≡ length rows.old }
         ensures counts_len_unchanged { length counts.new ≡ length counts.old }
     {
+        // For each glue the number of positions up to the first open one that has it; 0 where none was met.
+        let mut met = [0u8; GLUES];
         // By number, which the design's glues and marks ask; and of what is written through a `zip` of `iter_mut`, or of rows of `chunks_exact_mut`,
         // nothing is known where the loop ends.
         for position in 0..self.design.positions() {
             let row = ROW * position;
-            counts[position] = self.fill_row(position, &mut rows[row..row + ROW]);
+            let glue = usize::from(self.design.scaffold_glue(position));
+            let blocked = self.design.is_blocked(position);
+            if blocked {
+                counts[position] = self.fill_row(position, &mut rows[row..row + ROW]);
+            } else if met[glue] == 0 {
+                counts[position] = self.fill_row(position, &mut rows[row..row + ROW]);
+                met[glue] = position as u8 + 1;
+            } else {
+                let first = usize::from(met[glue]) - 1;
+                rows.copy_within(ROW * first..ROW * first + ROW, row);
+                counts[position] = counts[first];
+            }
         }
     }
 }

@@ -69,7 +69,10 @@ fn best_energies(
     ensures { Attachments (table_bond left.now.bonds.strands left.now.bonds.cells.now) left.now.options.now left.now.energies.now friends.now (length friends.now) best.new choice.new }
 {
     // Many friends pay for the sums of all right strands.
-    if !left.options.is_empty() && 8 + left.bonds.strands / 8 <= friends.len() {
+    if !left.options.is_empty()
+        && 8 <= left.bonds.strands
+        && 8 + left.bonds.strands / 8 <= friends.len()
+    {
         attach_all(left, friends, best, choice)
     } else {
         attach_each(left, friends, best, choice)

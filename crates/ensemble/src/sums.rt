@@ -1,47 +1,66 @@
-// The left choices where friends are many: the loop goes over the left entries outside, and inside over a row of bonds with all right strands, which
-// lie side by side. The least sums come first; the entry that has the least is then found from the end.
-ghost use Rattle.std.specs.Prelude.{◌≡◌, ℕ, ◌<◌, ◌≤◌, length, get_or, Float};
+// The left choices where friends are many: the least sums of all right strands come first, eight at a time, whose bonds with a left entry lie side by
+// side; the entry that has the least is then found from the end.
+ghost use Rattle.std.specs.Prelude.{◌≡◌, ℕ, ◌+◌, ◌<◌, ◌≤◌, length, get_or, Float};
 ghost use Rattle.std.specs.Float.Ieee as Ieee;
 ghost use Rattle.std.specs.Float.{binary64, nan};
 ghost use Rattle.doubles.specs.Least.{last_least};
-ghost use Rattle.ensemble.specs.inner.Entries.{Known, table_bond, Keys, lesser, LeastSums, Attachments, Low};
+ghost use Rattle.ensemble.specs.inner.Entries.{Known, table_bond, Keys, lesser, LeastSum, LeastSums, Attachments, Low};
 
 use super::attach::Entries;
 use reply::limits::STRANDS;
+use std::simd::prelude::*;
 
-// An energy plus each of a row of bonds.
-fn first_sums(energy: f64, bonds: &[f64], best: &mut [f64; STRANDS])
-    requires { length bonds.now ≤ 64 }
-    ensures { (r : ℕ) → r < length bonds.now → get_or best.new r nan ≡ Ieee.add binary64 energy (get_or bonds.now r nan) }
+// An energy plus each of eight bonds of a row, from a right strand on.
+fn eight_sums(energy: f64, bonds: &[f64], right: usize) -> f64x8
+    requires { right + 8 ≤ length bonds.now }
+    ensures { (lane : ℕ) → lane < 8 → get_or result lane nan ≡ Ieee.add binary64 energy (get_or bonds.now (right + lane) nan) }
 {
-    // By number: after `best.iter_mut().zip(bonds)` nothing is known of what was written.
-    for (r, bond) in bonds.iter().enumerate() {
-        best[r] = energy + *bond;
-    }
+    f64x8::splat(energy) + f64x8::from_slice(&bonds[right..])
 }
 
-// An energy plus each of a row of bonds, where that is not above what was there.
-fn lesser_sums(energy: f64, bonds: &[f64], best: &mut [f64; STRANDS])
-    requires { length bonds.now ≤ 64 }
-    ensures { (r : ℕ) → r < length bonds.now → get_or best.new r nan ≡ lesser (get_or best.old r nan) (Ieee.add binary64 energy (get_or bonds.now r nan)) }
+// The lesser of each two, the second of equals.
+fn eight_lesser(least: f64x8, sum: f64x8) -> f64x8
+    ensures { (lane : ℕ) → lane < 8 → get_or result lane nan ≡ lesser (get_or least lane nan) (get_or sum lane nan) }
 {
-    // By number, as the first sums.
-    for (r, bond) in bonds.iter().enumerate() {
-        let least = best[r];
-        let sum = energy + *bond;
-        best[r] = if least < sum { least } else { sum };
-    }
+    least.simd_lt(sum).select(least, sum)
 }
 
-// The least of the left energies plus the strand bond, for each right strand.
+// The least of the left energies plus the strand bond, for eight right strands side by side. They are kept together over all left entries, as the compiler
+// does of no loop over doubles that compares them one by one.
+fn eight_least(left: &Entries, right: usize) -> f64x8
+    requires some { 0 < length left.now.options.now }
+    requires room { right + 8 ≤ left.now.bonds.strands }
+    ensures { (lane : ℕ) → lane < 8 → LeastSum (table_bond left.now.bonds.strands left.now.bonds.cells.now) left.now.options.now left.now.energies.now (length left.now.options.now) (right + lane) (get_or result lane nan) }
+{
+    let mut least = eight_sums(left.energies[0], left.bonds.row(left.options[0]), right);
+    for (strand, energy) in left.options[1..].iter().zip(&left.energies[1..]) {
+        let sum = eight_sums(*energy, left.bonds.row(*strand), right);
+        least = eight_lesser(least, sum);
+    }
+    least
+}
+
+// Stores eight leasts from a right strand on.
+fn put_eight(least: f64x8, right: usize, best: &mut [f64; STRANDS])
+    requires { right + 8 ≤ 64 }
+    ensures put { (lane : ℕ) → lane < 8 → get_or best.new (right + lane) nan ≡ get_or least lane nan }
+    ensures below { (r : ℕ) → r < right → get_or best.new r nan ≡ get_or best.old r nan }
+{
+    least.copy_to_slice(&mut best[right..]);
+}
+
+// The least of the left energies plus the strand bond, for each right strand: eight by eight, the last eight up to the last strand.
 fn least_sums(left: &Entries, best: &mut [f64; STRANDS])
-    requires { 0 < length left.now.options.now }
+    requires some { 0 < length left.now.options.now }
+    requires eight { 8 ≤ left.now.bonds.strands }
     ensures { LeastSums (table_bond left.now.bonds.strands left.now.bonds.cells.now) left.now.options.now left.now.energies.now left.now.bonds.strands (length left.now.options.now) best.new }
 {
-    first_sums(left.energies[0], left.bonds.row(left.options[0]), best);
-    for (strand, energy) in left.options[1..].iter().zip(&left.energies[1..]) {
-        lesser_sums(*energy, left.bonds.row(*strand), best);
+    for eight in 0..left.bonds.strands / 8 {
+        let right = 8 * eight;
+        put_eight(eight_least(left, right), right, best);
     }
+    let last = left.bonds.strands - 8;
+    put_eight(eight_least(left, last), last, best);
 }
 
 // The last left entry whose energy plus the strand bond is not above the least: the left choice.
@@ -69,6 +88,7 @@ pub(crate) fn attach_all(
     requires known { Known left.now.bonds.strands friends.now }
     requires low { Low choice.old }
     requires left_nonzero { 0 < length left.now.options.now }
+    requires eight { 8 ≤ left.now.bonds.strands }
     ensures { Attachments (table_bond left.now.bonds.strands left.now.bonds.cells.now) left.now.options.now left.now.energies.now friends.now (length friends.now) best.new choice.new }
 {
     least_sums(left, best);

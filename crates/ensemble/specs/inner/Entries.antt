@@ -50,9 +50,13 @@ AttachedAt bond left energies best choice right = (key : ℕ → Float) → Keys
 abbrev pub lesser : Float → Float → Float
 lesser x y = cond (lt x y) x y
 
--- a row has for each right strand what the least of the first k left entries is compared as
+-- what the least of the first k left entries is compared as, for a right strand
+abbrev pub LeastSum : (ℕ → ℕ → Float) → List ℕ → List Float → ℕ → ℕ → Float → Type 0
+LeastSum bond left energies k right sum = (key : ℕ → Float) → Keys bond left energies right key → sum ≡ key (last_least key (take k left))
+
+-- a row has it for each right strand
 abbrev pub LeastSums : (ℕ → ℕ → Float) → List ℕ → List Float → ℕ → ℕ → List Float → Type 0
-LeastSums bond left energies strands k best = (right : ℕ) → right < strands → (key : ℕ → Float) → Keys bond left energies right key → get_or best right nan ≡ key (last_least key (take k left))
+LeastSums bond left energies strands k best = (right : ℕ) → right < strands → LeastSum bond left energies k right (get_or best right nan)
 
 -- each left choice of a row is a strand number
 abbrev pub Low : List ℕ → Type 0

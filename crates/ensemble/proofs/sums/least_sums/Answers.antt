@@ -1,67 +1,41 @@
-use mathlib.Core.Path.{◌≡◌, sym, ap, ap₂, ◌∙◌}
-use mathlib.Core.List.{[], ◌∷◌}
+use mathlib.Core.Path.{◌≡◌, sym, ◌∙◌}
+use mathlib.Core.List.{List}
 use mathlib.Core.Logic.{inl, inr}
-use Prim.Native.Nat.{ℕ, ◌+◌}
-use native.Mathlib.Numerals.{add-one}
+use Prim.Native.Nat.{ℕ, ◌+◌, ◌-◌, ◌*◌, ◌<◌}
 use native.Mathlib.Omega.{arith}
-use lib.ListN.{length, get_or, take, length-append, length-drop}
-use lib.Ieee.{Float, nan, binary64, add}
-use Rattle.std.specs.Iterator.Adapters.{zip_first, zip_second}
-use Rattle.std.specs.Slice.Iter.{iter_rest}
-use Rattle.doubles.specs.Least.{or_later, last_least}
-use Rattle.ensemble.specs.inner.Entries.{table_bond}
-use Rattle.ensemble.proofs.LastLeast.{pick-one, least_more}
-use Rattle.ensemble.proofs.Walked.{past-first, next-of}
+use lib.ListN.{length, get_or}
+use lib.Ieee.{Float, nan}
+use Rattle.std.proofs.lemmas.Bool.{cases_lt}
+use Rattle.ensemble.specs.inner.Entries.{table_bond, LeastSum}
 use Rattle.ensemble.proofs.sums.least_sums.Goals as goal
 
-pub loop-strand-init : goal.loop-strand-init
-loop-strand-init c =
-    let left = c.args.left.now in
-    let some = c.requires in
-    let row = c.row.ensures in
-    let begun = c.into_iter-strand-iterator.ensures.into_iter_gives in
-    record {
-      some = omega arith;
-      options = ap (λ x. iter_rest (zip_first x)) begun ∙ ap iter_rest c.zip-strand-items.ensures.first ∙ c.iter.ensures.rest ∙ past-first left.options.now;
-      energies = ap (λ x. iter_rest (zip_second x)) begun ∙ c.zip-strand-items.ensures.second.0 ∙ past-first left.energies.now;
-      sums = λ right l key keys.
-          c.first_sums.ensures right (rw row.sized l)
-          ∙ ap (add binary64 (get_or left.energies.now 0 nan)) (row.bonds right l)
-          ∙ keys 0 some
-          ∙ ap key (sym (pick-one (or_later key) left.options.now some));
-    }
+-- eight leasts stored from a right strand on, and those below it kept
+stored : (bond : ℕ → ℕ → Float) (left : List ℕ) (energies : List Float) (k right : ℕ) (old new lanes : List Float) → ((r : ℕ) → r < right → LeastSum bond left energies k r (get_or old r nan))
+    → ((lane : ℕ) → lane < 8 → LeastSum bond left energies k (right + lane) (get_or lanes lane nan))
+    → ((lane : ℕ) → lane < 8 → get_or new (right + lane) nan ≡ get_or lanes lane nan) → ((r : ℕ) → r < right → get_or new r nan ≡ get_or old r nan)
+    → (r : ℕ) → r < right + 8 → LeastSum bond left energies k r (get_or new r nan)
+stored bond left energies k right old new lanes before here put below r h =
+    elim (cases_lt r right) [
+      | inl low ↦ λ key keys. below r low ∙ before r low key keys
+      | inr high ↦
+          let lane = r - right in
+          let back : right + lane ≡ r = omega arith in
+          let inside : lane < 8 = omega arith in
+          rw (sym back) (λ key keys. put lane inside ∙ here lane inside key keys)
+    ]
 
-pub loop-strand-preserved : goal.loop-strand-preserved
-loop-strand-preserved c =
+pub loop-eight-init : goal.loop-eight-init
+loop-eight-init c = λ r h. absurd (omega arith)
+
+pub loop-eight-preserved : goal.loop-eight-preserved
+loop-eight-preserved c = λ r h.
     let left = c.args.left.now in
-    let step = rw c.in-Some.is at c.next.ensures.steps in
-    let was = c.loop-strand.invariant in
-    let row = c.row-in-loop-strand.ensures in
-    let k = length c.loop-strand.yielded + 1 in
-    let strand = next-of left.options.now k 0 (sym was.options ∙ step.0) in
-    let energy = next-of left.energies.now k nan (sym was.energies ∙ step.1) in
-    let longer = length-append c.loop-strand.yielded ((c.in-Some.strand, c.in-Some.energy) ∷ []) in
-    rw longer (record {
-      some = omega (arith, strand.inside);
-      options = strand.later;
-      energies = energy.later;
-      sums = λ right l key keys.
-          let sum = ap (add binary64 c.in-Some.energy.now) (row.bonds right l)
-          ∙ ap₂ (λ (e : Float) (x : ℕ). add binary64 e (table_bond left.bonds.strands left.bonds.cells.now x right)) energy.next strand.next
-          ∙ keys k strand.inside in
-          c.lesser_sums.ensures right (rw row.sized l)
-          ∙ least_more key left.options.now k (omega arith) strand.inside (was.sums right l key keys) sum
-          ∙ ap (λ (n : ℕ). key (last_least key (take n left.options.now))) (sym (add-one k));
-    })
+    stored (table_bond left.bonds.strands left.bonds.cells.now) left.options.now left.energies.now (length left.options.now) (8 * c.loop-eight.eight) c.loop-eight.best c.put_eight.new.best c.eight_least.result
+    c.loop-eight.invariant c.eight_least.ensures c.put_eight.ensures.put c.put_eight.ensures.below r (omega (arith, h))
 
 pub returns : goal.returns
-returns c =
+returns c = λ r h.
     let left = c.args.left.now in
-    let was = c.loop-strand.invariant in
-    let step = rw c.in-None.is at c.next.ensures.steps in
-    let k = length c.loop-strand.yielded + 1 in
-    let all : k ≡ length left.options.now = elim step [
-      | inl w ↦ let none = ap length was.options ∙ length-drop k left.options.now in omega (arith, w.1.0, none, was.some)
-      | inr w ↦ let none = ap length was.energies ∙ length-drop k left.energies.now in omega (arith, w.1.0, none, was.some, left.an_energy_each)
-    ] in
-    rw all at was.sums
+    let all = c.loop-eight.invariant in
+    stored (table_bond left.bonds.strands left.bonds.cells.now) left.options.now left.energies.now (length left.options.now) (left.bonds.strands - 8) c.loop-eight.best c.put_eight-2.new.best c.eight_least-2.result
+    (λ r l. all r (omega (arith, l))) c.eight_least-2.ensures c.put_eight-2.ensures.put c.put_eight-2.ensures.below r (omega (arith, h))
