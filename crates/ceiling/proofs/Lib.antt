@@ -1,4 +1,5 @@
 pub mod Passing
 pub mod Whole
 pub mod Replies
+pub mod Lowest
 pub mod Unread
