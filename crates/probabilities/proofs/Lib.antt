@@ -8,6 +8,7 @@ pub mod Lists
 pub mod NearWeights
 pub mod Used
 pub mod Replies
+pub mod Unread
 pub mod Summable
 pub mod Here
 pub mod Doubled

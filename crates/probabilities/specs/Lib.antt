@@ -4,4 +4,5 @@ pub mod Quotient
 pub mod Answers
 pub mod Occupants
 pub mod Double
+pub mod Unread
 pub mod inner
