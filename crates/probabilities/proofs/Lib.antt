@@ -9,7 +9,8 @@ pub mod NearWeights
 pub mod Used
 pub mod Replies
 pub mod Unread
-pub mod Summable
 pub mod Here
+pub mod Summable
+pub mod Cells
 pub mod Doubled
 pub mod ZeroAlone
