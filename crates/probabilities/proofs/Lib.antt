@@ -13,4 +13,5 @@ pub mod Here
 pub mod Summable
 pub mod Cells
 pub mod Doubled
+pub mod Beyond
 pub mod ZeroAlone
