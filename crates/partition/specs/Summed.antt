@@ -92,9 +92,10 @@ free_figure m w = sum_of_weights w (options m)
 abbrev pub constrained_figure : Model → Weights → List (List ℕ) → Weight
 constrained_figure m w lists = sum_of_weights w (allowed lists (options m))
 
--- the sums by the occupants of each position
+-- the sum over all states by the occupants of a position
 abbrev pub sum_at : Weights → List (List ℕ) → ℕ → Weight
 sum_at w = summed_at 400000 (place_weight w) (pair_weight w)
 
+-- and that over the states that have one of them there
 abbrev pub occupant_sum_at : Weights → List (List ℕ) → ℕ → ℕ → Weight
 occupant_sum_at w = occupant_sum 400000 (place_weight w) (pair_weight w)

@@ -19,7 +19,7 @@ use Rattle.partition.specs.Summed.{sum_at, occupant_sum_at}
 use Rattle.partition.specs.inner.Used.{Fit}
 use Rattle.partition_sums.specs.Layout.{options_of, weights_of}
 use Rattle.partition_sums.specs.declared.lent.Formed.{Formed}
-use Rattle.partition_sums.specs.inner.Rows.{row_term, Row, celled_term, Stored, Summed_to, Totals_to}
+use Rattle.partition_sums.specs.inner.Rows.{row_term, Row, celled_term, Stored, SummedTo, TotalsTo}
 use Rattle.partition_sums.proofs.Positions.{here, passed_at, searchable, known_of, row-terms}
 
 module _ (s : Formed) where
@@ -63,11 +63,11 @@ module _ (s : Formed) where
 
     -- the sums of one position more
     pub summed-more : ((x : ℕ) → x < strands → weight_at digits' powers' (i * strands + x) ≡ occupant_sum_at (weights_of s.lent.weights) (options_of s.lent.options) i x)
-        → Summed_to s.lent i digits powers → Summed_to s.lent (i + 1) digits' powers'
+        → SummedTo s.lent i digits powers → SummedTo s.lent (i + 1) digits' powers'
     summed-more filled old j x h k =
         below_more (λ (y : ℕ). weight_at digits' powers' (y * strands + x) ≡ occupant_sum_at (weights_of s.lent.weights) (options_of s.lent.options) y x) i (λ y l. kept-before y x l k ∙ old y x l k) (filled x k) j h
 
   -- one total more
-  pub totals-more : (i : ℕ) (totals : List Weight) (v : Weight) → i < length totals → v ≡ sum_at (weights_of s.lent.weights) (options_of s.lent.options) i → Totals_to s.lent i totals → Totals_to s.lent (i + 1) (set totals i v)
+  pub totals-more : (i : ℕ) (totals : List Weight) (v : Weight) → i < length totals → v ≡ sum_at (weights_of s.lent.weights) (options_of s.lent.options) i → TotalsTo s.lent i totals → TotalsTo s.lent (i + 1) (set totals i v)
   totals-more i totals v h e old =
       below_more (λ (y : ℕ). get_or (set totals i v) y zero_weight ≡ sum_at (weights_of s.lent.weights) (options_of s.lent.options) y) i (λ y l. get_or-set_other totals i y v zero_weight (ne_of_lt l) ∙ old y l) (get_or-set_same totals i v zero_weight h ∙ e)

@@ -5,7 +5,7 @@ ghost use Rattle.partition.specs.Summed.{occupant_sum_at, sum_at};
 ghost use Rattle.partition.specs.inner.Used.{Fit};
 ghost use Rattle.partition_sums.specs.Layout.{options_of, weights_of};
 ghost use Rattle.partition_sums.specs.inner.Rows as Rows;
-ghost use Rattle.partition_sums.specs.inner.Rows.{row_term, Leads, Before, Through, Stored, Summed_to, Totals_to, celled_term};
+ghost use Rattle.partition_sums.specs.inner.Rows.{row_term, Leads, Before, Through, Stored, SummedTo, TotalsTo, celled_term};
 
 use super::lent::{Formed, Lent, ONE};
 use super::rows::{last_row, row_before, sum_terms};
@@ -180,8 +180,8 @@ pub fn fill_sums(
     requires powers_in_bounds { length formed.now.lent.options.counts.now * formed.now.lent.weights.strands ≤ length powers.old }
     ensures digits_len { length digits.new ≡ length digits.old }
     ensures powers_len { length powers.new ≡ length powers.old }
-    ensures occupants { Summed_to formed.now.lent (length formed.now.lent.options.counts.now) digits.new powers.new }
-    ensures totals { Totals_to formed.now.lent (length formed.now.lent.options.counts.now) result }
+    ensures occupants { SummedTo formed.now.lent (length formed.now.lent.options.counts.now) digits.new powers.new }
+    ensures totals { TotalsTo formed.now.lent (length formed.now.lent.options.counts.now) result }
 {
     fill_terms(formed, digits, powers);
     let positions = formed.lent.options.counts.len();

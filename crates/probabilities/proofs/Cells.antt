@@ -20,7 +20,7 @@ use Rattle.partition.specs.Summed.{occupant_sum_at}
 use Rattle.partition_sums.specs.Layout as Layout
 use Rattle.partition_sums.specs.Layout.{weights_of}
 use Rattle.partition_sums.specs.declared.lent.Formed.{Formed}
-use Rattle.partition_sums.specs.inner.Rows.{Totals_to}
+use Rattle.partition_sums.specs.inner.Rows.{TotalsTo}
 use Rattle.probabilities.specs.Numbers.{FreeEnergySum, ConstrainedEnergySum, Probability}
 use Rattle.probabilities.specs.Occupants.{only_here}
 use Rattle.probabilities.specs.Quotient.{Quotiented}
@@ -45,7 +45,7 @@ module _ (d : Design) (a : Admitted d) (f : Formed) (same : Layout.options_of f.
   inside = rw many ((div-lt_iff_lt-mul (columned k (positions d) n h)).1 h)
 
   -- the divisor
-  module _ (totals : List Weight) (told : Totals_to f.lent (length f.lent.options.counts.now) totals) where
+  module _ (totals : List Weight) (told : TotalsTo f.lent (length f.lent.options.counts.now) totals) where
     pub total : Summable (FreeEnergySum (model_of d)) (get_or totals row zero_weight)
     total = total-summed f (model_of d) same near row inside (get_or totals row zero_weight) (told row inside)
 

@@ -93,13 +93,13 @@ pub record Stored (l : Lent) (i : ℕ) (digits : List ℕ) (powers : List ℤ) :
       → weight_at digits powers (j * l.weights.strands + x) ≡ celled_term (passed (place_term (weights_of l.weights)) (pair_term (weights_of l.weights)) j (drop (j + 1) (options_of l.options)) x)
 
 -- the cells of the positions before the i-th hold the sums over the states that have each strand there
-abbrev pub Summed_to : Lent → ℕ → List ℕ → List ℤ → Type 0
-Summed_to l i digits powers =
+abbrev pub SummedTo : Lent → ℕ → List ℕ → List ℤ → Type 0
+SummedTo l i digits powers =
     (j x : ℕ)
     → j < i
     → x < l.weights.strands
     → weight_at digits powers (j * l.weights.strands + x) ≡ occupant_sum_at (weights_of l.weights) (options_of l.options) j x
 
 -- and so many totals are those of the positions
-abbrev pub Totals_to : Lent → ℕ → List Weight → Type 0
-Totals_to l i totals = (j : ℕ) → j < i → get_or totals j zero_weight ≡ sum_at (weights_of l.weights) (options_of l.options) j
+abbrev pub TotalsTo : Lent → ℕ → List Weight → Type 0
+TotalsTo l i totals = (j : ℕ) → j < i → get_or totals j zero_weight ≡ sum_at (weights_of l.weights) (options_of l.options) j

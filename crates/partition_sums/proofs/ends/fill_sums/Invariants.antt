@@ -3,11 +3,11 @@
 use mathlib.Core.Path.{◌≡◌}
 use Prim.Native.Nat.{◌-◌}
 use lib.ListN.{length}
-use Rattle.partition_sums.specs.inner.Rows.{Before, Stored, Summed_to, Totals_to}
+use Rattle.partition_sums.specs.inner.Rows.{Before, Stored, SummedTo, TotalsTo}
 use Rattle.partition_sums.proofs.ends.fill_sums.Given as goal
 
 abbrev pub invariant-loop-position : goal.invariant-loop-position
 invariant-loop-position l =
     (length l.digits ≡ length l.fn.digits) × (length l.powers ≡ length l.fn.powers) × Before l.formed.lent (l.position-counter - 1) l.before
-    × Stored l.formed.lent l.position-counter l.digits l.powers × Summed_to l.formed.lent l.position-counter l.digits l.powers × (length l.totals ≡ 128)
-    × Totals_to l.formed.lent l.position-counter l.totals
+    × Stored l.formed.lent l.position-counter l.digits l.powers × SummedTo l.formed.lent l.position-counter l.digits l.powers × (length l.totals ≡ 128)
+    × TotalsTo l.formed.lent l.position-counter l.totals
