@@ -350,11 +350,11 @@ uint32_t mj_probability(MJ_DESIGN, const uint8_t *numbers, size_t number_count, 
                         size_t start_count, const size_t *lengths, size_t length_count,
                         uint64_t *place, uint32_t *digits, int32_t *power);
 
-/* The probability of each occupant at each position: that of the states that have it there, by the free
- * sum. Digits and powers have a cell for each position and strand, [position * strands + strand], column
- * 0 for the empty place; each is as mj_probability tells it of a list of that occupant alone, 0 * 2^0
- * for a strand that is no friend there. It takes a constrained sum for each friend of each position. On
- * a refusal all cells are kept. Replies 1, 9, 10, 15, 16, 17, 18. */
+/* The probability of each occupant at each position: that of the states that have it there, by that
+ * over all states. Digits and powers have a cell for each position and strand, [position * strands +
+ * strand], column 0 for the empty place; each is as near as mj_probability of a list of that occupant
+ * alone, 0 * 2^0 for a strand that is no friend there. On a refusal all cells are kept. Replies 1, 9,
+ * 10, 15, 16, 17, 18. */
 uint32_t mj_occupants(MJ_DESIGN, uint32_t *digits, size_t digit_count, int32_t *powers,
                       size_t power_count, uint64_t *place);
 

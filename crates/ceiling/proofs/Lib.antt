@@ -2,4 +2,5 @@ pub mod Cases
 pub mod Passing
 pub mod Whole
 pub mod Replies
+pub mod Lowest
 pub mod Unread

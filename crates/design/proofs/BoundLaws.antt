@@ -1,4 +1,4 @@
--- The model of an admitted design is bounded: each bond is finite and at most 80,000 in size. Assumes nothing.
+-- The model of an admitted design is bounded: each bond is finite, and at most 73,728 in size. Assumes nothing.
 use mathlib.Core.Path.{◌≡◌}
 use mathlib.Core.Bool.{true, false, ◌||◌}
 use Prim.Native.Nat.{ℕ, ◌+◌, ◌*◌, ◌<◌}
@@ -26,13 +26,13 @@ use Rattle.design.proofs.FriendLaws.{friends-right, friend-tested}
 use Rattle.design.proofs.Concentrations.{held, not_beyond, read-passes, friend-looked-at, potential-double}
 
 -- (dG − excess × dS) / RT is at most (1,024 + 1,024 × 8) × 8 in size
-bond-within : (dg ds excess rt : Float) → Within binary64 1024 dg → Within binary64 8 ds → Within binary64 1024 excess → T (fits binary64 rt) → in_range (plus 125 3) (plus 8 0) rt ≡ true
-    → Within binary64 80000 (bond_of dg ds excess rt)
-bond-within dg ds excess rt p q e t r =
+bond-tight : (dg ds excess rt : Float) → Within binary64 1024 dg → Within binary64 8 ds → Within binary64 1024 excess → T (fits binary64 rt) → in_range (plus 125 3) (plus 8 0) rt ≡ true
+    → Within binary64 73728 (bond_of dg ds excess rt)
+bond-tight dg ds excess rt p q e t r =
     let heat = mul-within binary64 1024 8 excess ds e q (lit≤ tt) in
     let energy = sub_within binary64 1024 8192 dg (mul binary64 excess ds) p heat (lit≤ tt) in
     let w = rt-range rt t r in
-    weaken 80000 (lit≤ tt) (div-within binary64 9216 8 (sub binary64 dg (mul binary64 excess ds)) rt energy w.size.real w.eighths (lit≤ tt))
+    div-within binary64 9216 8 (sub binary64 dg (mul binary64 excess ds)) rt energy w.size.real w.eighths (lit≤ tt)
 
 module _ (d : Design) (doubles : Doubles d) (a : Admitted d) where
   z : Sized d
@@ -66,21 +66,28 @@ module _ (d : Design) (doubles : Doubles d) (a : Admitted d) where
       neither (beyond 1024 d.ambient.strand_excess.0) (beyond 1024 d.ambient.scaffold_excess.0)
       (neither (outside (nearest (plus 125 3)) (nearest (plus 8 0)) d.ambient.rt.0) (beyond 1024 d.ambient.strand_excess.0 || beyond 1024 d.ambient.scaffold_excess.0) a.ambient).1
 
-  pub strand-bond-within : (x y : ℕ) → x < strands d → y < strands d → Within binary64 80000 (strand_bond_in d x y)
+  pub strand-bond-tight : (x y : ℕ) → x < strands d → y < strands d → Within binary64 73728 (strand_bond_in d x y)
   unfolding strand_bond
-  strand-bond-within x y h k =
+  strand-bond-tight x y h k =
       let e : east d.glues x < 64 = z.glues-low _ (omega arith) in
       let w : west d.glues y < 64 = z.glues-low _ (omega arith) in
-      bond-within (cell d.dg (east d.glues x) (west d.glues y)) (cell d.ds (east d.glues x) (west d.glues y)) _ _ (dg-in (east d.glues x) (west d.glues y) e w) (ds-in (east d.glues x) (west d.glues y) e w)
+      bond-tight (cell d.dg (east d.glues x) (west d.glues y)) (cell d.ds (east d.glues x) (west d.glues y)) _ _ (dg-in (east d.glues x) (west d.glues y) e w) (ds-in (east d.glues x) (west d.glues y) e w)
       (not_beyond 1024 (lit≤ tt) _ doubles.strand-excess excesses-in.0) doubles.rt rt-in
 
-  pub scaffold-bond-within : (i x : ℕ) → i < positions d → x < strands d → Within binary64 80000 (scaffold_bond_in d i x)
+  pub scaffold-bond-tight : (i x : ℕ) → i < positions d → x < strands d → Within binary64 73728 (scaffold_bond_in d i x)
   unfolding scaffold_bond
-  scaffold-bond-within i x h k =
+  scaffold-bond-tight i x h k =
       let g : scaffold_glue d i < 64 = z.scaffold-low i h in
       let b : bottom d.glues x < 64 = z.glues-low _ (omega arith) in
-      bond-within (cell d.dg (scaffold_glue d i) (bottom d.glues x)) (cell d.ds (scaffold_glue d i) (bottom d.glues x)) _ _ (dg-in (scaffold_glue d i) (bottom d.glues x) g b) (ds-in (scaffold_glue d i) (bottom d.glues x) g b)
+      bond-tight (cell d.dg (scaffold_glue d i) (bottom d.glues x)) (cell d.ds (scaffold_glue d i) (bottom d.glues x)) _ _ (dg-in (scaffold_glue d i) (bottom d.glues x) g b) (ds-in (scaffold_glue d i) (bottom d.glues x) g b)
       (not_beyond 1024 (lit≤ tt) _ doubles.scaffold-excess excesses-in.1) doubles.rt rt-in
+
+  -- the laws of models ask for 80,000
+  pub strand-bond-within : (x y : ℕ) → x < strands d → y < strands d → Within binary64 80000 (strand_bond_in d x y)
+  strand-bond-within x y h k = weaken 80000 (lit≤ tt) (strand-bond-tight x y h k)
+
+  pub scaffold-bond-within : (i x : ℕ) → i < positions d → x < strands d → Within binary64 80000 (scaffold_bond_in d i x)
+  scaffold-bond-within i x h k = weaken 80000 (lit≤ tt) (scaffold-bond-tight i x h k)
 
   -- a friend's potential was looked at
   potential-in : (i x : ℕ) → Friend (model_of d) i x → Within binary64 1024 (potential d x)

@@ -16,6 +16,7 @@ pub mod BoundLaws
 pub mod Lowest
 pub mod Replies
 pub mod Places
+pub mod Beside
 pub mod Finite
 pub mod Unread
 pub mod ReadLogarithms

@@ -43,19 +43,19 @@ module _ (d : Design) where
   pub friends-places : (i : ℕ) (entries : List ℕ) → PlacesRight d (first_of (friends_checks d i entries))
   friends-places i entries = places-right d (no_position d i || not (eqb (length entries) 64)) [] [] tt tt
 
-  count-own : Placeless (own_count_checks d)
+  pub count-own : Placeless (own_count_checks d)
   count-own = (refl, (λ k. omega arith), (λ k. omega arith), (λ k. omega arith), tt)
 
   pub count-places : PlacesRight d (first_of (count_checks d))
   count-places = places-right d false (own_count_checks d) [] count-own tt
 
-  rank-own : (rank : ℕ) → Placeless (own_rank_checks d rank)
+  pub rank-own : (rank : ℕ) → Placeless (own_rank_checks d rank)
   rank-own rank = (refl, (λ k. omega arith), (λ k. omega arith), (λ k. omega arith), (refl, (λ k. omega arith), (λ k. omega arith), (λ k. omega arith), tt))
 
   pub rank-places : (rank : ℕ) (entries : List ℕ) → PlacesRight d (first_of (rank_checks d rank entries))
   rank-places rank entries = places-right d (not (eqb (length entries) (positions d))) (own_rank_checks d rank) [] (rank-own rank) tt
 
-  energy-own : (s : List ℕ) → Placeless (own_energy_checks d s)
+  pub energy-own : (s : List ℕ) → Placeless (own_energy_checks d s)
   energy-own s = (refl, (λ k. omega arith), (λ k. omega arith), (λ k. omega arith), tt)
 
   pub energy-places : (s : List ℕ) → PlacesRight d (first_of (energy_checks d s))

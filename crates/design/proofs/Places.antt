@@ -148,7 +148,7 @@ refusal_place : Reply → Option ℕ
 refusal_place (Ok u) = None
 refusal_place (Err refused) = refused.place
 
-refusal-place : {q r : Refusal} {o p : Option ℕ} → refuses q o ≡ refuses r p → o ≡ p
+pub refusal-place : {q r : Refusal} {o p : Option ℕ} → refuses q o ≡ refuses r p → o ≡ p
 unfolding refusal_place
 refusal-place e = ap refusal_place e
 

@@ -1,6 +1,6 @@
 -- What the place of a refused design is: of the numbers of its kind, in their order, the lowest that is out. proofs/Places.antt shows it of every
 -- call that takes a design.
-use Rattle.std.specs.Prelude.{◌≡◌, Bool, true, false, cond, List, [], ◌∷◌, ℕ, ◌+◌, ◌-◌, ◌<◌, ltb, get_or, Float, Option, None, Some}
+use Rattle.std.specs.Prelude.{◌≡◌, ◌⊎◌, Bool, true, false, cond, List, [], ◌∷◌, ℕ, ◌+◌, ◌-◌, ◌<◌, ltb, get_or, Float, Option, None, Some}
 use Rattle.doubles.specs.Decimal.{zero}
 use Rattle.reply.specs.Limits.{cell_count, most_dg, most_ds}
 use Rattle.reply.specs.Number.{number_of, Reply}
@@ -9,7 +9,7 @@ use Rattle.reply.specs.declared.Refusal.TheVariants.{OutOfRange, AmbientOut, Pot
 use Rattle.units.specs.declared.Ambient.{Ambient}
 use Rattle.design.specs.Design.{Design, strands}
 use Rattle.reply.specs.First.{refuses}
-use Rattle.design.specs.Checks.{beyond, rt_out, strand_excess_out, scaffold_excess_out, unfit}
+use Rattle.design.specs.Checks.{beyond, cells_out, rt_out, strand_excess_out, scaffold_excess_out, unfit}
 
 -- the cell of a number is out: the cell [row][column] of dG has 64 × row + column, that of dS 4,096 more
 abbrev pub cell_out : List Float → List Float → ℕ → Bool
@@ -46,3 +46,10 @@ pub record PlacesRight (d : Design) (reply : Reply) : Type 0 where
       → (number_of refusal ≡ 16 → ⊥)
       → (number_of refusal ≡ 17 → ⊥)
       → place ≡ None
+
+-- the same of a call that finds something else out of range too, which is no cell and has no place
+pub record PlacesBeside (d : Design) (own_range : Bool) (reply : Reply) : Type 0 where
+  -- where nothing else is out, or a cell is, the places are those of every call
+  pub right : (own_range ≡ false) ⊎ (cells_out d.dg d.ds ≡ true) → PlacesRight d reply
+  -- and else there is none
+  pub nowhere : own_range ≡ true → cells_out d.dg d.ds ≡ false → (refusal : Refusal) (place : Option ℕ) → reply ≡ refuses refusal place → place ≡ None

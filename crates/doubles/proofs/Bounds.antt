@@ -1,9 +1,9 @@
--- Bounds that a range test gives, and that a left-to-right sum of bounded terms keeps. Assumes nothing.
+-- Bounds that a range test gives and takes, and that a left-to-right sum of bounded terms keeps. Assumes nothing.
 use mathlib.Core.Path.{◌≡◌, refl, ◌∙◌}
 use mathlib.Core.Bool.{Bool, true, false}
 use mathlib.Core.List.{List, [], ◌∷◌}
-use Prim.Native.Nat.{ℕ, suc, ◌+◌, ◌*◌, ◌^◌, ◌≤◌}
-use native.Mathlib.Nat.{le_of_eq, lt_of_le_of_lt, suc-mul}
+use Prim.Native.Nat.{ℕ, suc, ◌+◌, ◌*◌, ◌^◌, ◌≤◌, zero-le}
+use native.Mathlib.Nat.{le_trans, le_of_eq, lt_of_le_of_lt, suc-mul}
 use native.Mathlib.Omega.{arith}
 use lib.Dec.{T, lit≤}
 use lib.ListN.{length}
@@ -11,7 +11,7 @@ use lib.Ieee.{Float, nan, inf, fin, Format, binary64, prec, low, round, neg, add
 use lib.Ieee.Fits.{round-fits}
 use lib.Ieee.Scale.{finite}
 use Rattle.lists.specs.Each.{Each}
-use Rattle.lists.proofs.Tests.{both}
+use Rattle.lists.proofs.Tests.{both, and_both}
 use Rattle.doubles.specs.Decimal as Decimal
 use Rattle.doubles.specs.Decimal.{plus, minus, nearest}
 use Rattle.doubles.specs.Range.{within, in_range}
@@ -19,8 +19,8 @@ use Rattle.doubles.specs.Sum.{sum_from}
 use Rattle.doubles.specs.Size.{sgn, mag, Real, Within, negative_zero}
 use Rattle.doubles.specs.Order.{over, under, Le}
 use Rattle.doubles.proofs.Size.{grid-whole, round-mag, finite-of-mag, whole-lt}
-use Rattle.doubles.proofs.Order.{le-yes→Le}
-use Rattle.doubles.proofs.Sums.{weaken, parts-mag, over-le, under-le, neg-real, neg-over, neg-under, add-within}
+use Rattle.doubles.proofs.Order.{le-yes→Le, Le→le}
+use Rattle.doubles.proofs.Sums.{weaken, parts-mag, over-le, under-le, round-over, round_under, neg-real, neg-over, neg-under, add-within}
 use Rattle.doubles.proofs.Products.{within-between, at_least, not_negative}
 use Rattle.doubles.proofs.NegativeZero.{add-not}
 
@@ -63,6 +63,28 @@ whole s A h =
 pub in-range-within : (A : ℕ) → A ≤ 2 ^ prec binary64 → (x : Float) → T (fits binary64 x) → in_range (minus A 0) (plus A 0) x ≡ true → Within binary64 A x
 unfolding in_range nearest
 in-range-within A h x t e = (test-within A (round binary64 true A 1) x (round binary64 false A 1) (whole true A h) (whole false A h) t e).0
+
+-- and the other way round: what is at most A in size passes the test of that range
+is_true : (b : Bool) → T b → b ≡ true
+is_true true h = refl
+is_true false h = absurd h
+
+pub within-passes : (A : ℕ) → A ≤ 2 ^ prec binary64 → (x : Float) → Within binary64 A x → within (round binary64 true A 1) (round binary64 false A 1) x ≡ true
+within-passes A h x w =
+    and_both (is_true (le (round binary64 true A 1) x) (Le→le binary64 (round binary64 true A 1) x (whole true A h).real w.real above))
+    (is_true (le x (round binary64 false A 1)) (Le→le binary64 x (round binary64 false A 1) w.real (whole false A h).real below))
+  where
+    above : Le binary64 (round binary64 true A 1) x
+    above = record {
+      rise = rw (round-over binary64 true A 1) zero-le;
+      fall = rw (round_under binary64 true A 1 ∙ grid-whole binary64 A h) (le_trans (under-le binary64 x) w.size);
+    }
+
+    below : Le binary64 x (round binary64 false A 1)
+    below = record {
+      rise = rw (round-over binary64 false A 1 ∙ grid-whole binary64 A h) (le_trans (over-le binary64 x) w.size);
+      fall = rw (round_under binary64 false A 1) zero-le;
+    }
 
 -- RT is at most 8, and at least 1 / 8
 eighth : Within binary64 8 (nearest (plus 125 3))

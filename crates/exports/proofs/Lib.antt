@@ -1,1 +1,2 @@
 mod Tabled
+pub mod ByLogarithms

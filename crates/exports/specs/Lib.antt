@@ -1,6 +1,7 @@
 pub mod Copied
 pub mod Flag
 pub mod Lent
+pub mod ByLogarithms
 pub mod Lowest
 pub mod Place
 pub mod Stored

@@ -11,7 +11,7 @@ use Rattle.model.specs.States.{each_before, listing}
 use Rattle.partition.specs.Constraint.{allows, meets}
 use Rattle.partition.specs.Pass.{allowed, none_left}
 
-keep_append : {A : Type 0} (p : A → Bool) (xs ys : List A) → keep p (xs ++ ys) ≡ keep p xs ++ keep p ys
+pub keep_append : {A : Type 0} (p : A → Bool) (xs ys : List A) → keep p (xs ++ ys) ≡ keep p xs ++ keep p ys
 unfolding keep
 keep_append p [] ys = refl
 keep_append p (x ∷ xs) ys = go (p x) (keep_append p xs ys)

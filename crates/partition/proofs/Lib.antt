@@ -2,8 +2,11 @@ pub mod Loss
 pub mod Cuts
 pub mod Exact
 pub mod Passed
+pub mod Through
 pub mod Constraint
 pub mod Units
 pub mod Lifted
 pub mod Summed
 pub mod Sums
+pub mod OneOf
+pub mod AtPosition

@@ -1,10 +1,10 @@
 -- What the pass over the positions loses of the exact sum: 65 operations for each later position, and 63 for the first. Assumes nothing.
 use mathlib.Core.Path.{◌≡◌, refl, sym, subst}
 use mathlib.Core.List.{List, [], ◌∷◌, Memᴰ}
-use Prim.Native.Nat.{ℕ, suc, ◌+◌, ◌-◌, ◌*◌, ◌^◌, ◌≤◌}
-use native.Mathlib.Nat.{le_trans, add_assoc, add-zero}
+use Prim.Native.Nat.{ℕ, zero, suc, ◌+◌, ◌-◌, ◌*◌, ◌^◌, ◌≤◌}
+use native.Mathlib.Nat.{le_trans, add_assoc, add-zero, not-suc-le-zero}
 use native.Mathlib.Omega.{arith}
-use lib.ListN.{length}
+use lib.ListN.{length, get_or, drop}
 use Rattle.partition.specs.declared.Term.{Term}
 use Rattle.partition.specs.Terms.{size, Normal, times, plus}
 use Rattle.partition.specs.Pass.{sum_from, sum_terms, passed, passed_whole}
@@ -78,6 +78,15 @@ module _ (place pair : ℕ → ℕ → Term) where
   usable-some : (most i : ℕ) (here : List ℕ) (later : List (List ℕ)) → Usable most i here later → Some here
   usable-some most i here [] u = u.0
   usable-some most i here (next ∷ later) u = u.0
+
+  -- and so of those from a position on
+  pub usable-from : (most k i : ℕ) (here : List ℕ) (later : List (List ℕ)) → Usable most i here later → k ≤ length later → Usable most (i + k) (get_or (here ∷ later) k []) (drop k later)
+  usable-from most zero i here later u h = rw (add-zero i) u
+  usable-from most (suc k) i here [] u h = absurd (not-suc-le-zero h)
+  usable-from most (suc k) i here (next ∷ later) u h = rw (shift i k) (usable-from most k (suc i) next later u.3 (omega arith))
+    where
+      shift : (i k : ℕ) → i + suc k ≡ suc i + k
+      shift i k = omega arith
 
   -- 65 operations for each later position: a product with a pair's factor, 63 sums, a product with a place's factor
   pub passed-holds : (most i : ℕ) (here : List ℕ) (later : List (List ℕ)) → Usable most i here later → (x : ℕ) → Memᴰ x here

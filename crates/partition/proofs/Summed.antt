@@ -86,10 +86,10 @@ module _ (bias : ℕ) (B : 30 ≤ bias) (place pair : ℕ → ℕ → Weight) wh
       let g = h refl in
       (record { form = record { least = g.form.least; most = g.form.most }; low = g.low }, lifted-scaled bias B w g.reaches)
 
-  abbrev P : ℕ → ℕ → Term
+  abbrev pub P : ℕ → ℕ → Term
   P = place_term bias place pair
 
-  abbrev Q : ℕ → ℕ → Term
+  abbrev pub Q : ℕ → ℕ → Term
   Q = pair_term bias place pair
 
   place-factor : (i x : ℕ) → PlaceFit bias place i x → Fit (2 * bias) (P i x) × Scaled (2 ^ bias) (size (P i x)) (place_factor (λ i x. worth (place i x)) (λ x y. worth (pair x y)) i x)
@@ -113,7 +113,7 @@ module _ (bias : ℕ) (B : 30 ≤ bias) (place pair : ℕ → ℕ → Weight) wh
   usable i here (next ∷ later) u f e =
       (some here (next ∷ later) f.0 e, λ x m. (place-factor i x (u.0 x m)).0, λ x y m k. (pair-factor x y (u.1 x y m k)).0, usable (suc i) next later u.2 f.1 (some-later here (next ∷ later) e))
 
-  counted : (i : ℕ) (here : List ℕ) (later : List (List ℕ)) → Used (PlaceFit bias place) (PairFit bias pair) i (here ∷ later) → Counted (2 ^ bias) (λ i x. worth (place i x)) (λ x y. worth (pair x y)) (λ i x. size (P i x)) (λ x y. size (Q x y)) i here later
+  pub counted : (i : ℕ) (here : List ℕ) (later : List (List ℕ)) → Used (PlaceFit bias place) (PairFit bias pair) i (here ∷ later) → Counted (2 ^ bias) (λ i x. worth (place i x)) (λ x y. worth (pair x y)) (λ i x. size (P i x)) (λ x y. size (Q x y)) i here later
   counted i here [] u = λ x m. (place-factor i x (u x m)).1
   counted i here (next ∷ later) u = (λ x m. (place-factor i x (u.0 x m)).1, λ x y m k. (pair-factor x y (u.1 x y m k)).1, counted (suc i) next later u.2)
 
@@ -126,10 +126,10 @@ module _ (bias : ℕ) (B : 30 ≤ bias) (place pair : ℕ → ℕ → Weight) wh
 
   -- ---- the answer
 
-  answered-none : (several : List (List ℕ)) → several ≡ [] → SumWithin place_worth pair_worth several zero_weight
+  pub answered-none : (several : List (List ℕ)) → several ≡ [] → SumWithin place_worth pair_worth several zero_weight
   answered-none several e = rw e refl
 
-  answered-some : (several : List (List ℕ)) → (several ≡ [] → ⊥) → (w : Weight) → InForm w → WithinPart 15 0 (exactly (sum_over place_worth pair_worth several)) (worth w) → SumWithin place_worth pair_worth several w
+  pub answered-some : (several : List (List ℕ)) → (several ≡ [] → ⊥) → (w : Weight) → InForm w → WithinPart 15 0 (exactly (sum_over place_worth pair_worth several)) (worth w) → SumWithin place_worth pair_worth several w
   answered-some [] h w f p = absurd (h refl)
   answered-some (_ ∷ _) h w f p = (f, p)
 

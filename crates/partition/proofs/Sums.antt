@@ -103,7 +103,7 @@ few (here ∷ later) h = (rw (length-append here (0 ∷ [])) (let l = h 0 in ome
 
 -- ---- lists that are all empty leave every option
 
-keep_all : (xs : List ℕ) → keep (allows []) xs ≡ xs
+pub keep_all : (xs : List ℕ) → keep (allows []) xs ≡ xs
 unfolding keep allows
 keep_all [] = refl
 keep_all (x ∷ xs) = ap (x ∷◌) (keep_all xs)

@@ -1,6 +1,6 @@
 -- The pass over the positions, from the last to the first: for each option of a position a term that holds all that can follow it. It needs no trust:
 -- proofs/Summed.antt shows that its sum is the one that is asked for.
-use Rattle.std.specs.Prelude.{Bool, true, false, ℕ, suc}
+use Rattle.std.specs.Prelude.{Bool, true, false, ℕ, zero, suc, get_or, drop}
 use mathlib.Core.List.{List, [], ◌∷◌}
 use Rattle.lists.specs.Build.{keep}
 use Rattle.partition.specs.declared.Term.{Term}
@@ -34,6 +34,19 @@ module _ (place pair : ℕ → ℕ → Term) where
   unfoldable pub passed_whole : List ℕ → List (List ℕ) → Term
   unfolding passed sum_terms
   passed_whole here later = sum_terms (passed 0 later) here
+
+-- ---- the pass the other way: what can stand before an occupant
+
+module _ (place pair : ℕ → ℕ → Term) (start : Term) (options : List (List ℕ)) where
+  -- the term of all that can stand before an occupant of a position, their pairs with it among them; before the first position, the start
+  unfoldable pub before : ℕ → ℕ → Term
+  unfolding times sum_terms
+  before zero x = start
+  before (suc i) x = sum_terms (λ z. times (times (before i z) (place i z)) (pair z x)) (get_or options i [])
+
+  -- the term of all states that have an occupant at a position: what can stand before it, times it with what can follow
+  abbrev pub through : ℕ → ℕ → Term
+  through i x = times (before i x) (passed place pair i (drop (suc i) options) x)
 
 -- ---- the options that a constraint leaves
 

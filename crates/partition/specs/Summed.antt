@@ -1,15 +1,16 @@
 -- The sum that the pass gives over weights: their exponents moved up by a bias, so that none is negative, and moved back at the end. The bias of document
 -- 02's weights is 400,000; it stays a variable here, so that no power of two of that size is worked out. It needs no trust: proofs/Summed.antt.
-use Rattle.std.specs.Prelude.{Bool, ◌||◌, ℕ, zero, suc, ◌+◌, ◌-◌, ◌*◌, ◌^◌, eqb, ℤ, pos, negsuc, length}
+use Rattle.std.specs.Prelude.{Bool, ◌||◌, ℕ, zero, suc, ◌+◌, ◌-◌, ◌*◌, ◌^◌, eqb, ℤ, pos, negsuc, length, get_or}
 use Rattle.std.proofs.Math.Bool.{cond}
 use mathlib.Core.List.{List, [], ◌∷◌}
 use Rattle.std.proofs.Math.IntN.{sub_ℕ}
 use Rattle.fractions.specs.declared.Weight.{Weight}
 use Rattle.fractions.specs.Weight.{weight, unit}
+use Rattle.lists.specs.Find.{any}
 use Rattle.model.specs.Model.{Model, options}
 use Rattle.partition.specs.declared.Term.{Term}
 use Rattle.partition.specs.Terms.{term}
-use Rattle.partition.specs.Pass.{passed_whole, allowed, none_left}
+use Rattle.partition.specs.Pass.{sum_terms, passed_whole, before, through, allowed, none_left}
 use Rattle.partition.specs.Sum.{zero_weight}
 use Rattle.partition.specs.Weights.{Weights, place_weight, pair_weight}
 
@@ -59,6 +60,24 @@ module _ (bias : ℕ) (place pair : ℕ → ℕ → Weight) where
   unfolding none_left passed_sum
   summed options = cond (none_left options) zero_weight (passed_sum options)
 
+  -- the sum over the states that have an occupant at a position, as it comes from both ends: a product more, with the start
+  abbrev pub through_term : List (List ℕ) → ℕ → ℕ → Term
+  through_term options = through place_term pair_term (one_term bias) options
+
+  -- a sum of these as a weight
+  abbrev pub lowered_at : List (List ℕ) → Term → Weight
+  lowered_at options t = lowered bias (length options + length options) t
+
+  -- over all occupants of the position, which is the sum over all states
+  unfoldable pub summed_at : List (List ℕ) → ℕ → Weight
+  unfolding before
+  summed_at options i = lowered_at options (sum_terms (through_term options i) (get_or options i []))
+
+  -- of one; of what is no option there it is zero
+  unfoldable pub occupant_sum : List (List ℕ) → ℕ → ℕ → Weight
+  unfolding before any
+  occupant_sum options i x = cond (any (eqb x) (get_or options i [])) (lowered_at options (through_term options i x)) zero_weight
+
 -- ---- of a model and lent weights
 
 -- over any options
@@ -72,3 +91,11 @@ free_figure m w = sum_of_weights w (options m)
 -- the constrained sum's figure
 abbrev pub constrained_figure : Model → Weights → List (List ℕ) → Weight
 constrained_figure m w lists = sum_of_weights w (allowed lists (options m))
+
+-- the sum over all states by the occupants of a position
+abbrev pub sum_at : Weights → List (List ℕ) → ℕ → Weight
+sum_at w = summed_at 400000 (place_weight w) (pair_weight w)
+
+-- and that over the states that have one of them there
+abbrev pub occupant_sum_at : Weights → List (List ℕ) → ℕ → ℕ → Weight
+occupant_sum_at w = occupant_sum 400000 (place_weight w) (pair_weight w)

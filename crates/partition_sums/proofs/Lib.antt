@@ -4,3 +4,5 @@ pub mod Positions
 pub mod Keeping
 pub mod Outs
 pub mod Options
+pub mod BothEnds
+pub mod EndCells

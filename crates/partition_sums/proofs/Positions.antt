@@ -22,13 +22,14 @@ use Rattle.partition.specs.Sum.{zero_weight}
 use Rattle.partition.specs.Summed.{factor_term, factors, lowered, passed_sum, summed, sum_of_weights}
 use Rattle.partition.specs.inner.Used.{Weighs, Fit, PlaceFit, PairFit, Used, InUse}
 use Rattle.partition.proofs.Cuts.{times_cut}
-use Rattle.partition.proofs.Passed.{Usable, passed-holds, whole-holds}
+use Rattle.partition.proofs.Passed.{Usable, usable-from, passed-holds, whole-holds}
+use Rattle.partition.proofs.AtPosition.{mem_index}
 use Rattle.partition.proofs.Summed.{Few, not-zero, or_left, or_right, usable}
 use Rattle.partition_sums.specs.Layout.{options_at, options_in, options_of, weights_of}
 use Rattle.partition_sums.specs.declared.lent.Lent.{Lent}
 use Rattle.partition_sums.specs.declared.lent.Formed.{Formed}
 use Rattle.partition_sums.specs.inner.Rows.{place_term, pair_term, row_term, joined, Joins, Row}
-use Rattle.partition_sums.proofs.Rowed.{mem_index, sum-fit, sum-terms-same, step-passed}
+use Rattle.partition_sums.proofs.Rowed.{sum-fit, sum-terms-same, step-passed}
 
 -- ---- what holds of options holds of those from a position on
 
@@ -40,15 +41,6 @@ used-from Place Pair (suc k) i (here ∷ []) u h = absurd (not-suc-le-zero (le-o
     le-of-suc : suc (suc k) ≤ 1 → suc k ≤ 0
     le-of-suc g = omega arith
 used-from Place Pair (suc k) i (here ∷ next ∷ later) u h = rw (shift i k) (used-from Place Pair k (suc i) (next ∷ later) u.2 (omega arith))
-  where
-    shift : (i k : ℕ) → i + suc k ≡ suc i + k
-    shift i k = omega arith
-
-usable-from : (place pair : ℕ → ℕ → Term) (most k i : ℕ) (here : List ℕ) (later : List (List ℕ)) → Usable place pair most i here later → k ≤ length later
-    → Usable place pair most (i + k) (get_or (here ∷ later) k []) (drop k later)
-usable-from place pair most zero i here later u h = rw (add-zero i) u
-usable-from place pair most (suc k) i here [] u h = absurd (not-suc-le-zero h)
-usable-from place pair most (suc k) i here (next ∷ later) u h = rw (shift i k) (usable-from place pair most k (suc i) next later u.3 (omega arith))
   where
     shift : (i k : ℕ) → i + suc k ≡ suc i + k
     shift i k = omega arith
@@ -158,20 +150,20 @@ module _ (s : Formed) where
   used-at i h = rw (zero-add i) at (used-from (PlaceFit 400000 (place_weight w)) (PairFit 400000 (pair_weight w)) i 0 (options_of l.options) s.in_use (rw (options-length (searchable l)) h))
 
   -- each option's weight at its position is in form, and so is that of two neighbours
-  place-form : (i x : ℕ) → i < length l.options.counts.now → Memᴰ x (here l i) → PlaceFit 400000 (place_weight w) i x
+  pub place-form : (i x : ℕ) → i < length l.options.counts.now → Memᴰ x (here l i) → PlaceFit 400000 (place_weight w) i x
   place-form i x h m = go (drop (i + 1) (options_of l.options)) (subst (λ (o : List (List ℕ)). InUse w i o) (options-from (searchable l) i h) (used-at i h))
     where
       go : (later : List (List ℕ)) → InUse w i (here l i ∷ later) → PlaceFit 400000 (place_weight w) i x
       go [] v = v x m
       go (next ∷ later) v = v.0 x m
 
-  pair-form : (i x y : ℕ) → i + 1 < length l.options.counts.now → Memᴰ x (here l i) → Memᴰ y (here l (i + 1)) → PairFit 400000 (pair_weight w) x y
+  pub pair-form : (i x y : ℕ) → i + 1 < length l.options.counts.now → Memᴰ x (here l i) → Memᴰ y (here l (i + 1)) → PairFit 400000 (pair_weight w) x y
   pair-form i x y h m k =
       let h' : i < length l.options.counts.now = omega arith in
       let v = subst (λ (o : List (List ℕ)). InUse w i o) (options-from (searchable l) i h' ∙ ap (here l i ∷◌) (options-from (searchable l) (i + 1) h)) (used-at i h') in
       v.1 x y m k
 
-  usable_at : (i : ℕ) → i < length l.options.counts.now → Usable (place_term w) (pair_term w) 800000 i (here l i) (drop (i + 1) (options_of l.options))
+  pub usable_at : (i : ℕ) → i < length l.options.counts.now → Usable (place_term w) (pair_term w) 800000 i (here l i) (drop (i + 1) (options_of l.options))
   usable_at i h =
       let o = options_of l.options in
       let split : o ≡ here l 0 ∷ drop 1 o = options-from (searchable l) 0 s.some in

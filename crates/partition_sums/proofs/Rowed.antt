@@ -1,10 +1,9 @@
 -- A row of terms written by strand, one for each option of a position, and its sums. Assumes nothing.
 use mathlib.Core.Path.{◌≡◌, refl, sym, ap, ◌∙◌, subst}
-use mathlib.Core.Logic.{◌⊎◌, inl, inr, ◌≢◌}
-use mathlib.Core.List.Memᴰ
+use mathlib.Core.Logic.{◌≢◌}
 use mathlib.Core.List.{List, [], ◌∷◌, Memᴰ}
 use Prim.Native.Nat.{ℕ, suc, ◌+◌, ◌-◌, ◌^◌, ◌≤◌, ◌<◌}
-use native.Mathlib.Nat.{zero-lt-suc, not-suc-le-zero, lt_of_not-le, add_comm}
+use native.Mathlib.Nat.{not-suc-le-zero, lt_of_not-le, add_comm}
 use native.Mathlib.Numerals.{add-one}
 use native.Mathlib.Omega.{arith}
 use native.Mathlib.Decide.{dec_le, ℕ_discrete}
@@ -18,6 +17,7 @@ use Rattle.partition.specs.Pass.{sum_from, sum_terms, passed}
 use Rattle.partition.specs.Weights.{Weights}
 use Rattle.partition.specs.inner.Used.{Fit}
 use Rattle.partition.proofs.Passed.{Some, fit-holds, sum_terms-some}
+use Rattle.partition.proofs.AtPosition.{mem_index}
 use Rattle.partition_sums.specs.inner.Rows.{place_term, pair_term, row_term, joined}
 
 -- ---- the sum left to right, from place k on
@@ -50,14 +50,6 @@ module _ (xs : List ℕ) where
   rest-past i h = let n = ap length rest-is ∙ length-drop 1 xs in omega arith
 
 -- ---- a sum over options has its form
-pub mem_index : {y : ℕ} (xs : List ℕ) → Memᴰ y xs → (k : ℕ) × (k < length xs) × (y ≡ get_or xs k 0)
-mem_index [] m = absurd (Memᴰ.not-nil m)
-mem_index {y} (x ∷ xs) m = go (Memᴰ.cases_cons m) (λ l. mem_index xs l)
-  where
-    go : (y ≡ x) ⊎ Memᴰ y xs → (Memᴰ y xs → (k : ℕ) × (k < length xs) × (y ≡ get_or xs k 0)) → (k : ℕ) × (k < suc (length xs)) × (y ≡ get_or (x ∷ xs) k 0)
-    go (inl e) rest = (0, zero-lt-suc (length xs), e)
-    go (inr l) rest = let w = rest l in (suc w.0, omega (arith, w.1), w.2)
-
 some_of : (xs : List ℕ) → 0 < length xs → length xs ≤ 64 → Some xs
 some_of [] h l = absurd (not-suc-le-zero h)
 some_of (x ∷ xs) h l = record { first = x; rest = xs; split = refl; few = omega arith }

@@ -12,7 +12,7 @@ use ensemble::options::Options;
 use partition::Term;
 
 // The factor of an empty place, and of a pair with one: 2^30 2^-30, as a term.
-const ONE: Term = Term {
+pub(crate) const ONE: Term = Term {
     digits: 0x4000_0000,
     power: HIGHEST as u64 - 30,
 };

@@ -4,6 +4,7 @@
 
 mod allowed;
 pub mod constraint;
+pub mod ends;
 pub mod forms;
 pub mod lent;
 mod rows;

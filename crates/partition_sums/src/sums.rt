@@ -24,7 +24,10 @@ pub fn free_sum(formed: &Formed<'_, '_>) -> Weight
     for position in (0..positions - 1).rev() {
         row = row_before(formed, position, &row);
     }
-    lowered(sum_terms(options.of(0), |x| row[usize::from(x)]), positions)
+    lowered(
+        sum_terms(options.of(0), |x| row[usize::from(x)]),
+        2 * positions - 1,
+    )
 }
 
 // The sum over the states that meet a constraint: zero where it leaves a position no option, before any arithmetic.

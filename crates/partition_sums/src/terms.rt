@@ -3,7 +3,7 @@ ghost use Rattle.std.specs.Prelude.{◌≡◌, ◌^◌, ◌<◌, ◌≤◌};
 ghost use Rattle.partition.specs.Terms.{Normal, times, plus_lower, plus};
 ghost use Rattle.partition.specs.Weights as Weights;
 ghost use Rattle.partition.specs.Summed as Summed;
-ghost use Rattle.partition.specs.Summed.{factors, lifted_term};
+ghost use Rattle.partition.specs.Summed.{lifted_term};
 ghost use Rattle.partition.specs.inner.Used.{Weighs};
 
 use fractions::Weight;
@@ -87,14 +87,14 @@ pub(crate) fn lifted(weight: Weight) -> Term
     }
 }
 
-// A term of a state of so many positions, as a weight: each of its factors was moved up.
-pub(crate) fn lowered(t: Term, positions: usize) -> Weight
+// A term of so many factors, as a weight: each of them was moved up.
+pub(crate) fn lowered(t: Term, factors: usize) -> Weight
     requires digits_bound { t.digits < 2 ^ 31 }
     requires power_bound { t.power ≤ 2 ^ 30 }
-    requires positions_nonzero { (0 < positions) × (positions ≤ 128) }
-    ensures { result ≡ Summed.lowered 400000 (factors positions) t }
+    requires factors_bound { factors ≤ 256 }
+    ensures { result ≡ Summed.lowered 400000 factors t }
 {
-    let moved = HIGHEST as u64 * (2 * positions as u64 - 1);
+    let moved = HIGHEST as u64 * factors as u64;
     Weight {
         digits: t.digits as u32,
         power: (t.power as i64 - moved as i64) as i32,

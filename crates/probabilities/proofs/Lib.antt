@@ -8,7 +8,10 @@ pub mod Lists
 pub mod NearWeights
 pub mod Used
 pub mod Replies
-pub mod Summable
+pub mod Unread
 pub mod Here
+pub mod Summable
+pub mod Cells
 pub mod Doubled
+pub mod Beyond
 pub mod ZeroAlone

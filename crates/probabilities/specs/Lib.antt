@@ -4,4 +4,6 @@ pub mod Quotient
 pub mod Answers
 pub mod Occupants
 pub mod Double
+pub mod Beyond
+pub mod Unread
 pub mod inner

@@ -1,21 +1,18 @@
-// The probability of each occupant at each position: a constrained sum for each, by the free sum.
-ghost use Rattle.std.specs.Prelude.{◌≡◌, not, ◌||◌, ◌*◌, ◌<◌, ◌≤◌, ltb, eqb, length, get_or};
+// The probability of each occupant at each position: the sum over the states that have it there, by that over all states as it comes at the position, so
+// that an occupant that stands there in every state has 1.
+ghost use Rattle.std.specs.Prelude.{◌≡◌, not, ◌||◌, ◌*◌, ◌<◌, ◌≤◌, ltb, eqb, length};
 ghost use Rattle.model.specs.Model.{options};
 ghost use Rattle.design.specs.Design.{positions, strands, model_of};
-ghost use Rattle.partition.specs.Summed.{sum_of_weights};
 ghost use Rattle.partition_sums.specs.Layout.{options_of, weights_of};
-ghost use Rattle.probabilities.specs.Numbers.{Probability};
 ghost use Rattle.probabilities.specs.Weighed.{WeightsNear};
-ghost use Rattle.probabilities.specs.Occupants.{only_here, OccupantsFilled};
+ghost use Rattle.probabilities.specs.Occupants.{OccupantsFilled};
 
 use super::quotient::quotient;
-use super::weights::fill;
 use design::Design;
 use design::passed::AdmittedDesign;
 use fractions::Weight;
-use partition_sums::constraint::Constraint;
+use partition_sums::ends::fill_sums;
 use partition_sums::lent::Formed;
-use partition_sums::sums::{constrained_sum, free_sum};
 use reply::limits::{POSITIONS, STRANDS};
 
 // Whether there is not one digit and one power for each position and strand. More positions or strands than a design may have are told here too, so that
@@ -31,56 +28,6 @@ pub(crate) fn wrong_entries(design: &Design, digits: usize, powers: usize) -> bo
         || powers != positions * strands
 }
 
-// The constraint of an occupant at one of so many positions: lists that all start at 0, one of length 1 there and the others empty.
-fn only_here<'a>(
-    positions: usize,
-    position: usize,
-    occupant: &'a [u8],
-    starts: &'a mut [usize],
-    lengths: &'a mut [usize],
-) -> Constraint<'a>
-    requires alone { length occupant.now ≡ 1 }
-    requires starts_in_bounds { positions ≤ length starts.old }
-    requires lengths_in_bounds { positions ≤ length lengths.old }
-    requires positions_bound { positions ≤ 128 }
-    requires position_in_bounds { position < positions }
-    ensures { result ≡ only_here positions position (get_or occupant.now 0 0) }
-{
-    let starts = &mut starts[..positions];
-    let lengths = &mut lengths[..positions];
-    starts.fill(0);
-    lengths.fill(0);
-    lengths[position] = 1;
-    Constraint {
-        numbers: occupant,
-        starts,
-        lengths,
-    }
-}
-
-// The probability of an occupant at a position. Of a strand that is no friend there it is zero, without a pass.
-fn occupant_probability(
-    admitted: &AdmittedDesign,
-    formed: &Formed<'_, '_>,
-    free: Weight,
-    position: usize,
-    occupant: u8,
-) -> Weight
-    requires near { WeightsNear (model_of admitted.now) (weights_of formed.now.lent.weights) }
-    requires options { options_of formed.now.lent.options ≡ options (model_of admitted.now) }
-    requires a_count_each { length formed.now.lent.options.counts.now ≡ positions admitted.now }
-    requires free_sum { free ≡ sum_of_weights (weights_of formed.now.lent.weights) (options_of formed.now.lent.options) }
-    requires position_in_bounds { position < positions admitted.now }
-    ensures { Probability (model_of admitted.now) (only_here (positions admitted.now) position occupant) result }
-{
-    let positions = admitted.design.positions();
-    let mut starts = [0; POSITIONS];
-    let mut lengths = [0; POSITIONS];
-    let occupant = [occupant];
-    let constraint = only_here(positions, position, &occupant, &mut starts, &mut lengths);
-    quotient(constrained_sum(formed, &constraint), free)
-}
-
 // Writes the probability of each occupant at each position.
 pub(crate) fn fill_occupants(
     admitted: &AdmittedDesign,
@@ -91,6 +38,7 @@ pub(crate) fn fill_occupants(
     requires near { WeightsNear (model_of admitted.now) (weights_of formed.now.lent.weights) }
     requires options { options_of formed.now.lent.options ≡ options (model_of admitted.now) }
     requires a_count_each { length formed.now.lent.options.counts.now ≡ positions admitted.now }
+    requires wide { formed.now.lent.weights.strands ≡ strands admitted.now }
     requires digits_in_bounds { positions admitted.now * strands admitted.now ≤ length digits.old }
     requires powers_in_bounds { positions admitted.now * strands admitted.now ≤ length powers.old }
     ensures digits_len { length digits.new ≡ length digits.old }
@@ -99,19 +47,15 @@ pub(crate) fn fill_occupants(
 {
     let strands = admitted.design.strands();
     let cells = admitted.design.positions() * strands;
-    let free = free_sum(formed);
-    fill(
-        |cell| {
-            occupant_probability(
-                admitted,
-                formed,
-                free,
-                cell / strands,
-                (cell % strands) as u8,
-            )
-        },
-        cells,
-        digits,
-        powers,
-    );
+    let totals = fill_sums(formed, digits, powers);
+    // By number: nothing is known of what is written through a `zip` of `iter_mut`.
+    for cell in 0..cells {
+        let sum = Weight {
+            digits: digits[cell],
+            power: powers[cell],
+        };
+        let part = quotient(sum, totals[cell / strands]);
+        digits[cell] = part.digits;
+        powers[cell] = part.power;
+    }
 }

@@ -43,6 +43,7 @@ impl Room {
         ensures near { WeightsNear (model_of admitted.now) (weights_of result.lent.weights) }
         ensures options { options_of result.lent.options ≡ options (model_of admitted.now) }
         ensures a_count_each { length result.lent.options.counts.now ≡ positions admitted.now }
+        ensures wide { result.lent.weights.strands ≡ strands admitted.now }
     {
         let Room {
             rows,

@@ -17,6 +17,7 @@ use Rattle.design.specs.Places.{PlacesRight}
 use Rattle.design.proofs.Sizes.{sized}
 use Rattle.design.proofs.Replies.{passed}
 use Rattle.design.proofs.Places.{Placeless, places-right}
+use Rattle.design.proofs.Lowest.{energy-own}
 use Rattle.std.specs.Prelude.{Ok}
 use Rattle.ring.specs.Answers.{least_ring, own_ring_checks, ring_energy_checks, ring_search_checks}
 
@@ -50,14 +51,11 @@ module _ (d : Design) (s : List ℕ) where
   pub ring-search-reply : LowestGiven (ring_search_checks d s) (first_of (ring_search_checks d s))
   ring-search-reply = lowest-given (ring_search_checks d s) tt
 
-  energy-own : Placeless (own_energy_checks d s)
-  energy-own = (refl, (λ k. omega arith), (λ k. omega arith), (λ k. omega arith), tt)
-
   ring-own : Placeless (own_ring_checks d)
   ring-own = (refl, (λ k. omega arith), (λ k. omega arith), (λ k. omega arith), tt)
 
   pub ring-energy-places : PlacesRight d (first_of (ring_energy_checks d s))
-  ring-energy-places = places-right d (not (eqb (length s) (positions d))) (own_energy_checks d s) (own_ring_checks d) energy-own ring-own
+  ring-energy-places = places-right d (not (eqb (length s) (positions d))) (own_energy_checks d s) (own_ring_checks d) (energy-own d s) ring-own
 
   pub ring-search-places : PlacesRight d (first_of (ring_search_checks d s))
   ring-search-places = places-right d (not (eqb (length s) (positions d))) [] (own_ring_checks d) tt ring-own

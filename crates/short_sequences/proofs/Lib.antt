@@ -2,3 +2,4 @@ pub mod Order
 pub mod Lengths
 pub mod Listed
 pub mod Cases
+pub mod Replies

@@ -164,7 +164,7 @@ impl Drawn {
 }
 
 /// The probability of each occupant at each position. Of a long scaffold the tables are of other lengths:
-/// all occupants of 128 positions of 63 friends take seconds.
+/// all occupants of 128 positions of 63 friends take as long as hundreds of other calls.
 pub fn call_of_occupants(asked: &Asked, random: &mut Random, tally: &mut Tally) {
     let cells = asked.positions * asked.strands;
     let lent = |random: &mut Random| match cells > MOST_CELLS {

@@ -1,7 +1,8 @@
 -- The pass over the positions meets its contract. Assumes nothing.
 use mathlib.Core.Path.{◌≡◌, ap, ◌∙◌, subst}
 use mathlib.Core.List.{List}
-use Prim.Native.Nat.{ℕ, ◌≤◌}
+use Prim.Native.Nat.{ℕ, zero, suc, ◌*◌, ◌-◌, ◌≤◌, ◌<◌}
+use native.Mathlib.Nat.{not-suc-le-zero}
 use native.Mathlib.Omega.{arith}
 use borrow.Author.Rules.{rules}
 use lib.ListN.{length, get_or}
@@ -12,6 +13,11 @@ use Rattle.partition_sums.specs.declared.lent.Formed.{Formed}
 use Rattle.partition_sums.specs.inner.Rows.{Row, row_term}
 use Rattle.partition_sums.proofs.Positions.{here, searchable, item-in, row-terms, sum_of_row, row-whole, sum-bounded, sum-lowered}
 use Rattle.partition_sums.proofs.sums.free_sum.Goals as goal
+
+-- a state of n positions has 2 n - 1 factors
+factors-is : (n : ℕ) → 0 < n → 2 * n - 1 ≡ factors n
+factors-is zero h = absurd (not-suc-le-zero h)
+factors-is (suc n) h = omega arith
 
 -- the sum of position 0's row is the definition's
 whole : (f : Formed) (row : List Term) (p : ℕ) (options : List ℕ) → p ≤ 0 → options ≡ here f.lent 0 → Row f.lent p row → sum_terms (row_term row) options ≡ sum_of_row f
@@ -39,11 +45,12 @@ lowered-requires c =
     rw sum (record {
       digits_bound = b.0;
       power_bound = b.1;
-      positions_nonzero = (some, short);
+      factors_bound = omega arith;
     })
 
 pub returns : goal.returns
 returns c =
     let f = c.args.formed.now in
     let sum = c.sum_terms.ensures (row_term c.loop-position.row) (λ k t g e. search rules) ∙ whole f c.loop-position.row c.loop-position.position c.of.result.now c.loop-position-test.false c.of.ensures.row c.loop-position.invariant in
-    c.lowered.ensures ∙ ap (lowered 400000 (factors (length f.lent.options.counts.now))) sum ∙ sum-lowered f
+    let some = f.some in
+    c.lowered.ensures ∙ ap (λ (k : ℕ). lowered 400000 k c.sum_terms.result) (factors-is (length f.lent.options.counts.now) some) ∙ ap (lowered 400000 (factors (length f.lent.options.counts.now))) sum ∙ sum-lowered f

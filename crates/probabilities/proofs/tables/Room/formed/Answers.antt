@@ -28,4 +28,5 @@ returns c =
       near = weights-near d _ wide c.fill_place_weights.ensures.filled c.fill_pair_weights.ensures.filled;
       options = options-in (given.option_rows (model_of d) refl);
       a_count_each = given.counts_len;
+      wide = wide;
     }
