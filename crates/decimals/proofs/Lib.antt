@@ -1,13 +1,8 @@
 pub mod Written
 pub mod Room
-pub mod Values
-pub mod Powers
-pub mod Quotient
-pub mod Bits
 pub mod Worth
 pub mod Patterns
 pub mod Fixed
 pub mod Sizes
 pub mod Nearness
-pub mod Once
 pub mod Back

@@ -55,6 +55,14 @@ closest-nearest a b B =
     decided a b (a / b) (a % b) (div-add-mod' a b) (mod-lt a B) (compare (a % b * 2) b) (leb→le (a % b * 2) b) (nleb→lt (a % b * 2) b) (eqb→eq (a % b * 2) b)
     (λ (e : a % b * 2 ≡ b). subst (λ (x : ℕ). T (eqb (a % b * 2) x)) e (eqb_refl (a % b * 2)))
 
+-- less than a half is nearest to 0
+pub closest-none : (a b : ℕ) → 2 * a < b → closest a b ≡ 0
+closest-none a b h = none (closest a b) ((closest-nearest a b (omega arith)).above)
+  where
+    none : (n : ℕ) → 2 * (n * b) ≤ 2 * a + b → n ≡ 0
+    none zero l = refl
+    none (suc n) l = absurd (omega arith)
+
 pub millionths-nearest : MillionthsNearest
 unfolding millionths
 millionths-nearest x = closest-nearest (mag binary64 x * 10 ^ 6) (2 ^ 1074) (pow_pos 1074)

@@ -3,10 +3,10 @@ use mathlib.Core.Path.{◌≡◌, sym, ap, ◌∙◌, subst}
 use mathlib.Core.Logic.{◌⊎◌, inl, inr}
 use mathlib.Core.Bool.{Bool, true, false}
 use Prim.Native.Nat.{ℕ, zero, suc, ◌+◌, ◌-◌, ◌*◌, ◌/◌, ◌%◌, ◌^◌, ◌≤◌, ◌<◌}
-use native.Mathlib.Nat.{le_trans, le_of_eq, le_of_suc-le-suc, le-add_right, lt_of_lt_of_le, lt_of_le_of_lt, eq-or-lt_of_le, not-suc-le-zero, mod-eq_of_lt, mod-lt, mod-mod, add-sub_of_le, mul_assoc, mul_comm, one-mul, mul-pos, mul-le-mul, mul-le-mul_left, mul-lt-mul_of_pos_right, pow-suc, zero-lt-suc, le-div_iff_mul-le, div-lt_iff_lt-mul}
+use native.Mathlib.Nat.{le_trans, le_of_eq, le_of_suc-le-suc, le-add_right, lt_of_lt_of_le, lt_of_le_of_lt, eq-or-lt_of_le, not-suc-le-zero, mod-eq_of_lt, mod-lt, mod-mod, add-sub_of_le, mul_assoc, mul_comm, mul-le-mul, mul-le-mul_left, mul-lt-mul_of_pos_right, zero-lt-suc, le-div_iff_mul-le, div-lt_iff_lt-mul}
 use native.Mathlib.Omega.{arith}
 use lib.Dec.{T, leb, lit≤}
-use lib.Pow.{pow-add, pow_pos, pow_mono, pow-lt}
+use lib.Pow.{pow-add, pow_pos, pow_mono}
 use borrow.Author.Tests.{le-leb, lt-leb}
 use lib.Ieee.{Float, binary64, of_fields, of_bits, to_bits, fits}
 use lib.Ieee.Bits.{of_bits-to_bits}
@@ -14,29 +14,24 @@ use lib.Ieee.Nearest.{closest, closest_same}
 use Rattle.doubles.specs.Size.{sgn, mag}
 use Rattle.doubles.proofs.Fields.{low-size, normal-size, top-size, same_size, bits-fields, field-most}
 use Rattle.decimals.specs.Print.{millionths, unprintable}
+use Rattle.decimals.proofs.Nearness.{closest-none}
 
--- ---- in limbs
+-- ---- the millionths of a significand
+module _ (m shift : ℕ) (h : m < 2 ^ 53) where
+  few : m * 1000000 < 2 ^ 73
+  few = lt_of_lt_of_le (mul-lt-mul_of_pos_right h (zero-lt-suc 999999)) (lit≤ tt)
 
-pub below-unit : (m shift : ℕ) → m < 2 ^ 53 → 10 ≤ shift → m * 1000000 < 1 * 2 ^ (shift + 63)
-below-unit m shift h l =
-    rw (one-mul (2 ^ (shift + 63))) (lt_of_lt_of_le (mul-lt-mul_of_pos_right h (zero-lt-suc 999999)) (le_trans limit (pow_mono (room l))))
-  where
-    limit : 2 ^ 53 * 1000000 ≤ 2 ^ 73
-    limit = lit≤ tt
+  pub none-left : 74 ≤ shift → closest (m * 1000000) (2 ^ shift) ≡ 0
+  none-left l =
+      let twice : 2 ^ 74 ≤ 2 ^ shift = pow_mono l in
+      closest-none (m * 1000000) (2 ^ shift) (omega arith)
 
-    room : 10 ≤ shift → 73 ≤ shift + 63
-    room l = omega arith
-
-pub unit-room : (shift : ℕ) → shift ≤ 1074 → 1 * 2 ^ (shift + 63) * 2 < 2 ^ (32 * 47)
-unit-room shift h = rw (one-mul (2 ^ (shift + 63))) (subst (◌< 2 ^ (32 * 47)) (pow-suc 2 (shift + 63)) (pow-lt (room h)))
-  where
-    room : shift ≤ 1074 → suc (shift + 63) < 32 * 47
-    room h = omega arith
-
-pub unit-same : (m shift : ℕ) → closest (m * 2 ^ 63) (1 * 2 ^ (shift + 63)) ≡ closest m (2 ^ shift)
-unit-same m shift =
-    closest_same (m * 2 ^ 63) (1 * 2 ^ (shift + 63)) m (2 ^ shift) (mul-pos (zero-lt-suc 0) (pow_pos (shift + 63))) (pow_pos shift)
-    (rw (one-mul (2 ^ (shift + 63)), pow-add 2 shift 63) (mul_assoc m (2 ^ 63) (2 ^ shift) ∙ ap (m *◌) (mul_comm (2 ^ 63) (2 ^ shift))))
+  pub quotient-room : 10 ≤ shift → m * 1000000 / 2 ^ shift < 2 ^ 63
+  quotient-room l =
+      let same : 2 ^ (63 + shift) ≡ 2 ^ 63 * 2 ^ shift = pow-add 2 63 shift in
+      let up : 73 ≤ 63 + shift = omega arith in
+      let less : 2 ^ 73 ≤ 2 ^ (63 + shift) = pow_mono up in
+      (div-lt_iff_lt-mul (pow_pos shift)).1 (omega arith)
 
 -- ---- m * 2 ^ x units of 2 ^ -n, in parts of c
 shift_same : (m c x n : ℕ) → x ≤ n → closest (m * c) (2 ^ (n - x)) ≡ closest (m * 2 ^ x * c) (2 ^ n)

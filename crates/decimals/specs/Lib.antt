@@ -5,4 +5,3 @@ pub mod Print
 pub mod PrintCases
 pub mod Nearest
 pub mod Back
-pub mod inner

@@ -2,10 +2,8 @@
 #![tactic(auto)]
 
 mod digits;
-mod limbs;
 mod printing;
 mod reading;
-mod rounding;
 
 ghost use Rattle.std.specs.Prelude.{◌≡◌, ◌≤◌, IfOk, length, take};
 ghost use Rattle.decimals.specs.Digits.{digits_in, decimal_digits};

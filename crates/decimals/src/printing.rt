@@ -1,30 +1,52 @@
 // Doubles in decimals with six places.
 ghost use Rattle.std.specs.Prelude.{◌≡◌, ◌*◌, ◌^◌, ◌≤◌, ◌<◌, length, replicate};
 ghost use Rattle.std.proofs.lemmas.List.Edits.{sets};
+ghost use Prim.Native.Nat.{compare};
 ghost use Rattle.std.specs.Float.Ieee as Ieee;
+ghost use Rattle.std.specs.Float.Ieee.{nearest};
 ghost use Rattle.std.specs.Float.{binary64};
 ghost use Rattle.std.specs.Float.Ieee.Nearest.{closest};
 ghost use Rattle.decimals.specs.Print.{minus_signs, fixed, millionths, printed, laid};
 
 use super::PrintFault;
 use super::digits::{count_places, put_digits};
-use super::limbs::{limbs_of, times, times_power};
-use super::rounding::nearest_quotient;
 use doubles::HIDDEN;
 
 // How many millionths are 1.
 const MILLION: u64 = 1_000_000;
 
+// The quotient, or the next number up, by how the doubled remainder compares with the divisor.
+fn rounded(quotient: u64, doubled: u128, divisor: u128) -> u64
+    requires { quotient < 2 ^ 63 }
+    ensures { result ≡ nearest quotient (compare doubled divisor) }
+{
+    if quotient % 2 == 0 {
+        if doubled <= divisor {
+            return quotient;
+        }
+        return quotient + 1;
+    }
+    if divisor <= doubled {
+        return quotient + 1;
+    }
+    quotient
+}
+
+// 2 to this is more than twice the millionths of any significand, so that from there on none is nearest.
+const BEYOND: usize = 74;
+
 // significand * 10 ^ 6 / 2 ^ shift to the nearest whole number, of two equally near the even one.
 fn shifted_millionths(significand: u64, shift: usize) -> u64
-    requires { (significand < 2 ^ 53) × (10 ≤ shift) × (shift ≤ 1074) }
+    requires { (significand < 2 ^ 53) × (10 ≤ shift) }
     ensures { result ≡ closest (significand * 10 ^ 6) (2 ^ shift) }
 {
-    let mut num = limbs_of(significand);
-    let mut den = limbs_of(1);
-    times(&mut num, MILLION as u32);
-    times_power(&mut den, 2, shift + 63);
-    nearest_quotient(&mut num, &den, 63)
+    if BEYOND <= shift {
+        return 0;
+    }
+    let product = u128::from(significand) * u128::from(MILLION);
+    let divisor = 1u128 << shift;
+    let quotient = (product >> shift) as u64;
+    rounded(quotient, product % divisor * 2, divisor)
 }
 
 // The double with these bits, which lies from 0 up to 2 ^ 43, in millionths.

@@ -1,11 +1,13 @@
 // A word taken apart as a decimal, and the number that it stands for.
-ghost use Rattle.std.specs.Prelude.{◌≡◌, ◌^◌, ◌≤◌, ◌<◌, ◌++◌, length, min};
+ghost use Rattle.std.specs.Prelude.{◌≡◌, ◌⊎◌, ◌*◌, ◌^◌, ◌≤◌, ◌++◌, length, min};
+ghost use Rattle.std.specs.Float.{binary64};
+ghost use Rattle.std.specs.Float.Ieee.{round};
 ghost use Rattle.decimals.specs.Digits.{numeral};
 ghost use Rattle.decimals.specs.Number.{begins_with, sign_length, point_length, all_digits, exponent_after, exponent_of, placed, valued, is_pattern, parts_of, decimal_of};
 
 use super::NumberFault;
 use super::digits::{digit_run, read_digits};
-use super::rounding::Decimal;
+use fast_float::from_parts;
 
 // One more than the digits of a decimal may stand for.
 const TOO_MANY: u64 = 100_000_000_000_000_000;
@@ -80,10 +82,20 @@ fn exponent_of(rest: &[u8]) -> Result<Exponent, NumberFault>
     }
 }
 
+// The double nearest to digits * 10 ^ up / 10 ^ down, of which powers one is 1.
+fn nearest(negative: bool, digits: u64, up: usize, down: usize) -> f64
+    requires { (up ≤ 400) × (down ≤ 400) × ((up ≡ 0) ⊎ (down ≡ 0)) }
+    ensures { result ≡ round binary64 negative (digits * 10 ^ up) (10 ^ down) }
+{
+    if down == 0 {
+        return from_parts(negative, digits, up as i64);
+    }
+    from_parts(negative, digits, -(down as i64))
+}
+
 // Digits whose last stands for 10 ^ up / 10 ^ down.
 #[tactic(auto, unfolding(crate::specs::Number::placed, crate::specs::Number::nearest_double))]
 fn place(negative: bool, digits: u64, up: usize, down: usize) -> Result<f64, NumberFault>
-    requires { digits < 10 ^ 17 }
     ensures { result ≡ placed negative digits up down }
 {
     let above = up.saturating_sub(down);
@@ -91,13 +103,7 @@ fn place(negative: bool, digits: u64, up: usize, down: usize) -> Result<f64, Num
     if FARTHEST < above || FARTHEST < below {
         return Err(NumberFault::OutOfReach);
     }
-    let decimal = Decimal {
-        negative,
-        digits,
-        up: above,
-        down: below,
-    };
-    Ok(decimal.nearest())
+    Ok(nearest(negative, digits, above, below))
 }
 
 // The number that the digits before the point and those after it stand for together; the limit where it is above that.

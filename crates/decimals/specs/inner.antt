@@ -1,2 +1,0 @@
--- What contracts of inner functions are stated by. No public call is.
-pub mod Limbs
