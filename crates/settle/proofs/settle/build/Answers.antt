@@ -1,9 +1,4 @@
 -- `settle::settle::build` meets its contract. Assumes nothing.
-use mathlib.Core.Path.{◌≡◌, sym, ◌∙◌}
-use mathlib.Core.List.{List}
-use Prim.Native.Nat.{ℕ}
-use Rattle.std.specs.Prelude.{Result, Ok, Err}
-use Rattle.reply.specs.Number.{Reply}
 use Rattle.settle.specs.Files.{build_reply, built_said, build_told}
 use Rattle.settle.proofs.settle.build.Goals as goal
 
