@@ -1,11 +1,12 @@
 -- Cells and scaffold numbers as the code finds them are those of the definitions. Assumes nothing.
 use mathlib.Core.Path.{◌≡◌, refl, ap, ap₂, sym, ◌∙◌}
-use mathlib.Core.Bool.{Bool, true, false, cond, ◌||◌}
+use mathlib.Core.Bool.{Bool, true, false, cond}
 use mathlib.Core.List.{List, map}
 use mathlib.Core.Option.{none, some}
-use Prim.Native.Nat.{ℕ, zero, suc, ◌+◌, ◌*◌, ◌-◌, ◌/◌, ◌%◌, ◌<◌, ◌≤◌}
+use Prim.Native.Nat.{ℕ, ◌+◌, ◌*◌, ◌-◌, ◌/◌, ◌%◌, ◌<◌, ◌≤◌}
 use native.Mathlib.Omega.{arith}
 use lib.Dec.{eqb}
+use Rattle.std.specs.Prelude.{position}
 use lib.ListN.{length, get_or}
 use borrow.Author.Tests.{ne_eqb, eqb-true, eqb-false, ltb-false}
 use Rattle.lists.specs.Find.{any, first_index}
@@ -20,17 +21,12 @@ use Rattle.sdc_common.specs.Spelled.{is_unknown, spelled_number}
 use Rattle.sdc_common.specs.Calls.{too_many_bases}
 use Rattle.sdc_common.proofs.Fit.{glue_at, glues-listed}
 use Rattle.sdc_common.proofs.Spelled.{bases-bare}
+use Rattle.sdc_common.proofs.Positions.{position_same}
 use Rattle.sdc_common.proofs.Looked.{unknown-spelled, spelled-number, number-at-most, glue-at-most}
 use Rattle.sdc1d_params.specs.Entries.{cell, cell_of}
 use Rattle.sdc1d_params.specs.inner.Cells.{base_at, one_cell, first_of}
 use Rattle.sdc1d_params.specs.declared.Entry.{Entry}
 use Rattle.sdc1d_params.specs.inner.Scaffold.{unknown_by, unknown_at}
-
--- two tests that agree at each place
-pub any_same : {A B : Type 0} (p : A → Bool) (q : B → Bool) (n : ℕ) (f : ℕ → A) (g : ℕ → B) → ((k : ℕ) → k < n → p (f k) ≡ q (g k)) → any p (tabulate n f) ≡ any q (tabulate n g)
-unfolding any tabulate
-any_same p q zero f g h = refl
-any_same p q (suc n) f g h = ap₂ (λ (x y : Bool). x || y) (h 0 (omega arith)) (any_same p q n (λ k. f (suc k)) (λ k. g (suc k)) (λ k l. h (suc k) (omega arith)))
 
 -- ---- numbers of lent names, one by one
 
@@ -63,11 +59,12 @@ module _ (strands : List Glue) (text rows numbers : List ℕ) (e : numbers ≡ n
   unknown-is bases none b = refl
   unknown-is bases (some name) b = rw b (unknown-spelled (bases_of strands) (bases-bare strands) name)
 
-  pub unknown-found : any (unknown_at text rows numbers) (up_to (length rows / 3)) ≡ any (is_unknown (bases_of strands)) (glues_of text (names_of rows))
-  unknown-found =
-      any_same (unknown_at text rows numbers) (is_unknown (bases_of strands)) (length rows / 3) (λ k. k) (glue_at text rows)
+  -- the first that is unknown, by the number of its reduced name
+  pub unknown-placed : position (unknown_at text rows numbers) (up_to (length rows / 3)) ≡ position (is_unknown (bases_of strands)) (glues_of text (names_of rows))
+  unknown-placed =
+      position_same (unknown_at text rows numbers) (is_unknown (bases_of strands)) (length rows / 3) (λ k. k) (glue_at text rows)
       (λ k h. ap (λ (n : ℕ). unknown_by n (glue_at text rows k)) (number-at k h) ∙ unknown-is (bases_of strands) (glue_at text rows k) refl)
-      ∙ ap (any (is_unknown (bases_of strands))) (sym (glues-listed text rows))
+      ∙ ap (position (is_unknown (bases_of strands))) (sym (glues-listed text rows))
 
   -- where none is unknown, the numbers are those of the names as spelled
   pub numbers-spelled : any (is_unknown (bases_of strands)) (glues_of text (names_of rows)) ≡ false → numbers ≡ map (spelled_number (bases_of strands)) (glues_of text (names_of rows))

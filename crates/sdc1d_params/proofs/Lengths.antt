@@ -1,6 +1,6 @@
 -- The conditions of the size check, in the order in which the code looks at them, and what it leaves. Assumes nothing.
-use mathlib.Core.Path.{◌≡◌, refl, sym, ap, ◌∙◌}
-use mathlib.Core.Bool.{Bool, true, false, not, ◌||◌}
+use mathlib.Core.Path.{◌≡◌, refl, sym, ap, ap₂, ◌∙◌}
+use mathlib.Core.Bool.{Bool, true, false, cond, not, ◌||◌}
 use mathlib.Core.List.{List, [], ◌∷◌, map}
 use Prim.Native.Nat.{ℕ, ◌*◌, ◌%◌, ◌<◌, ◌≤◌}
 use native.Mathlib.Omega.{arith}
@@ -17,7 +17,9 @@ use Rattle.sdc_common.specs.Calls.{unfit_strands}
 use Rattle.sdc_common.specs.inner.Fit.{Fit}
 use Rattle.sdc1d_params.specs.Entries.{energy_of, bad_form, unfit_energy, unfit_entry, entry_at, entry_rows, entries_of, unfit_entries}
 use Rattle.sdc1d_params.specs.inner.Cells.{first_of}
-use Rattle.std.specs.Prelude.{Some}
+use Rattle.std.specs.Prelude.{Option, Some, None, is_some, position}
+use Rattle.lists.proofs.Find.{first-map}
+use Rattle.lists.proofs.Searches.{position_is, position_some, position_none}
 use Rattle.sdc1d_params.specs.Params.{Params, Outcome, unfit_copied, unfit_lent, wrong_size}
 use Rattle.sdc1d_params.specs.declared.Entry.{Entry}
 
@@ -33,6 +35,18 @@ pub any-map : {A B : Type 0} (p : B → Bool) (g : A → B) (xs : List A) → an
 unfolding any
 any-map p g [] = refl
 any-map p g (x ∷ xs) = ap (λ (b : Bool). p (g x) || b) (any-map p g xs)
+
+-- and where the first stands
+pub position-map : {A B : Type 0} (p : B → Bool) (g : A → B) (xs : List A) → position (λ x. p (g x)) xs ≡ position p (map g xs)
+position-map p g xs =
+    position_is (λ x. p (g x)) xs
+    ∙ ap₂ (λ (t : Bool) (k : ℕ). cond t (Some k) None) (any-map p g xs) (sym (first-map p g xs))
+    ∙ sym (position_is p (map g xs))
+
+-- some passes where there is a first
+pub some-place : {A : Type 0} (p : A → Bool) (xs : List A) (place : Option ℕ) → place ≡ position p xs → is_some place ≡ any p xs
+some-place p xs None e = sym (position_none p xs (sym e))
+some-place p xs (Some k) e = sym (position_some p xs (sym e)).0
 
 -- ---- all conditions
 

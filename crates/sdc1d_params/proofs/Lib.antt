@@ -6,7 +6,9 @@ pub mod Lengths
 pub mod Laid
 pub mod Found
 pub mod Stars
+pub mod Placed
 pub mod Passed
 pub mod Written
 pub mod Replies
+pub mod Places
 pub mod Builds

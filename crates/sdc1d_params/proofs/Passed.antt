@@ -14,7 +14,7 @@ use Rattle.lists.proofs.Build.{length-tabulate, get_or-tabulate}
 use Rattle.lists.proofs.Counted.{map-tabulate, tabulate-same}
 use Rattle.reply.specs.First.{Check, ◌if◌, first_of, refuses}
 use Rattle.reply.specs.declared.Refusal.{Refusal}
-use Rattle.reply.specs.declared.Refusal.TheVariants.{WrongSize, UnknownName, TooManyGlues, DuplicatePair, OutOfRange, TwoStars}
+use Rattle.reply.specs.declared.Refusal.TheVariants.{WrongSize, NotABase, TooShort, UnknownName, TooManyGlues, DuplicatePair, OutOfRange, TwoStars}
 use Rattle.reply.proofs.First.{both-pass, reply-append}
 use Rattle.sdc_common.specs.Names.{Name}
 use Rattle.sdc_common.specs.Lent.{names_of, glue_of, glues_of}
@@ -43,7 +43,13 @@ module _ (p : Params) (lent : Outcome) where
   reply-size e = rw e
 
   module _ (size : wrong_size p lent ≡ false) where
+    pub reply-base : any (has_bad_base p.text) (energies_of p) ≡ true → refuses NotABase None ≡ first_of (param_checks p lent)
+    reply-base e = rw (size, e)
+
     module _ (base : any (has_bad_base p.text) (energies_of p) ≡ false) where
+      pub reply-short : any (is_short p.text) (energies_of p) ≡ true → refuses TooShort None ≡ first_of (param_checks p lent)
+      reply-short e = rw (size, base, e)
+
       module _ (short : any (is_short p.text) (energies_of p) ≡ false) where
         pub reply-unknown : any (is_unknown (bases p)) (glues_of p.text p.scaffold) ≡ true → refuses UnknownName None ≡ first_of (param_checks p lent)
         reply-unknown e = rw (size, base, short, e)
@@ -128,12 +134,13 @@ module _ (s : ParameterSet) (held : List Name) (cells : List Cell)
   cells-found k h =
       ap (λ (xs : List Cell). get_or xs k (cell 0 0)) cells-listed ∙ get_or-tabulate (entry_rows entries) (λ j. cell_of_entry p (entry_at entries energies j)) (cell 0 0) k h
 
-  pub twice_found : duplicated cells ≡ duplicated (cells_of (writes_of p))
+  -- and are those that are written to
+  pub cells_written : cells ≡ cells_of (writes_of p)
   unfolding writes_of write_of
-  twice_found =
-      ap duplicated (cells-listed
+  cells_written =
+      cells-listed
       ∙ sym (ap (map (λ (w : Write). w.at)) (map-tabulate (write_of_entry p) (entry_rows entries) (entry_at entries energies))
-      ∙ map-tabulate (λ (w : Write). w.at) (entry_rows entries) (λ k. write_of_entry p (entry_at entries energies k))))
+      ∙ map-tabulate (λ (w : Write). w.at) (entry_rows entries) (λ k. write_of_entry p (entry_at entries energies k)))
 
   pub writes_found : tabulate (entry_rows entries) (write_at s.lent.text.now entries energies s.lent.penalty.dg.0 s.lent.penalty.ds.0 cells) ≡ writes_of p
   writes_found = written p entries energies cells refl cells-found

@@ -130,8 +130,8 @@ module _ (p : Params) (lent : Outcome) where
       let over : unfit_scaffold p lent ≡ true = rw (lt-ltb 128 (length lent.scaffold_glues) h) in
       positions-hold (unfit_strands p.users p.text p.strands) (unfit_scaffold p lent) (unfit_entries p.text p.entries) (unfit_copied p.users p.quencher) (unfit_copied p.users p.reporter) (unfit_lent p lent) over
 
-  pub entries-refused : (build : Build) → unfit_entries p.text p.entries ≡ true → outcome_of (number_of WrongSize) lent.strand_glues lent.scaffold_glues lent.dg lent.ds ≡ from_params build p lent
-  entries-refused build h = kept p lent build WrongSize (sym (build-refused build p lent WrongSize (reply-size p lent (unfit-size h))))
+  pub entries-reply : (build : Build) → unfit_entries p.text p.entries ≡ true → refuses WrongSize None ≡ first_of (build_checks build p lent)
+  entries-reply build h = build-refused build p lent WrongSize (reply-size p lent (unfit-size h))
 
-  pub positions-refused : (build : Build) → 128 < length lent.scaffold_glues → outcome_of (number_of WrongSize) lent.strand_glues lent.scaffold_glues lent.dg lent.ds ≡ from_params build p lent
-  positions-refused build h = kept p lent build WrongSize (sym (build-refused build p lent WrongSize (reply-size p lent (many-positions h))))
+  pub positions-reply : (build : Build) → 128 < length lent.scaffold_glues → refuses WrongSize None ≡ first_of (build_checks build p lent)
+  positions-reply build h = build-refused build p lent WrongSize (reply-size p lent (many-positions h))

@@ -3,3 +3,4 @@ pub mod Cells
 pub mod Scaffold
 pub mod Set
 pub mod Checked
+pub mod Placed

@@ -1,8 +1,9 @@
 // The build: the checks of document 01, that of the names in an ordinary build, then the glues and the tables.
 ghost use Rattle.std.specs.Prelude.{◌≡◌, ◌≤◌, length};
-ghost use Rattle.sdc_common.specs.Calls.{result_number};
+ghost use Rattle.reply.specs.Number.{reply_number};
 ghost use Rattle.sdc1d_params.specs.inner.Set.{set_of};
 ghost use Rattle.sdc1d_params.specs.Params.{lent_of, outcome_of, from_params};
+ghost use Rattle.sdc1d_params.specs.Places.{build_reply};
 
 use crate::cells::NO_CELL;
 use crate::checks::check;
@@ -15,9 +16,9 @@ use crate::strands::write_strands;
 use crate::tables::fill_tables;
 use crate::{Build, MOST_ENTRIES};
 use reply::limits::POSITIONS;
-use reply::{Refusal, refused_if};
+use reply::{Refusal, Refused, refused_if};
 
-// What is written where no check holds.
+// What is written where no check holds, and otherwise the first that does, and where.
 pub(crate) fn build_all(
     build: Build,
     set: &ParameterSet,
@@ -25,9 +26,10 @@ pub(crate) fn build_all(
     scaffold_glues: &mut [u8],
     dg: &mut [f64],
     ds: &mut [f64],
-) -> Result<(), Refusal>
+) -> Result<(), Refused>
     requires { length scaffold_glues.old ≤ 128 }
-    ensures { outcome_of (result_number result) strand_glues.new scaffold_glues.new dg.new ds.new ≡ from_params build (set_of set.now) (lent_of strand_glues.old scaffold_glues.old dg.old ds.old) }
+    ensures reply { result ≡ build_reply build (set_of set.now) (lent_of strand_glues.old scaffold_glues.old dg.old ds.old) }
+    ensures written { outcome_of (reply_number result) strand_glues.new scaffold_glues.new dg.new ds.new ≡ from_params build (set_of set.now) (lent_of strand_glues.old scaffold_glues.old dg.old ds.old) }
 {
     // A number of each scaffold name and a cell of each entry.
     let mut numbers = [0usize; POSITIONS];

@@ -1,7 +1,9 @@
 // Where entries are written: one name or a pair, from the numbers of the names to a cell of the tables.
-ghost use Rattle.std.specs.Prelude.{◌≡◌, ◌<◌, ◌≤◌, length};
+ghost use Rattle.std.specs.Prelude.{◌≡◌, ◌<◌, ◌≤◌, length, position};
+ghost use Rattle.lists.specs.Build.{up_to};
 ghost use Rattle.sdc1d_params.specs.Entries.{is_written, entry_rows};
-ghost use Rattle.sdc1d_params.specs.Tables.{duplicated, place_of};
+ghost use Rattle.sdc1d_params.specs.Tables.{place_of};
+ghost use Rattle.sdc1d_params.specs.Places.{repeats};
 ghost use Rattle.sdc1d_params.specs.inner.Cells.{one_cell, mirror, cell_among, cells_among, InTables, mark_both, is_marked};
 
 use crate::entries::first_name;
@@ -110,17 +112,17 @@ fn mark_both(seen: &mut [bool], cell: Cell)
     }
 }
 
-// Whether two entries have the same pair. A loop, since each turn marks what the later ones look at.
-pub(crate) fn any_repeated(cells: &[Cell]) -> bool
+// The first entry that has the pair of one before it. A loop, since each turn marks what the later ones look at.
+pub(crate) fn first_repeated(cells: &[Cell]) -> Option<usize>
     requires { InTables cells.now }
-    ensures { result ≡ duplicated cells.now }
+    ensures { result ≡ position (repeats cells.now) (up_to (length cells.now)) }
 {
     let mut seen = [false; CELLS];
-    for cell in cells {
+    for (i, cell) in cells.iter().enumerate() {
         if is_marked(&seen, *cell) {
-            return true;
+            return Some(i);
         }
         mark_both(&mut seen, *cell);
     }
-    false
+    None
 }

@@ -1,5 +1,5 @@
 // Energy entries: read off their rows, as two doubles or a sequence, and taken apart.
-ghost use Rattle.std.specs.Prelude.{◌≡◌, ℕ, Bool, ◌+◌, ◌*◌, ◌||◌, ◌<◌, length, get_or};
+ghost use Rattle.std.specs.Prelude.{◌≡◌, ℕ, Bool, ◌+◌, ◌*◌, ◌||◌, ◌<◌, length, get_or, position};
 ghost use Rattle.sdc_common.specs.Lent.{unfit_name, unfit_glue};
 ghost use Rattle.lists.specs.Find.{any};
 ghost use Rattle.sdc1d_params.specs.Entries.{energy_of, bad_form, unfit_energy, unfit_entry, entry_at, entry_rows, unfit_entries};
@@ -116,19 +116,19 @@ fn unfit_entry(text: &[u8], entry: Entry) -> bool
     unfit_pair(text, entry) || unfit_form(text, entry)
 }
 
-// Whether some entry passes a test. A loop over numbers: `entry_at` makes single entries too, so that a `map` to entries before `any` would bring a
-// second maker of entries beside it, and `any` over the numbers a closure around the test, with clauses that repeat these.
-pub(crate) fn any_entry<F: Fn(Entry) -> bool>(lent: &LentParameters, test: F) -> bool
+// The first entry that passes a test. A loop over numbers: `entry_at` makes single entries too, so that a `map` to entries before `position` would
+// bring a second maker of entries beside it, and `find` over the numbers a closure around the test, with clauses that repeat these.
+pub(crate) fn first_entry<F: Fn(Entry) -> bool>(lent: &LentParameters, test: F) -> Option<usize>
     requires two_each { length lent.now.energies.now ≡ 2 * entry_rows lent.now.entries.now }
     requires callable { (i : ℕ) → i < entry_rows lent.now.entries.now → F.pre test (entry_at lent.now.entries.now lent.now.energies.now i) }
-    ensures { (p : Entry → Bool) → ((i : ℕ) (b : Bool) → i < entry_rows lent.now.entries.now → F.post test (entry_at lent.now.entries.now lent.now.energies.now i) b → b ≡ p (entry_at lent.now.entries.now lent.now.energies.now i)) → result ≡ any p (params_lent lent.now).entries.each }
+    ensures { (p : Entry → Bool) → ((i : ℕ) (b : Bool) → i < entry_rows lent.now.entries.now → F.post test (entry_at lent.now.entries.now lent.now.energies.now i) b → b ≡ p (entry_at lent.now.entries.now lent.now.energies.now i)) → result ≡ position p (params_lent lent.now).entries.each }
 {
     for i in 0..lent.entries.len() / ROW {
         if test(entry_at(lent.entries, lent.energies, i)) {
-            return true;
+            return Some(i);
         }
     }
-    false
+    None
 }
 
 // Whether the rows are not whole, the doubles not two for each, the entries too many, or one unfit.
@@ -141,5 +141,5 @@ pub(crate) fn unfit_entries(lent: &LentParameters) -> bool
     if entries % ROW != 0 || energies != 2 * n || MOST_ENTRIES < n {
         return true;
     }
-    any_entry(lent, |entry| unfit_entry(lent.text, entry))
+    first_entry(lent, |entry| unfit_entry(lent.text, entry)).is_some()
 }

@@ -1,12 +1,11 @@
 // Entries that are fit: their names and sequences lie in the text, and no sequence is too long.
-ghost use Rattle.std.specs.Prelude.{◌≡◌, false};
-ghost use Rattle.lists.specs.Find.{any};
+ghost use Rattle.std.specs.Prelude.{◌≡◌, false, position};
 ghost use Rattle.sdc1d_params.specs.Entries.{energy_of, unfit_entry, has_bad_base, is_short, entry_dg, entry_ds};
 ghost use Rattle.sdc1d_params.specs.inner.Set.{set_of};
 ghost use Rattle.sdc1d_params.specs.Params.{energies_of};
 
 use crate::Entry;
-use crate::entries::{GsOrSeq, any_entry, gs_or_seq};
+use crate::entries::{GsOrSeq, first_entry, gs_or_seq};
 use crate::set::ParameterSet;
 use reply::Refusal;
 use utils::DgDs;
@@ -60,16 +59,16 @@ impl FitEntry<'_> {
     }
 }
 
-// Whether some entry's sequence has a byte that is no base, whether or not the entry is then passed over.
-pub(crate) fn any_bad_base(set: &ParameterSet) -> bool
-    ensures { result ≡ any (has_bad_base set.now.lent.text.now) (energies_of (set_of set.now)) }
+// The first entry whose sequence has a byte that is no base, whether or not the entry is then passed over.
+pub(crate) fn first_bad_base(set: &ParameterSet) -> Option<usize>
+    ensures { result ≡ position (has_bad_base set.now.lent.text.now) (energies_of (set_of set.now)) }
 {
-    any_entry(&set.lent, |entry| set.fit(entry).has_bad_base())
+    first_entry(&set.lent, |entry| set.fit(entry).has_bad_base())
 }
 
-// Whether some entry's sequence is too short, whether or not the entry is then passed over.
-pub(crate) fn any_short(set: &ParameterSet) -> bool
-    ensures { result ≡ any (is_short set.now.lent.text.now) (energies_of (set_of set.now)) }
+// The first entry whose sequence is too short, whether or not the entry is then passed over.
+pub(crate) fn first_short(set: &ParameterSet) -> Option<usize>
+    ensures { result ≡ position (is_short set.now.lent.text.now) (energies_of (set_of set.now)) }
 {
-    any_entry(&set.lent, |entry| set.fit(entry).is_short())
+    first_entry(&set.lent, |entry| set.fit(entry).is_short())
 }

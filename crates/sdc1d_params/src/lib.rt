@@ -15,12 +15,14 @@ mod tables;
 
 ghost use Rattle.std.specs.Prelude.{◌≡◌};
 ghost use Rattle.sdc_common.specs.Calls.{result_number};
+ghost use Rattle.reply.specs.Number.{reply_number};
 ghost use Rattle.sdc1d_params.specs.Params.{params_lent, lent_of, outcome_of, from_params};
+ghost use Rattle.sdc1d_params.specs.Places.{build_reply};
 
 use building::build_all;
 use entries::unfit_entries;
 use reply::limits::POSITIONS;
-use reply::{Refusal, refused_if};
+use reply::{Refusal, Refused, refused_if};
 use sdc_common::names::{LentName, Part};
 use set::ParameterSet;
 use utils::DgDs;
@@ -74,6 +76,25 @@ pub struct LentParameters<'a> {
     pub copies: Copies,
 }
 
+// The same build as `from_params`, which of a refusal that has one also says the place: the entry, the position or the strand, from 0.
+pub fn from_params_with_place(
+    build: Build,
+    parameters: &LentParameters<'_>,
+    strand_glues: &mut [u8],
+    scaffold_glues: &mut [u8],
+    dg: &mut [f64],
+    ds: &mut [f64],
+) -> Result<(), Refused>
+    ensures reply { result ≡ build_reply build (params_lent parameters.now) (lent_of strand_glues.old scaffold_glues.old dg.old ds.old) }
+    ensures written { outcome_of (reply_number result) strand_glues.new scaffold_glues.new dg.new ds.new ≡ from_params build (params_lent parameters.now) (lent_of strand_glues.old scaffold_glues.old dg.old ds.old) }
+{
+    let lent = *parameters;
+    refused_if(Refusal::WrongSize, unfit_entries(parameters))?;
+    refused_if(Refusal::WrongSize, POSITIONS < scaffold_glues.len())?;
+    let set = ParameterSet { lent };
+    build_all(build, &set, strand_glues, scaffold_glues, dg, ds)
+}
+
 // The glues of the strands and of the scaffold, and the two glue tables, into the lent slices.
 pub fn from_params(
     build: Build,
@@ -85,9 +106,8 @@ pub fn from_params(
 ) -> Result<(), Refusal>
     ensures { outcome_of (result_number result) strand_glues.new scaffold_glues.new dg.new ds.new ≡ from_params build (params_lent parameters.now) (lent_of strand_glues.old scaffold_glues.old dg.old ds.old) }
 {
-    let lent = *parameters;
-    refused_if(Refusal::WrongSize, unfit_entries(parameters))?;
-    refused_if(Refusal::WrongSize, POSITIONS < scaffold_glues.len())?;
-    let set = ParameterSet { lent };
-    build_all(build, &set, strand_glues, scaffold_glues, dg, ds)
+    match from_params_with_place(build, parameters, strand_glues, scaffold_glues, dg, ds) {
+        Ok(()) => Ok(()),
+        Err(refused) => Err(refused.refusal),
+    }
 }

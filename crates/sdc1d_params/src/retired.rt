@@ -7,7 +7,7 @@ ghost use Rattle.sdc1d_params.specs.inner.Set.{set_of};
 ghost use Rattle.sdc1d_params.specs.Params.{is_ordinary, is_retired_entry, strand_names};
 
 use crate::Build;
-use crate::entries::{any_entry, first_name};
+use crate::entries::{first_entry, first_name};
 use crate::fit::FitEntry;
 use crate::set::ParameterSet;
 use sdc_common::retired::{any_retired, is_retired};
@@ -25,7 +25,7 @@ impl FitEntry<'_> {
 fn any_retired_entry(set: &ParameterSet) -> bool
     ensures { result ≡ any (is_retired_entry set.now.lent.text.now) (set_of set.now).entries.each }
 {
-    any_entry(&set.lent, |entry| set.fit(entry).is_retired())
+    first_entry(&set.lent, |entry| set.fit(entry).is_retired()).is_some()
 }
 
 // Whether the build is an ordinary one, and a name of a strand or an entry retires.

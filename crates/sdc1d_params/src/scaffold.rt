@@ -1,6 +1,5 @@
 // Scaffold names: whether each is known as spelled, and the glues of the positions.
-ghost use Rattle.std.specs.Prelude.{◌≡◌, ℕ, ◌/◌, ◌<◌, length, get_or};
-ghost use Rattle.lists.specs.Find.{any};
+ghost use Rattle.std.specs.Prelude.{◌≡◌, ℕ, ◌/◌, ◌<◌, length, get_or, position};
 ghost use Rattle.lists.specs.Build.{up_to};
 ghost use Rattle.sdc_common.specs.Lent.{glue_of};
 ghost use Rattle.sdc_common.specs.inner.Fit.{Fit, FitNames};
@@ -21,13 +20,13 @@ fn is_unknown(text: &[u8], name: LentName, number: usize) -> bool
         .is_some_and(|name| number == 0 || MOST_STARS < stars_of(name))
 }
 
-// Whether some name is unknown as spelled.
-pub(crate) fn any_unknown(text: &[u8], scaffold: &[usize], numbers: &[usize]) -> bool
+// The first name that is unknown as spelled.
+pub(crate) fn first_unknown(text: &[u8], scaffold: &[usize], numbers: &[usize]) -> Option<usize>
     requires fit_names { FitNames text.now scaffold.now }
     requires numbers_len { length numbers.now ≡ length scaffold.now / 3 }
-    ensures { result ≡ any (unknown_at text.now scaffold.now numbers.now) (up_to (length scaffold.now / 3)) }
+    ensures { result ≡ position (unknown_at text.now scaffold.now numbers.now) (up_to (length scaffold.now / 3)) }
 {
-    rows(scaffold).iter().zip(numbers).any(|(row, number)| is_unknown(
+    rows(scaffold).iter().zip(numbers).position(|(row, number)| is_unknown(
         text,
         LentName::from(*row),
         *number,

@@ -4,10 +4,12 @@ ghost use Rattle.sdc_common.specs.Numbers.{numbers_among};
 ghost use Rattle.sdc_common.specs.Calls.{unfit_strands, too_many_bases};
 ghost use Rattle.sdc1d_params.specs.inner.Set.{set_of};
 ghost use Rattle.sdc1d_params.specs.Params.{unfit_copied, quencher_glues, reporter_glues, with_copies, strand_names};
+ghost use Rattle.sdc1d_params.specs.Places.{crowding_strand};
 
 use crate::set::ParameterSet;
 use reply::limits::SIDES;
-use sdc_common::strand_glues;
+use sdc_common::table::BaseTable;
+use sdc_common::{MOST_BASES, strand_glues};
 
 // The quencher has west and bottom of its strand; with no strand named, no glue.
 fn quencher_sides(users: usize, glues: &[u8], quencher: Option<usize>) -> [u8; SIDES]
@@ -29,6 +31,15 @@ fn reporter_sides(users: usize, glues: &[u8], reporter: Option<usize>) -> [u8; S
         None => [0; SIDES],
         Some(k) => [0, glues[3 * k + 1], glues[3 * k + 2]],
     }
+}
+
+// The strand with whose glues there are more base names than the tables have numbers for.
+pub(crate) fn crowding_strand(set: &ParameterSet) -> Option<usize>
+    requires { unfit_strands set.now.lent.users set.now.lent.text.now (set_of set.now).strands ≡ false }
+    ensures { result ≡ crowding_strand (strand_names (set_of set.now)) }
+{
+    let glue = BaseTable::first_beyond(MOST_BASES, set.lent.text, set.lent.strands)?;
+    Some(glue / SIDES)
 }
 
 // All strands' glues, three for each.

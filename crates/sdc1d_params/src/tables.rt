@@ -1,8 +1,7 @@
 // The sums that entries write, their ranges, and the glue tables.
-ghost use Rattle.std.specs.Prelude.{◌≡◌, ◌<◌, length};
+ghost use Rattle.std.specs.Prelude.{◌≡◌, ◌<◌, length, position};
 ghost use Rattle.std.specs.Float.Ieee as Ieee;
 ghost use Rattle.std.specs.Float.{binary64};
-ghost use Rattle.lists.specs.Find.{any};
 ghost use Rattle.lists.specs.Fold.{foldl};
 ghost use Rattle.sdc1d_params.specs.Entries.{energy_of, entry_rows, entry_dg, entry_ds};
 ghost use Rattle.sdc1d_params.specs.Tables.{out_of_range, set_both, write_dg, write_ds};
@@ -31,12 +30,12 @@ fn is_out(cell: Cell, sum: DgDs) -> bool
         && (!doubles::in_range(-DG, DG, sum.dg.0) || !doubles::in_range(-DS, DS, sum.ds.0))
 }
 
-// Whether some sum that is written is out of its range.
-pub(crate) fn any_out(set: &ParameterSet, cells: &[Cell]) -> bool
+// The first entry whose sum is written and out of its range.
+pub(crate) fn first_out(set: &ParameterSet, cells: &[Cell]) -> Option<usize>
     requires { length cells.now ≡ entry_rows set.now.lent.entries.now }
-    ensures { result ≡ any out_of_range (writes_at set.now.lent cells.now) }
+    ensures { result ≡ position out_of_range (writes_at set.now.lent cells.now) }
 {
-    cells.iter().enumerate().any(|(i, cell)| is_out(
+    cells.iter().enumerate().position(|(i, cell)| is_out(
         *cell,
         set.entry(i).with_penalty(set.lent.penalty),
     ))

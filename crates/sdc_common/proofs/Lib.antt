@@ -7,3 +7,5 @@ pub mod Replies
 pub mod Spelled
 pub mod Looked
 pub mod Laws
+pub mod Positions
+pub mod Crowded

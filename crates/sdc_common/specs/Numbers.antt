@@ -1,5 +1,5 @@
 -- Glue numbers: the base names in the order of their first appearance, two numbers for each.
-use Rattle.std.specs.Prelude.{Bool, cond, List, [], ◌∷◌, ◌++◌, map, ℕ, ◌+◌, ◌*◌, ◌%◌}
+use Rattle.std.specs.Prelude.{Bool, cond, List, [], ◌∷◌, ◌++◌, map, ℕ, ◌+◌, ◌*◌, ◌%◌, ltb, length, take}
 use Rattle.std.proofs.Math.Option.{none, some}
 use Rattle.lists.specs.Find.{any, first_index}
 use Rattle.lists.specs.Fold.{foldl}
@@ -18,6 +18,10 @@ learn bases (some name) = cond (is_known bases (base_of name)) bases (bases ++ (
 -- the base names of the strands' glues, in the order of their first appearance
 unfoldable pub bases_of : List Glue → List Name
 bases_of glues = foldl learn [] glues
+
+-- with glue i there are more than so many base names
+abbrev pub crowds : ℕ → List Glue → ℕ → Bool
+crowds most glues i = ltb most (length (bases_of (take (i + 1) glues)))
 
 -- document 01: "a new base takes the next two numbers from 1". The base has the odd one, base* the even one.
 abbrev pub number_at : ℕ → ℕ → ℕ

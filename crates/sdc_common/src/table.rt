@@ -1,9 +1,10 @@
 // The table of bases, in the order of first appearance, and the numbers read off it.
-ghost use Rattle.std.specs.Prelude.{◌≡◌, ℕ, ◌<◌, ◌≤◌, ◌+◌, ◌*◌, ◌/◌, length, map};
+ghost use Rattle.std.specs.Prelude.{◌≡◌, ℕ, [], ◌<◌, ◌≤◌, ◌+◌, ◌*◌, ◌/◌, length, map, position};
+ghost use Rattle.lists.specs.Build.{up_to};
 ghost use Rattle.sdc_common.specs.Lent.{names_of, glues_of};
 ghost use Rattle.sdc_common.specs.inner.Fit.{FitNames};
 ghost use Rattle.sdc_common.specs.inner.Table.{glue, Found};
-ghost use Rattle.sdc_common.specs.Numbers.{learn, bases_of, glue_number};
+ghost use Rattle.sdc_common.specs.Numbers.{learn, bases_of, glue_number, crowds};
 
 use crate::MOST_STRANDS;
 use crate::names::{LentName, base_of, rows, stars_of};
@@ -35,6 +36,16 @@ impl<'a> Model for BaseTable<'a> {
 }
 
 impl<'a> BaseTable<'a> {
+    // A table of no bases, for names that lie in a text.
+    fn empty(text: &'a [u8]) -> BaseTable<'a>
+        ensures { result ≡ [] }
+    {
+        BaseTable {
+            bases: [&text[..0]; ROOM],
+            count: 0,
+        }
+    }
+
     // The bases of the names. Text and names are two parameters here and below: as one struct, with the fact that the names are fit, each caller would
     // build it for a call or two, and the contracts would be no shorter.
     pub fn new(text: &'a [u8], names: &[usize]) -> BaseTable<'a>
@@ -42,14 +53,28 @@ impl<'a> BaseTable<'a> {
         requires names_len_bound { length names.now / 3 ≤ 183 }
         ensures { result ≡ bases_of (glues_of text.now (names_of names.now)) }
     {
-        let mut table = BaseTable {
-            bases: [&text[..0]; ROOM],
-            count: 0,
-        };
+        let mut table = BaseTable::empty(text);
         for row in rows(names) {
             table.learn(LentName::from(*row).bytes(text));
         }
         table
+    }
+
+    // The first of the names with which there are more than so many bases.
+    pub fn first_beyond(most: usize, text: &'a [u8], names: &[usize]) -> Option<usize>
+        requires fit_names { FitNames text.now names.now }
+        requires names_len_bound { length names.now / 3 ≤ 183 }
+        ensures { result ≡ position (crowds most (glues_of text.now (names_of names.now))) (up_to (length names.now / 3)) }
+    {
+        let mut table = BaseTable::empty(text);
+        for (i, row) in rows(names).iter().enumerate() {
+            let name = LentName::from(*row);
+            table.learn(name.bytes(text));
+            if most < table.len() {
+                return Some(i);
+            }
+        }
+        None
     }
 
     // How many there are.

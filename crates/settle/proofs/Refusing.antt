@@ -1,4 +1,4 @@
--- What the reply of a build is, by its number. Assumes nothing.
+-- What the reply of a call is, by its number and place. Assumes nothing.
 use mathlib.Core.Path.{◌≡◌, refl, sym, ap}
 use mathlib.Core.Bool.{false}
 use Prim.Native.Nat.{ℕ}
@@ -8,7 +8,6 @@ use native.Mathlib.Omega.{arith}
 use Rattle.std.specs.Prelude.{Option, Result, Ok, Err}
 use Rattle.std.specs.Result.{result_ok}
 use Rattle.reply.specs.Number.{number_of, answered, Reply}
-use Rattle.reply.specs.First.{answer}
 use Rattle.reply.specs.Figures.{figures_of}
 use Rattle.reply.specs.declared.Refusal.{Refusal}
 use Rattle.reply.specs.declared.Refused.{Refused}
@@ -16,18 +15,6 @@ use Rattle.reply.proofs.Answer.{number-positive}
 use Rattle.reply.proofs.Lowest.{same_number}
 use Rattle.design.specs.Answers.{count_figures}
 use Rattle.settle.specs.Files.{states_by}
-use Rattle.sdc1d_params.specs.Params.{Params, Outcome, left_as_lent, built_from}
-
-module _ (p : Params) (lent : Outcome) where
-  -- a number of 0 is that of an admitted build
-  pub admitted_so : (r : Reply) → answered ≡ (answer r (left_as_lent lent) (built_from p)).number → r ≡ Ok tt
-  admitted_so (Ok u) e = refl
-  admitted_so (Err r) e = absurd (omega (arith, e, number-positive r.refusal))
-
-  -- a refusal's number is that of the reply
-  pub refused_so : (r : Reply) (why : Refusal) → number_of why ≡ (answer r (left_as_lent lent) (built_from p)).number → (e : Refused) × ((r ≡ Err e) × (e.refusal ≡ why))
-  refused_so (Ok u) why e = absurd (omega (arith, e, number-positive why))
-  refused_so (Err r) why e = (r, (refl, same_number (sym e)))
 
 -- no refusal has the number of an answer
 pub no_answer : (r : Refusal) → eqb (number_of r) answered ≡ false

@@ -1,5 +1,5 @@
 -- What becomes of a design file: what each call answers of what its lines say, the calls in their order. The first that does not answer ends it.
-use Rattle.std.specs.Prelude.{cond, List, ℕ, ◌+◌, eqb, take, replicate, Option, None, Some, Result, Ok, Err}
+use Rattle.std.specs.Prelude.{cond, List, ℕ, ◌+◌, ◌*◌, eqb, take, replicate, Option, None, Some, Result, Ok, Err}
 use Rattle.reply.specs.Number.{number_of, answered, Reply}
 use Rattle.reply.specs.First.{first_of}
 use Rattle.reply.specs.Figures.{Figures}
@@ -11,12 +11,13 @@ use Rattle.statements.specs.declared.ReadFault.{ReadFault}
 use Rattle.statements.specs.declared.ReadFault.TheVariants as reading
 use Rattle.statements.specs.declared.statement.Row.{Row}
 use Rattle.sdc1d_params.specs.Params as params
-use Rattle.sdc1d_params.specs.Params.{build_checks, from_params}
+use Rattle.sdc1d_params.specs.Params.{lent_of, from_params}
+use Rattle.sdc1d_params.specs.Places as placed
+use Rattle.sdc1d_params.specs.Tables.{empty_table}
 use Rattle.sdc1d_params.specs.declared.Build.{Build}
 use Rattle.sheet.specs.Rows.{count_of}
 use Rattle.sheet.specs.Faults.{sheet_answer, counts_of}
 use Rattle.sheet.specs.Said.{params_said, ambient_said, potentials_said, marks_said, glues_shown, strands_shown}
-use Rattle.sheet.specs.Place.{lent_for}
 use Rattle.sheet.specs.declared.faults.Counts.{Counts}
 use Rattle.sheet.specs.declared.faults.SheetFault.{SheetFault}
 use Rattle.sheet.specs.declared.faults.SheetFault.TheVariants as fault
@@ -38,13 +39,13 @@ use Rattle.settle.specs.Told.{Settled, Told, unreadable, refused, settled}
 abbrev pub strands_of : List Row → ℕ
 strands_of rows = count_of Strand rows + 3
 
--- what is lent to the build of what the rows say
+-- what is lent to the build of what the rows say: zeros, as many as it writes
 abbrev pub lent_said : List Row → params.Outcome
-lent_said rows = lent_for (count_of Strand rows) (count_of Position rows)
+lent_said rows = lent_of (replicate (3 * strands_of rows) 0) (replicate (count_of Position rows) 0) empty_table empty_table
 
--- the reply of the build
+-- the reply of the build, with its place
 unfoldable pub build_reply : Build → List ℕ → List Row → Reply
-build_reply which text rows = first_of (build_checks which (params_said text rows) (lent_said rows))
+build_reply which text rows = placed.build_reply which (params_said text rows) (lent_said rows)
 
 -- what the build gives
 unfoldable pub built_said : Build → List ℕ → List Row → params.Outcome
@@ -110,7 +111,7 @@ ambient_told text rows after = cond (eqb (ambient_said rows).number answered) af
 -- what the build's reply comes to: a refusal, or what comes after
 abbrev pub build_by : Reply → List ℕ → List Row → Told → Told
 build_by (Ok u) text rows after = after
-build_by (Err e) text rows after = refused (number_of e.refusal) (build_found text rows e.refusal)
+build_by (Err e) text rows after = refused (number_of e.refusal) (build_found text rows e)
 
 -- the build: a refusal, or what comes after
 unfoldable pub build_told : Build → List ℕ → List Row → Told → Told

@@ -80,8 +80,8 @@ fault_found None = nowhere why.Refused
 fault_found (Some f) = at_word f.line f.word (why_of f.cause)
 
 -- of a build that is refused so
-unfoldable pub build_found : List ℕ → List Row → Refusal → Found
-build_found text rows refusal = fault_found (place_of text rows refusal)
+unfoldable pub build_found : List ℕ → List Row → Refused → Found
+build_found text rows refused = fault_found (place_of text rows refused)
 
 -- of the temperature: the word after `kelvin`
 unfoldable pub kelvin_found : List ℕ → List Row → Found

@@ -112,10 +112,10 @@ fn why_of(cause: Cause) -> Why
 
 // Of a build that is refused so.
 #[tactic(auto, unfolding(crate::specs::Places::build_found))]
-pub(crate) fn build_found(sheet: &Sheet, refusal: Refusal) -> Found
-    ensures { result ≡ build_found sheet.now.text.now sheet.now.rows.now refusal }
+pub(crate) fn build_found(sheet: &Sheet, refused: Refused) -> Found
+    ensures { result ≡ build_found sheet.now.text.now sheet.now.rows.now refused }
 {
-    match sheet.place_of(refusal) {
+    match sheet.place_of(refused) {
         Some(fault) => Found {
             spot: Spot::at(Some(fault.line), fault.word),
             why: why_of(fault.cause),

@@ -213,7 +213,7 @@ fn build(
 {
     match sheet.build(which, strand_glues, scaffold_glues, dg, ds) {
         Ok(()) => Ok(()),
-        Err(refusal) => Err(refused(refusal, build_found(sheet, refusal))),
+        Err(given) => Err(refused(given.refusal, build_found(sheet, given))),
     }
 }
 

@@ -6,10 +6,7 @@ use native.Mathlib.Omega.{arith}
 use native.Mathlib.Numerals.{add-one}
 use lib.ListN.{length, get_or, drop, drop_of_length-le}
 use lib.Seq.{drop-cons}
-use Rattle.std.specs.Prelude.{Option, None, Some, Result, Ok, Err}
-use Rattle.reply.specs.Number.{answer_number}
-use Rattle.reply.specs.declared.Refusal.{Refusal}
-use Rattle.sdc_common.specs.Calls.{result_number}
+use Rattle.std.specs.Prelude.{Option, None, Some}
 use Rattle.statements.specs.declared.statement.Row.{Row}
 use Rattle.sheet.specs.Faults.{limit_of}
 use Rattle.sheet.specs.Place.{first_fault}
@@ -39,8 +36,3 @@ limit_most Reporter = omega arith
 limit_most Position = omega arith
 limit_most Entry = omega arith
 limit_most Penalty = omega arith
-
--- the number of a call that gives nothing but its reply
-pub bare_number : (r : Result Unit Refusal) → answer_number r ≡ result_number r
-bare_number (Ok u) = refl
-bare_number (Err refusal) = refl

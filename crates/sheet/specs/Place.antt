@@ -1,17 +1,12 @@
 -- Where the fault of a build that is refused lies in the file, and what is wrong there: the line of a row, and a word in it.
-use Rattle.std.specs.Prelude.{Bool, cond, List, [], ◌∷◌, ℕ, ◌+◌, ◌-◌, ◌*◌, eqb, ltb, take, drop, find, replicate, Option, None, Some}
+use Rattle.std.specs.Prelude.{Bool, cond, List, [], ◌∷◌, ℕ, ◌-◌, eqb, ltb, take, drop, find, Option, None, Some}
 use Rattle.std.specs.Option.{option_map, option_and_then, option_or}
-use Rattle.lists.specs.Build.{up_to}
-use Rattle.reply.specs.Number.{number_of}
 use Rattle.reply.specs.declared.Refusal.{Refusal}
 use Rattle.reply.specs.declared.Refusal.TheVariants as refusal
-use Rattle.utils.specs.Single.{string_dna_dg_ds}
+use Rattle.reply.specs.declared.Refused.{Refused}
+use Rattle.utils.specs.Single.{too_long}
 use Rattle.sdc_common.specs.Names.{is_retired}
-use Rattle.sdc_common.specs.Lent.{unfit_name, names_of}
-use Rattle.sdc_common.specs.Calls.{strand_glues}
-use Rattle.sdc1d_params.specs.Params.{Outcome, from_params, lent_of}
-use Rattle.sdc1d_params.specs.Tables.{empty_table}
-use Rattle.sdc1d_params.specs.declared.Build.TheVariants.{Archive}
+use Rattle.sdc_common.specs.Lent.{unfit_name}
 use Rattle.statements.specs.Layout.{row_word}
 use Rattle.statements.specs.Words.{spelled}
 use Rattle.statements.specs.declared.grammar.Kind.{Kind}
@@ -19,10 +14,7 @@ use Rattle.statements.specs.declared.grammar.Kind.TheVariants as kind
 use Rattle.statements.specs.declared.statement.Row.{Row}
 use Rattle.statements.specs.declared.words.Word.{Word}
 use Rattle.sheet.specs.Rows.{rows_of, count_of, first_of, row_among}
-use Rattle.sheet.specs.Faults.{counts_of}
 use Rattle.sheet.specs.Once.{copied_of}
-use Rattle.sheet.specs.Said.{strand_names, params_first}
-use Rattle.sheet.specs.declared.faults.Counts.{Counts}
 use Rattle.sheet.specs.declared.place.BuildFault.{BuildFault}
 use Rattle.sheet.specs.declared.place.Cause.{Cause}
 use Rattle.sheet.specs.declared.place.Cause.TheVariants as cause
@@ -70,14 +62,14 @@ long_name text row = find (is_long text) (all_names row.kind row.words)
 unfoldable pub starred_name : List ℕ → Row → Option Word
 starred_name text row = find (has_stars text) (own_names row.kind row.words)
 
--- a sequence, if by itself it is refused with this number
-abbrev pub sequence_if : List ℕ → ℕ → Option Word → Option Word
-sequence_if text number None = None
-sequence_if text number (Some bases) = cond (eqb (string_dna_dg_ds (spelled text bases)).number number) (Some bases) None
+-- a sequence that is too long
+abbrev pub long_by : List ℕ → Option Word → Option Word
+long_by text None = None
+long_by text (Some bases) = cond (too_long (spelled text bases)) (Some bases) None
 
--- the sequence of a row, if by itself it is refused so
-unfoldable pub refused_sequence : List ℕ → Refusal → Row → Option Word
-refused_sequence text refusal row = sequence_if text (number_of refusal) (sequence_by row.kind row)
+-- the sequence of a row, if it is too long
+unfoldable pub long_sequence : List ℕ → Row → Option Word
+long_sequence text row = long_by text (sequence_by row.kind row)
 
 -- the name of a strand that is not there: it stands for strand 0
 abbrev pub lost_name : Option ℕ → Row → Option Word
@@ -100,14 +92,12 @@ at_word row cause word = record { line = row.line; word = word; cause = cause }
 unfoldable pub size_fault : List ℕ → List Row → Row → Option BuildFault
 size_fault text rows row =
     option_or (option_map (at_word row cause.LongName) (long_name text row))
-    (option_or (option_map (at_word row cause.LongSequence) (refused_sequence text refusal.WrongSize row))
+    (option_or (option_map (at_word row cause.LongSequence) (long_sequence text row))
     (option_map (at_word row cause.NoSuchStrand) (lost_by row.kind text rows row)))
 
--- the fault of a row by itself, of a refusal that lies in one
+-- the fault of a row by itself, of a refusal that says no place: 1 and 21
 unfoldable pub row_fault : List ℕ → List Row → Refusal → Row → Option BuildFault
 row_fault text rows refusal.WrongSize row = size_fault text rows row
-row_fault text rows refusal.NotABase row = option_map (at_word row cause.NotABase) (refused_sequence text refusal.NotABase row)
-row_fault text rows refusal.TooShort row = option_map (at_word row cause.ShortSequence) (refused_sequence text refusal.TooShort row)
 row_fault text rows refusal.TwoStars row = option_map (at_word row cause.TwoStars) (starred_name text row)
 row_fault text rows other row = None
 
@@ -116,48 +106,40 @@ unfoldable pub first_fault : (Row → Option BuildFault) → List Row → Option
 first_fault rule [] = None
 first_fault rule (row ∷ rest) = option_or (rule row) (first_fault rule rest)
 
--- ---- a row at fault beside those before it
+-- ---- a row at fault by its number, which the build's refusal says
 
--- with the first n rows of a group, and all of the others
-abbrev pub with_first : Group → ℕ → Counts → Counts
-with_first Position n counts = record { strands = counts.strands; positions = n; entries = counts.entries }
-with_first other n counts = record { strands = counts.strands; positions = counts.positions; entries = n }
-
--- what is lent to a build of so many strands and positions: zeros, as many as it writes
-abbrev pub lent_for : ℕ → ℕ → Outcome
-lent_for strands positions = lent_of (replicate (3 * (strands + 3)) 0) (replicate positions 0) empty_table empty_table
-
--- The number of the build of so many. It is the archive's: of the refusals whose place is looked for so, none is that of a name with two stars.
-unfoldable pub build_number : List ℕ → List Row → Counts → ℕ
-build_number text rows counts = (from_params Archive (params_first text rows counts) (lent_for counts.strands counts.positions)).number
-
--- the number of the reply to the glues of the first n strands alone
-unfoldable pub glues_number : List ℕ → List Row → ℕ → ℕ
-glues_number text rows n = strand_glues n text (names_of (strand_names n rows)) (3 * n)
-
--- with the first n rows of a group the build is refused so; of strands the glues alone
-unfoldable pub refused_with : List ℕ → List Row → Group → Refusal → ℕ → Bool
-refused_with text rows Strand refusal n = eqb (glues_number text rows n) (number_of refusal)
-refused_with text rows group refusal n = eqb (build_number text rows (with_first group n (counts_of rows))) (number_of refusal)
-
--- the first row of a group up to which the build is refused so
-unfoldable pub first_refused : List ℕ → List Row → Group → Refusal → Option Row
-first_refused text rows group refusal =
-    option_and_then (row_among rows (rows_of group rows)) (find (λ (k : ℕ). refused_with text rows group refusal (k + 1)) (up_to (count_of group rows)))
+-- the row of a group with a number, from 0
+abbrev pub member : List Row → Group → Option ℕ → Option Row
+member rows group number = option_and_then (row_among rows (rows_of group rows)) number
 
 -- at the first word of a row
 abbrev pub at_first_word : Cause → Row → BuildFault
 at_first_word cause row = at_word row cause (row_word (Some row) 0)
 
+-- a row at fault there
+unfoldable pub at_name : Cause → Option Row → Option BuildFault
+at_name cause row = option_map (at_first_word cause) row
+
+-- a row at fault at its sequence
+unfoldable pub at_sequence : Cause → Option Row → Option BuildFault
+at_sequence cause None = None
+at_sequence cause (Some row) = option_map (at_word row cause) (sequence_by row.kind row)
+
 -- ---- of any refusal
 
+-- by its number and the place that it says
+abbrev pub place_by : List ℕ → List Row → Refusal → Option ℕ → Option BuildFault
+place_by text rows refusal.NotABase place = at_sequence cause.NotABase (member rows Entry place)
+place_by text rows refusal.TooShort place = at_sequence cause.ShortSequence (member rows Entry place)
+place_by text rows refusal.UnknownName place = at_name cause.UnknownName (member rows Position place)
+place_by text rows refusal.TooManyGlues place = at_name cause.TooManyGlues (member rows Strand place)
+place_by text rows refusal.DuplicatePair place = at_name cause.PairTwice (member rows Entry place)
+place_by text rows refusal.OutOfRange place = at_name cause.EnergyRange (member rows Entry place)
+place_by text rows other place = first_fault (row_fault text rows other) rows
+
 -- where a build that is refused so is at fault
-unfoldable pub place_of : List ℕ → List Row → Refusal → Option BuildFault
-place_of text rows refusal.UnknownName = option_map (at_first_word cause.UnknownName) (first_refused text rows Position refusal.UnknownName)
-place_of text rows refusal.TooManyGlues = option_map (at_first_word cause.TooManyGlues) (first_refused text rows Strand refusal.TooManyGlues)
-place_of text rows refusal.DuplicatePair = option_map (at_first_word cause.PairTwice) (first_refused text rows Entry refusal.DuplicatePair)
-place_of text rows refusal.OutOfRange = option_map (at_first_word cause.EnergyRange) (first_refused text rows Entry refusal.OutOfRange)
-place_of text rows other = first_fault (row_fault text rows other) rows
+unfoldable pub place_of : List ℕ → List Row → Refused → Option BuildFault
+place_of text rows refused = place_by text rows refused.refusal refused.place
 
 -- ---- the row of a strand
 

@@ -14,7 +14,6 @@ use Rattle.sheet.specs.Rows.{rows_of}
 use Rattle.sheet.specs.Faults.{counts_of}
 use Rattle.sheet.specs.Parts.{glue_at, first_at, name_number_at, entry_number_at, energy_at, potential_at, blocked_at}
 use Rattle.sheet.specs.Once.{number_once, ambient_of, copied_of}
-use Rattle.sheet.specs.declared.faults.Counts.{Counts}
 use Rattle.sheet.specs.declared.once.Ambient.{Ambient}
 use Rattle.sheet.specs.declared.once.Ambient.TheVariants.{At, Given}
 use Rattle.sheet.specs.declared.rows.Group.TheVariants.{Strand, Quencher, Reporter, Position, Entry, Penalty}
@@ -46,15 +45,11 @@ abbrev pub copies_said : List ℕ → List Row → Copies
 copies_said text rows =
     record { quencher = copied_of Quencher text rows (rows_of Strand rows); reporter = copied_of Reporter text rows (rows_of Strand rows) }
 
--- the parameter set of the first so many strands, positions and entries
-unfoldable pub params_first : List ℕ → List Row → Counts → Params
-params_first text rows counts =
-    params_of text counts.strands (strand_names counts.strands rows) (position_names counts.positions rows)
-    (entry_numbers counts.entries rows) (entry_energies counts.entries rows) (penalty_said rows) (copies_said text rows)
-
--- the parameter set that the file says: all of them
-abbrev pub params_said : List ℕ → List Row → Params
-params_said text rows = params_first text rows (counts_of rows)
+-- the parameter set that the file says: all of its strands, positions and entries
+unfoldable pub params_said : List ℕ → List Row → Params
+params_said text rows =
+    params_of text (counts_of rows).strands (strand_names (counts_of rows).strands rows) (position_names (counts_of rows).positions rows)
+    (entry_numbers (counts_of rows).entries rows) (entry_energies (counts_of rows).entries rows) (penalty_said rows) (copies_said text rows)
 
 -- ---- the ambient
 

@@ -1,27 +1,20 @@
 // Where the fault of a build that is refused lies in the file.
-ghost use Rattle.std.specs.Prelude.{◌≡◌, Bool, ◌∷◌, ◌≤◌, eqb, length};
-ghost use Rattle.std.specs.Option.{option_copied};
-ghost use Rattle.reply.specs.Number.{number_of};
+ghost use Rattle.std.specs.Prelude.{◌≡◌};
 ghost use Rattle.statements.specs.declared.grammar.Kind.TheVariants as kind;
-ghost use Rattle.sheet.specs.Rows.{count_of, first_of};
-ghost use Rattle.sheet.specs.Once.{copied_of};
-ghost use Rattle.sheet.specs.Place.{own_names, all_names, sequence_by, is_long, has_stars, long_name, starred_name, refused_sequence, lost_by, at_word, size_fault, row_fault, first_fault, with_first, build_number, glues_number, refused_with, first_refused, place_of, row_of_strand};
-ghost use Rattle.sheet.specs.declared.rows.Group.TheVariants as group;
+ghost use Rattle.sheet.specs.Rows.{first_of};
+ghost use Rattle.sheet.specs.Place.{own_names, all_names, sequence_by, is_long, long_name, starred_name, long_sequence, lost_by, at_word, size_fault, row_fault, first_fault, at_name, at_sequence, member, place_of, row_of_strand};
 
-use crate::faults::Counts;
-use crate::once::copied;
 use crate::rows::{Chosen, Group, count_of, first_of};
 use crate::said::Sheet;
-use reply::limits::{CELLS, POSITIONS, SIDES, STRANDS};
-use reply::{Refusal, number};
+use reply::{Refusal, Refused};
+use sdc_common::MOST_STRANDS;
 use sdc_common::names::Part;
 use sdc_common::retired::retires;
-use sdc_common::{MOST_STRANDS, strand_glues};
-use sdc1d_params::{Build, MOST_ENTRIES};
+use sdc1d_params::MOST_ENTRIES;
 use statements::grammar::Kind;
 use statements::statement::Row;
 use statements::words::{Word, bytes};
-use utils::string_dna_dg_ds;
+use utils::LONGEST;
 
 // What is wrong with a word of a row.
 #[derive(Clone, Copy, PartialEq, Eq)]
@@ -126,18 +119,36 @@ fn starred_name(text: &[u8], row: &Row) -> Option<Word>
         .find(|name| retires(bytes(text, *name)))
 }
 
-// A row's sequence, if by itself it is refused so.
-#[tactic(auto, unfolding(crate::specs::Place::refused_sequence))]
-fn refused_sequence(text: &[u8], refusal: Refusal, row: &Row) -> Option<Word>
-    ensures { result ≡ refused_sequence text.now refusal row.now }
+// A row's sequence, if it is too long.
+#[tactic(auto, unfolding(crate::specs::Place::long_sequence))]
+fn long_sequence(text: &[u8], row: &Row) -> Option<Word>
+    ensures { result ≡ long_sequence text.now row.now }
 {
     let sequence = sequence_of(row)?;
-    let sums = string_dna_dg_ds(bytes(text, sequence));
-    if number(sums) == refusal.number() {
+    if LONGEST < bytes(text, sequence).len() {
         Some(sequence)
     } else {
         None
     }
+}
+
+// A row at fault at its first word.
+#[tactic(auto, unfolding(crate::specs::Place::at_name))]
+fn at_name(cause: Cause, row: Option<Row>) -> Option<BuildFault>
+    ensures { result ≡ at_name cause row }
+{
+    let row = row?;
+    Some(at_word(&row, cause, row.words[0]))
+}
+
+// A row at fault at its sequence.
+#[tactic(auto, unfolding(crate::specs::Place::at_sequence))]
+fn at_sequence(cause: Cause, row: Option<Row>) -> Option<BuildFault>
+    ensures { result ≡ at_sequence cause row }
+{
+    let row = row?;
+    let sequence = sequence_of(&row)?;
+    Some(at_word(&row, cause, sequence))
 }
 
 impl Sheet<'_> {
@@ -166,29 +177,26 @@ impl Sheet<'_> {
         if let Some(name) = long_name(self.text, row) {
             return Some(at_word(row, Cause::LongName, name));
         }
-        if let Some(sequence) = refused_sequence(self.text, Refusal::WrongSize, row) {
+        if let Some(sequence) = long_sequence(self.text, row) {
             return Some(at_word(row, Cause::LongSequence, sequence));
         }
         let name = self.lost_name(row)?;
         Some(at_word(row, Cause::NoSuchStrand, name))
     }
 
-    // The fault of a row by itself, of a refusal that lies in one.
+    // The fault of a row by itself, of a refusal that says no place.
     #[tactic(auto, unfolding(crate::specs::Place::row_fault))]
     fn row_fault(&self, refusal: Refusal, row: &Row) -> Option<BuildFault>
         ensures { result ≡ row_fault self.now.text.now self.now.rows.now refusal row.now }
     {
-        let (cause, word) = match refusal {
-            Refusal::WrongSize => return self.size_fault(row),
-            Refusal::NotABase => (Cause::NotABase, refused_sequence(self.text, refusal, row)),
-            Refusal::TooShort => (
-                Cause::ShortSequence,
-                refused_sequence(self.text, refusal, row),
-            ),
-            Refusal::TwoStars => (Cause::TwoStars, starred_name(self.text, row)),
-            _ => return None,
-        };
-        Some(at_word(row, cause, word?))
+        match refusal {
+            Refusal::WrongSize => self.size_fault(row),
+            Refusal::TwoStars => {
+                let name = starred_name(self.text, row)?;
+                Some(at_word(row, Cause::TwoStars, name))
+            }
+            _ => None,
+        }
     }
 
     // The first row at fault by itself.
@@ -203,90 +211,38 @@ impl Sheet<'_> {
         None
     }
 
-    // The number of the archive's build of the first so many strands, positions and entries.
-    #[tactic(auto, unfolding(crate::specs::Place::build_number))]
-    fn build_number(&self, counts: Counts) -> u32
-        requires strands { counts.strands ≤ 61 }
-        requires positions { counts.positions ≤ 128 }
-        requires entries { counts.entries ≤ 1024 }
-        ensures { result ≡ build_number self.now.text.now self.now.rows.now counts }
+    // The row of a group by its number, from 0.
+    fn member(&self, group: Group, number: Option<usize>) -> Option<Row>
+        ensures { result ≡ member self.now.rows.now group number }
     {
-        let mut strand_glues = [0u8; SIDES * STRANDS];
-        let strand_glues = &mut strand_glues[..3 * (counts.strands + 3)];
-        let mut scaffold_glues = [0u8; POSITIONS];
-        let scaffold_glues = &mut scaffold_glues[..counts.positions];
-        let mut dg = [0.0; CELLS];
-        let mut ds = [0.0; CELLS];
-        number(self.build_first(
-            Build::Archive,
-            counts,
-            strand_glues,
-            scaffold_glues,
-            &mut dg,
-            &mut ds,
-        ))
-    }
-
-    // The number of the reply to the glues of the first n strands alone.
-    #[tactic(auto, unfolding(crate::specs::Place::glues_number, crate::specs::Said::strand_names))]
-    fn glues_number(&self, n: usize) -> u32
-        requires { n ≤ 61 }
-        ensures { result ≡ glues_number self.now.text.now self.now.rows.now n }
-    {
-        let mut strands = [0usize; 9 * MOST_STRANDS];
-        let strands = &mut strands[..9 * n];
-        self.strand_names(strands);
-        let mut glues = [0u8; SIDES * MOST_STRANDS];
-        number(strand_glues(self.text, n, strands, &mut glues[..3 * n]))
-    }
-
-    // Whether with the first n rows of a group the build is refused so; of strands the glues alone.
-    #[tactic(auto, unfolding(crate::specs::Place::refused_with))]
-    fn refused_with(&self, group: Group, refusal: Refusal, n: usize) -> bool
-        requires { n ≤ count_of group self.now.rows.now }
-        ensures { result ≡ refused_with self.now.text.now self.now.rows.now group refusal n }
-    {
-        let counts = self.counts;
-        let given = match group {
-            Group::Strand => self.glues_number(n),
-            Group::Position => self.build_number(Counts {
-                positions: n,
-                ..counts
-            }),
-            _ => self.build_number(Counts {
-                entries: n,
-                ..counts
-            }),
-        };
-        given == refusal.number()
-    }
-
-    // The first row of a group up to which the build is refused so.
-    #[tactic(auto, unfolding(crate::specs::Place::first_refused))]
-    fn first_refused(&self, group: Group, refusal: Refusal) -> Option<Row>
-        ensures { result ≡ first_refused self.now.text.now self.now.rows.now group refusal }
-    {
+        let number = number?;
         let count = count_of(self.rows, group);
         let mut places = [0usize; MOST_ENTRIES];
         let members = Chosen::of(self.rows, group, &mut places[..count]);
-        let k = (0..count).find(|k| self.refused_with(group, refusal, *k + 1))?;
-        members.row(k).copied()
+        members.row(number).copied()
     }
 
     // Where a build that is refused so is at fault.
     #[tactic(auto, unfolding(crate::specs::Place::place_of))]
-    pub fn place_of(&self, refusal: Refusal) -> Option<BuildFault>
-        ensures { result ≡ place_of self.now.text.now self.now.rows.now refusal }
+    pub fn place_of(&self, refused: Refused) -> Option<BuildFault>
+        ensures { result ≡ place_of self.now.text.now self.now.rows.now refused }
     {
-        let (group, cause) = match refusal {
-            Refusal::UnknownName => (Group::Position, Cause::UnknownName),
-            Refusal::TooManyGlues => (Group::Strand, Cause::TooManyGlues),
-            Refusal::DuplicatePair => (Group::Entry, Cause::PairTwice),
-            Refusal::OutOfRange => (Group::Entry, Cause::EnergyRange),
-            _ => return self.first_fault(refusal),
-        };
-        let row = self.first_refused(group, refusal)?;
-        Some(at_word(&row, cause, row.words[0]))
+        let place = refused.place;
+        match refused.refusal {
+            Refusal::NotABase => at_sequence(Cause::NotABase, self.member(Group::Entry, place)),
+            Refusal::TooShort => {
+                at_sequence(Cause::ShortSequence, self.member(Group::Entry, place))
+            }
+            Refusal::UnknownName => {
+                at_name(Cause::UnknownName, self.member(Group::Position, place))
+            }
+            Refusal::TooManyGlues => {
+                at_name(Cause::TooManyGlues, self.member(Group::Strand, place))
+            }
+            Refusal::DuplicatePair => at_name(Cause::PairTwice, self.member(Group::Entry, place)),
+            Refusal::OutOfRange => at_name(Cause::EnergyRange, self.member(Group::Entry, place)),
+            _ => self.first_fault(refused.refusal),
+        }
     }
 
     // The first row of a group.

@@ -1,24 +1,25 @@
 // A file's rows with nothing wrong, and what they say to the calls.
 ghost use Rattle.std.specs.Prelude.{◌≡◌, ◌≤◌, length, IfOk, IfErr, Ok, Err};
 ghost use Rattle.lists.specs.Build.{tabulate};
-ghost use Rattle.sdc_common.specs.Calls.{result_number};
+ghost use Rattle.reply.specs.Number.{reply_number};
 ghost use Rattle.sdc1d_params.specs.Params.{lent_of, outcome_of, from_params};
+ghost use Rattle.sdc1d_params.specs.Places.{build_reply};
 ghost use Rattle.units.specs.Ambient.{ambient_figures};
 ghost use Rattle.sheet.specs.Rows.{rows_of};
 ghost use Rattle.sheet.specs.Faults.{counts_of, sheet_answer};
 ghost use Rattle.sheet.specs.Parts.{glue_at, first_at, name_number_at, entry_number_at, energy_at};
 ghost use Rattle.sheet.specs.Theorems.{Sound};
-ghost use Rattle.sheet.specs.Said.{copies_said, params_first, params_said, ambient_said, potentials_said, marks_said, glues_shown, strands_shown};
+ghost use Rattle.sheet.specs.Said.{copies_said, params_said, ambient_said, potentials_said, marks_said, glues_shown, strands_shown};
 ghost use Rattle.sheet.specs.declared.rows.Group.TheVariants as group;
 
 use crate::faults::{Counts, SheetFault, check};
 use crate::once;
 use crate::once::{ambient_of, copied, junction_penalty};
 use crate::rows::{Chosen, Group};
-use reply::Refusal;
 use reply::limits::POSITIONS;
+use reply::{Refusal, Refused};
 use sdc_common::MOST_STRANDS;
-use sdc1d_params::{Build, Copies, LentParameters, MOST_ENTRIES, from_params};
+use sdc1d_params::{Build, Copies, LentParameters, MOST_ENTRIES, from_params_with_place};
 use statements::statement::Row;
 use statements::words::Word;
 use units::Ambient;
@@ -48,7 +49,7 @@ impl<'a> Sheet<'a> {
 
 impl Sheet<'_> {
     // The glue names of the strands, as many as there is room for.
-    pub(crate) fn strand_names(&self, names: &mut [usize])
+    fn strand_names(&self, names: &mut [usize])
         ensures { names.new ≡ tabulate (length names.old) (name_number_at (glue_at self.now.rows.now (rows_of group.Strand self.now.rows.now))) }
     {
         let mut places = [0usize; MOST_STRANDS];
@@ -92,22 +93,20 @@ impl Sheet<'_> {
         }
     }
 
-    // The glues of the first so many strands and positions, and the glue tables of the first so many entries.
-    #[tactic(auto, unfolding(crate::specs::Said::params_first, crate::specs::Said::strand_names, crate::specs::Said::position_names, crate::specs::Said::entry_numbers, crate::specs::Said::entry_energies))]
-    pub(crate) fn build_first(
+    // The glues of strands and scaffold, and the glue tables, into lent slices, in an ordinary build or the archive's. A refusal says its place.
+    #[tactic(auto, unfolding(crate::specs::Said::params_said, crate::specs::Said::strand_names, crate::specs::Said::position_names, crate::specs::Said::entry_numbers, crate::specs::Said::entry_energies))]
+    pub fn build(
         &self,
         which: Build,
-        counts: Counts,
         strand_glues: &mut [u8],
         scaffold_glues: &mut [u8],
         dg: &mut [f64],
         ds: &mut [f64],
-    ) -> Result<(), Refusal>
-        requires strands { counts.strands ≤ 61 }
-        requires positions { counts.positions ≤ 128 }
-        requires entries { counts.entries ≤ 1024 }
-        ensures { outcome_of (result_number result) strand_glues.new scaffold_glues.new dg.new ds.new ≡ from_params which (params_first self.now.text.now self.now.rows.now counts) (lent_of strand_glues.old scaffold_glues.old dg.old ds.old) }
+    ) -> Result<(), Refused>
+        ensures reply { result ≡ build_reply which (params_said self.now.text.now self.now.rows.now) (lent_of strand_glues.old scaffold_glues.old dg.old ds.old) }
+        ensures written { outcome_of (reply_number result) strand_glues.new scaffold_glues.new dg.new ds.new ≡ from_params which (params_said self.now.text.now self.now.rows.now) (lent_of strand_glues.old scaffold_glues.old dg.old ds.old) }
     {
+        let counts = self.counts;
         let mut strands = [0usize; 9 * MOST_STRANDS];
         let strands = &mut strands[..9 * counts.strands];
         self.strand_names(strands);
@@ -129,21 +128,7 @@ impl Sheet<'_> {
             penalty: junction_penalty(self.rows),
             copies: self.copies(),
         };
-        from_params(which, &parameters, strand_glues, scaffold_glues, dg, ds)
-    }
-
-    // The glues of strands and scaffold, and the glue tables, into lent slices, in an ordinary build or the archive's.
-    pub fn build(
-        &self,
-        which: Build,
-        strand_glues: &mut [u8],
-        scaffold_glues: &mut [u8],
-        dg: &mut [f64],
-        ds: &mut [f64],
-    ) -> Result<(), Refusal>
-        ensures { outcome_of (result_number result) strand_glues.new scaffold_glues.new dg.new ds.new ≡ from_params which (params_said self.now.text.now self.now.rows.now) (lent_of strand_glues.old scaffold_glues.old dg.old ds.old) }
-    {
-        self.build_first(which, self.counts, strand_glues, scaffold_glues, dg, ds)
+        from_params_with_place(which, &parameters, strand_glues, scaffold_glues, dg, ds)
     }
 
     // The ambient as it is given, or at the temperature that is.

@@ -1,4 +1,4 @@
-use mathlib.Core.Path.{◌≡◌, refl, sym, ap, ap₂, ◌∙◌}
+use mathlib.Core.Path.{◌≡◌, sym, ap, ap₂, ◌∙◌}
 use mathlib.Core.List.{List, []}
 use Prim.Native.Nat.{ℕ, ◌/◌}
 use native.Mathlib.Omega.{arith}
@@ -13,7 +13,7 @@ use Rattle.sdc_common.proofs.table.BaseTable.new.Goals as goal
 
 pub loop-row-init : goal.loop-row-init
 unfolding tabulate foldl
-loop-row-init c = (omega arith, refl)
+loop-row-init c = let e = c.empty-table.ensures in (rw e (omega arith), e)
 
 pub loop-row-preserved : goal.loop-row-preserved
 loop-row-preserved c =

@@ -1,4 +1,4 @@
--- `sdc1d_params::any_out` meets its contract: each cell is that of the entry at its place. Assumes nothing.
+-- `sdc1d_params::first_out` meets its contract: each cell is that of the entry at its place. Assumes nothing.
 use Rattle.std.proofs.Common.{rules, tests}
 use mathlib.Core.Path.{◌≡◌, ap, ◌∙◌}
 use Prim.Native.Nat.{ℕ, ◌+◌}
@@ -8,18 +8,17 @@ use Rattle.std.specs.List.{enumerate_from}
 use Rattle.std.proofs.lemmas.Iterator.{YieldsList-from_slice}
 use Rattle.std.proofs.lemmas.Iterator.Consumers.{YieldsList-from_enumerate}
 use Rattle.std.proofs.lemmas.Iterator.Adapters.{serves_from_places}
-use Rattle.std.proofs.lemmas.Iterator.Search.{any_from_yields_List}
+use Rattle.std.proofs.lemmas.Iterator.Search.{position_from_yields_List}
 use Rattle.std.proofs.lemmas.List.FromFn.{get_or-enumerate_from, length-enumerate_from}
-use Rattle.lists.proofs.Searches.{any_is}
 use Rattle.sdc1d_params.specs.Entries.{Cell, cell, energy_of, entry_at, entry_rows}
 use Rattle.sdc1d_params.specs.Tables.{out_of_range, write_of}
 use Rattle.sdc1d_params.specs.inner.Cells.{write_at}
 use Rattle.sdc1d_params.proofs.Writes.{same_write}
-use Rattle.sdc_common.proofs.Fit.{any-rows}
-use Rattle.sdc1d_params.proofs.tables.any_out.Goals as goal
+use Rattle.sdc_common.proofs.Positions.{position-rows}
+use Rattle.sdc1d_params.proofs.tables.first_out.Goals as goal
 
-pub any-requires-clause-callable : goal.any-requires-clause-callable
-any-requires-clause-callable c =
+pub position-requires-clause-callable : goal.position-requires-clause-callable
+position-requires-clause-callable c =
     serves_from_places (YieldsList-from_enumerate (YieldsList-from_slice c.args.cells.now cc) cc) (λ x q k. search rules)
     (λ x k g e _ _ _ _ _ _ _.
     let l = length-enumerate_from 0 c.args.cells.now in
@@ -33,8 +32,9 @@ returns c =
     let n = entry_rows l.entries.now in
     let f = write_at l.text.now l.entries.now l.energies.now l.penalty.dg.0 l.penalty.ds.0 a.cells.now in
     let p = λ (q : ℕ × Cell). out_of_range (write_of l.text.now l.penalty.dg.0 l.penalty.ds.0 q.1 (energy_of (entry_at l.entries.now l.energies.now q.0))) in
-    let by_call = any_from_yields_List p c.any.new.self _ _ c.any.ensures.ran (YieldsList-from_enumerate (YieldsList-from_slice a.cells.now cc) cc) (λ x b q k. search (rules, tests, same_write)) in
-    let here = any-rows p out_of_range (0, cell 0 0) (enumerate_from 0 a.cells.now) n f (length-enumerate_from 0 a.cells.now ∙ c.requires) (λ k h.
+    let by_call = position_from_yields_List p c.position.new.self _ _ c.position.ensures.ran (YieldsList-from_enumerate (YieldsList-from_slice a.cells.now cc) cc) (λ x b q k. search (rules, tests, same_write)) in
+    by_call
+    ∙ position-rows p out_of_range n (0, cell 0 0) (enumerate_from 0 a.cells.now) f (length-enumerate_from 0 a.cells.now ∙ c.requires)
+    (λ k h.
     let at : 0 + k ≡ k = omega arith in
-    ap p (get_or-enumerate_from 0 a.cells.now k (0, cell 0 0) (omega (arith, h, c.requires))) ∙ ap (λ (i : ℕ). p (i, get_or a.cells.now k (cell 0 0))) at) in
-    by_call ∙ any_is p (enumerate_from 0 a.cells.now) ∙ here
+    ap p (get_or-enumerate_from 0 a.cells.now k (0, cell 0 0) (omega (arith, h, c.requires))) ∙ ap (λ (i : ℕ). p (i, get_or a.cells.now k (cell 0 0))) at)

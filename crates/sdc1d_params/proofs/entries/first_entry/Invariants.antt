@@ -1,4 +1,4 @@
--- `sdc1d_params::any_entry` meets its contract: whatever the test says, no entry that was passed over passes it. Assumes nothing.
+-- `sdc1d_params::first_entry` meets its contract: whatever the test says, no entry that was passed over passes it. Assumes nothing.
 use mathlib.Core.Path.{◌≡◌}
 use mathlib.Core.Bool.{Bool, false}
 use Prim.Native.Nat.{ℕ, ◌<◌}
@@ -6,7 +6,7 @@ use Rattle.lists.specs.Find.{any}
 use Rattle.lists.specs.Build.{tabulate}
 use Rattle.sdc1d_params.specs.Entries.{entry_at, entry_rows}
 use Rattle.sdc1d_params.specs.declared.Entry.{Entry}
-use Rattle.sdc1d_params.proofs.entries.any_entry.Given as goal
+use Rattle.sdc1d_params.proofs.entries.first_entry.Given as goal
 
 abbrev pub invariant-loop-i : goal.invariant-loop-i
 invariant-loop-i g l =
