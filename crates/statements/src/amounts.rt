@@ -11,8 +11,8 @@ pub struct Amount {
     pub concentration: bool,
 }
 
-// The units of a concentration, and the power of ten by which each is smaller than mol/l. With the micro sign and with the Greek letter uM is written
-// as often as with u. `M` ends each other unit, and comes last.
+// The units of a concentration, and the power of ten by which each is smaller than mol/l. For the u of uM stands also the micro sign, or the Greek
+// letter. The first that fits counts: M, with which each of the others ends, comes last.
 const UNITS: [(&[u8], u8); 8] = [
     (b"mM", 3),
     (b"uM", 6),
