@@ -1,5 +1,5 @@
 -- The text in which the figures of a settled design are printed, for people and as JSON.
-use Rattle.std.specs.Prelude.{false, cond, ◌&&◌, List, [], ◌∷◌, ◌++◌, ℕ, ◌+◌, ◌-◌, ◌%◌, ◌^◌, eqb, ltb, take, replicate, Float, Option, None, Some}
+use Rattle.std.specs.Prelude.{Bool, false, cond, ◌&&◌, List, [], ◌∷◌, ◌++◌, ℕ, ◌+◌, ◌-◌, ◌%◌, ◌^◌, eqb, ltb, take, replicate, Float, Option, None, Some}
 use Rattle.std.specs.Fmt.{decimal, digits, padded_integral, format_spec}
 use Rattle.std.specs.Float.{binary64}
 use Rattle.std.specs.Float.Ieee.{to_bits}
@@ -72,12 +72,20 @@ deck_piece i word = deck_gap i ++ (32 ∷ hex_text 8 word)
 unfoldable pub deck_text : List ℕ → List ℕ
 deck_text words = codes "  deck" ++ (pieces deck_piece 0 words ++ (10 ∷ []))
 
+-- that a ring's last position stands beside its first
+abbrev pub ring_text : ℕ → List ℕ
+ring_text last = codes "  ring: position " ++ (decimal last ++ (codes " stands beside position 1" ++ (10 ∷ [])))
+
 -- ---- as JSON
 
 -- how many positions, strands, energies and states there are, as fields
 abbrev pub json_counts_text : ℕ → ℕ → ℕ → Option ℕ → List ℕ
 json_counts_text positions strands energies states =
     codes "0,\"positions\":" ++ (decimal positions ++ (codes ",\"strands\":" ++ (decimal strands ++ (codes ",\"energies\":" ++ (decimal energies ++ (codes ",\"states\":" ++ count_text states))))))
+
+-- whether the scaffold is a ring, as a field
+abbrev pub json_ring_text : Bool → List ℕ
+json_ring_text ring = codes ",\"ring\":" ++ cond ring (codes "true") (codes "false")
 
 -- a number of a list by its place
 abbrev pub number_piece : ℕ → ℕ → List ℕ

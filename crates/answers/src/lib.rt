@@ -78,6 +78,8 @@ pub struct SettledDesign<'a> {
     pub states: Option<u64>,
     pub configuration: &'a [u8],
     pub marks: &'a [u8],
+    // Whether the last position stands beside the first.
+    pub ring: bool,
     pub energy: f64,
     pub deck: &'a [u32],
 }

@@ -39,9 +39,11 @@ pub enum Why {
     // range
     EnergyRange,
     KelvinRange,
-    // ambient, potential, stars
+    // ambient, potential, dilute, ring, stars
     AmbientRange,
     PotentialRange,
+    ConcentrationRange,
+    RingSize,
     TwoStars,
     // Whatever else a call may refuse.
     Refused,
@@ -63,13 +65,15 @@ fn file_reason(fault: FileFault) -> &'static str {
 fn line_reason(reason: Reason) -> &'static str {
     match reason {
         Reason::NoSuchStatement =>
-            "no statement begins with this word. The statements are kelvin, ambient, strand, quencher, reporter, scaffold, blocked, energy, pair, penalty; # begins a comment",
+            "no statement begins with this word. The statements are kelvin, celsius, ambient, strand, quencher, reporter, scaffold, blocked, ring, energy, pair, penalty; # begins a comment",
         Reason::TooFewWords =>
             "the line ends too early. See docs/DESIGN-FILE.md for the words of this statement",
         Reason::TooManyWords =>
             "the statement ends before this word. Take it out, or begin a comment with #",
         Reason::NotANumber =>
             "this is no number. Write a decimal of up to 17 digits, as -1.25 or 3e-7, or 0x and the 16 hexadecimal digits of a double",
+        Reason::NotAnAmount =>
+            "this is no potential and no concentration. Write a number, as -16.118, or a decimal and behind it, with no blank, M, mM, uM, nM, pM or fM, as 100nM",
         Reason::TooManyDigits =>
             "the number has more than 17 digits from the first that is not 0. Round it, or give its bits as 0x and 16 hexadecimal digits",
         Reason::OutOfReach =>
@@ -87,7 +91,7 @@ pub(crate) fn reason_text(why: Why) -> &'static str {
         Why::Line(reason) => line_reason(reason),
         Why::NameTwice => "a strand further up has this name. Give each strand a name of its own",
         Why::GivenTwice => "this was given further up, and is given once. Keep one of the lines",
-        Why::NoAmbient => "the file gives no temperature. Add a line as: kelvin 310.15",
+        Why::NoAmbient => "the file gives no temperature. Add a line as: celsius 37",
         Why::TooManyRows =>
             "the file has more statements than a design of 61 strands, 128 positions and 1024 energies. Split it",
         Why::TooManyStrands =>
@@ -110,11 +114,14 @@ pub(crate) fn reason_text(why: Why) -> &'static str {
             "an energy for these two glues stands further up; one name stands for itself and its complement. Keep one of the lines",
         Why::EnergyRange =>
             "with the penalty added, dG lies beyond 1024 kcal/mol or dS beyond 8 kcal/mol/K in size. Correct the numbers",
-        Why::KelvinRange => "a temperature is 200 to 500 kelvin. Correct it; 37 C is 310.15",
+        Why::KelvinRange =>
+            "a temperature is 200 to 500 kelvin, or -73.14 to 226.85 celsius. Correct it",
         Why::AmbientRange =>
             "RT is 1/8 to 8 kcal/mol, and an excess is 1024 kelvin at most in size. Correct the numbers",
         Why::PotentialRange =>
             "a potential, the logarithm of a concentration, is 1024 at most in size. Correct it",
+        Why::ConcentrationRange => "a concentration is 2^-60 (8.7e-19) to 1024 mol/l. Correct it",
+        Why::RingSize => "a ring has 3 positions at least. Add positions, or take this line out",
         Why::TwoStars =>
             "a glue of a strand or an energy ends in one star at most: an even number of stars is none, an odd one is one. Correct it; --archive takes old files",
         Why::Refused => "the call refuses the design",

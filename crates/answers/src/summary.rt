@@ -1,7 +1,7 @@
 // What is printed of a settled design, for people and as JSON.
 ghost use Rattle.std.specs.Prelude.{◌≡◌, length, OnOk};
 ghost use Rattle.std.specs.Io.KnownBytes.{Appends};
-ghost use Rattle.answers.specs.Text.{count_text, comma, number_piece, numbers_text, word_piece, words_text, json_counts_text, json_bits_text, json_energy_text, number_of_text, states_text, counts_text, unit_text, energy_text, deck_gap, deck_piece, deck_text};
+ghost use Rattle.answers.specs.Text.{count_text, ring_text, json_ring_text, comma, number_piece, numbers_text, word_piece, words_text, json_counts_text, json_bits_text, json_energy_text, number_of_text, states_text, counts_text, unit_text, energy_text, deck_gap, deck_piece, deck_text};
 
 use crate::SettledDesign;
 use crate::names::Occupant;
@@ -104,11 +104,21 @@ impl<'a, W: Write> Printer<'a, W> {
         self.print_unit(energy)
     }
 
+    // That a ring's last position stands beside its first.
+    fn print_ring(&mut self, last: usize) -> io::Result<()>
+        ensures { OnOk result (Appends (W.contents self.old.out.now) (W.contents self.new.out.now) (ring_text last)) }
+    {
+        writeln!(self.out, "  ring: position {last} stands beside position 1")
+    }
+
     // For people.
     pub(crate) fn print_settled(&mut self, path: &[u8], design: &SettledDesign) -> io::Result<()> {
         self.print_bytes(path)?;
         self.print_counts(design)?;
         self.draw(design)?;
+        if design.ring {
+            self.print_ring(design.configuration.len())?;
+        }
         self.print_energy(design.energy)?;
         self.print_deck(design.deck)
     }
@@ -196,6 +206,14 @@ impl<'a, W: Write> Printer<'a, W> {
         self.print_count_or_null(states_of(design))
     }
 
+    // Whether the scaffold is a ring, as a field.
+    fn print_json_ring(&mut self, ring: bool) -> io::Result<()>
+        ensures { OnOk result (Appends (W.contents self.old.out.now) (W.contents self.new.out.now) (json_ring_text ring)) }
+    {
+        let word = if ring { "true" } else { "false" };
+        write!(self.out, ",\"ring\":{word}")
+    }
+
     // An energy's bits, as a field.
     fn print_json_bits(&mut self, energy: f64) -> io::Result<()>
         ensures { OnOk result (Appends (W.contents self.old.out.now) (W.contents self.new.out.now) (json_bits_text energy)) }
@@ -222,6 +240,7 @@ impl<'a, W: Write> Printer<'a, W> {
     ) -> io::Result<()> {
         self.print_json_head(path)?;
         self.print_json_counts(design)?;
+        self.print_json_ring(design.ring)?;
         self.print_numbers("configuration", design.configuration)?;
         self.print_numbers("blocked", design.marks)?;
         self.print_names(design)?;

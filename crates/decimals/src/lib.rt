@@ -7,7 +7,7 @@ mod reading;
 
 ghost use Rattle.std.specs.Prelude.{◌≡◌, ◌≤◌, IfOk, length, take};
 ghost use Rattle.decimals.specs.Digits.{digits_in, decimal_digits};
-ghost use Rattle.decimals.specs.Number.{number_of};
+ghost use Rattle.decimals.specs.Number.{number_of, scaled_of};
 ghost use Rattle.decimals.specs.Print.{printed, laid, fixed_printed, fixed_out};
 
 use digits::{count_places, put_digits, read_digits};
@@ -47,7 +47,15 @@ pub fn read_number(word: &[u8]) -> Result<f64, NumberFault>
         let bits = read_digits(&word[2..], 16, 0, u64::MAX);
         return Ok(double(bits));
     }
-    decimal(word)
+    decimal(word, 0)
+}
+
+// Reads a word as a decimal that counts units of 10 ^ -power.
+#[tactic(auto, unfolding(crate::specs::Number::scaled_of))]
+pub fn read_scaled(word: &[u8], power: u8) -> Result<f64, NumberFault>
+    ensures { result ≡ scaled_of word.now power }
+{
+    decimal(word, power)
 }
 
 // The last `digits` hexadecimal digits of n, in lower case: 16 are the bits of a double, 8 a word of a deck. The length of a printed text is

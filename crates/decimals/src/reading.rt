@@ -1,9 +1,9 @@
 // A word taken apart as a decimal, and the number that it stands for.
-ghost use Rattle.std.specs.Prelude.{◌≡◌, ◌⊎◌, ◌*◌, ◌^◌, ◌≤◌, ◌++◌, length, min};
+ghost use Rattle.std.specs.Prelude.{◌≡◌, ◌⊎◌, ◌*◌, ◌^◌, ◌≤◌, ◌<◌, ◌++◌, length, min, IfOk};
 ghost use Rattle.std.specs.Float.{binary64};
 ghost use Rattle.std.specs.Float.Ieee.{round};
 ghost use Rattle.decimals.specs.Digits.{numeral};
-ghost use Rattle.decimals.specs.Number.{begins_with, sign_length, point_length, all_digits, exponent_after, exponent_of, placed, valued, is_pattern, parts_of, decimal_of};
+ghost use Rattle.decimals.specs.Number.{begins_with, sign_length, point_length, all_digits, exponent_after, exponent_of, in_units, placed, valued, is_pattern, parts_of, decimal_of};
 
 use super::NumberFault;
 use super::digits::{digit_run, read_digits};
@@ -56,7 +56,8 @@ fn all_digits(text: &[u8]) -> bool
 // An exponent after its letter.
 #[tactic(auto, unfolding(crate::specs::Number::exponent_after))]
 fn exponent_after(text: &[u8]) -> Result<Exponent, NumberFault>
-    ensures { result ≡ exponent_after text.now }
+    ensures value { result ≡ exponent_after text.now }
+    ensures small { IfOk result (λ exponent. exponent.down ≤ 1000) }
 {
     let digits = &text[sign_length(text)..];
     if !all_digits(digits) {
@@ -73,7 +74,8 @@ fn exponent_after(text: &[u8]) -> Result<Exponent, NumberFault>
 // What follows a decimal's digits: nothing, or an exponent.
 #[tactic(auto, unfolding(crate::specs::Number::exponent_of))]
 fn exponent_of(rest: &[u8]) -> Result<Exponent, NumberFault>
-    ensures { result ≡ exponent_of rest.now }
+    ensures value { result ≡ exponent_of rest.now }
+    ensures small { IfOk result (λ exponent. exponent.down ≤ 1000) }
 {
     match rest {
         [] => Ok(Exponent { up: 0, down: 0 }),
@@ -145,17 +147,23 @@ fn value(
     )
 }
 
-// The number that a word stands for as a decimal.
+// The number that a word stands for as a decimal which counts units of 10 ^ -power.
 #[tactic(auto, unfolding(crate::specs::Number::decimal_of, crate::specs::Number::parts_of))]
-pub(crate) fn decimal(word: &[u8]) -> Result<f64, NumberFault>
-    ensures { result ≡ decimal_of (parts_of word.now) (exponent_of (parts_of word.now).rest) }
+pub(crate) fn decimal(word: &[u8], power: u8) -> Result<f64, NumberFault>
+    ensures { result ≡ decimal_of (parts_of word.now) (in_units power (exponent_of (parts_of word.now).rest)) }
 {
     let body = &word[sign_length(word)..];
     let (whole, after) = body.split_at(digit_run(body, 10));
     let places = &after[point_length(after)..];
     let (fraction, rest) = places.split_at(digit_run(places, 10));
-    let exponent = exponent_of(rest)?;
-    value(begins_with(word, b'-'), whole, fraction, exponent)
+    let Exponent { up, down } = exponent_of(rest)?;
+    let down = down + u64::from(power);
+    value(
+        begins_with(word, b'-'),
+        whole,
+        fraction,
+        Exponent { up, down },
+    )
 }
 
 // Whether a word is 0x and 16 hexadecimal digits.

@@ -1,9 +1,11 @@
 -- What becomes of a design file: what each call answers of what its lines say, the calls in their order. The first that does not answer ends it.
-use Rattle.std.specs.Prelude.{cond, List, ℕ, ◌+◌, ◌*◌, eqb, take, replicate, Option, None, Some, Result, Ok, Err}
+use Rattle.std.specs.Prelude.{Bool, cond, ◌&&◌, List, ℕ, ◌+◌, ◌*◌, eqb, take, replicate, Option, None, Some, Result, Ok, Err}
+use Rattle.std.specs.List.{find}
+use Rattle.lists.specs.Build.{up_to}
 use Rattle.reply.specs.Number.{number_of, answered, Reply}
 use Rattle.reply.specs.First.{first_of}
 use Rattle.reply.specs.Figures.{Figures}
-use Rattle.reply.specs.declared.Refusal.TheVariants.{WrongSize}
+use Rattle.reply.specs.declared.Refusal.TheVariants.{WrongSize, TooDilute}
 use Rattle.units.specs.Ambient as units
 use Rattle.units.specs.declared.Ambient.{Ambient}
 use Rattle.statements.specs.Rows.{read_answer, rows_of}
@@ -17,7 +19,9 @@ use Rattle.sdc1d_params.specs.Tables.{empty_table}
 use Rattle.sdc1d_params.specs.declared.Build.{Build}
 use Rattle.sheet.specs.Rows.{count_of}
 use Rattle.sheet.specs.Faults.{sheet_answer, counts_of}
-use Rattle.sheet.specs.Said.{params_said, ambient_said, potentials_said, marks_said, glues_shown, strands_shown}
+use Rattle.sheet.specs.Said.{params_said, ambient_said, potentials_said, marks_said, ring_said, glues_shown, strands_shown}
+use Rattle.sheet.specs.Amounts.{thin_in}
+use Rattle.sheet.specs.Place.{row_of_strand}
 use Rattle.sheet.specs.declared.faults.Counts.{Counts}
 use Rattle.sheet.specs.declared.faults.SheetFault.{SheetFault}
 use Rattle.sheet.specs.declared.faults.SheetFault.TheVariants as fault
@@ -25,13 +29,15 @@ use Rattle.sheet.specs.declared.rows.Group.TheVariants.{Strand, Position}
 use Rattle.deck.specs.Form.{singles}
 use Rattle.deck.specs.Writing.{write_figures, write_words}
 use Rattle.design.specs.declared.Amounts.TheVariants.{Potentials}
-use Rattle.design.specs.Design.{Design, design}
+use Rattle.design.specs.Design.{Design, design, strands}
+use Rattle.design.specs.Checks.{somewhere}
 use Rattle.design.specs.Answers.{count_answer}
-use Rattle.mfe.specs.Answers.{search_checks, search_answer, search_entries}
 use Rattle.answers.specs.declared.reasons.FileFault.TheVariants as file
 use Rattle.answers.specs.declared.reasons.Why.TheVariants as why
-use Rattle.settle.specs.Places.{nowhere, at_line, at_word, on_line, too_many, build_found, kelvin_found, design_found}
+use Rattle.settle.specs.Places.{nowhere, at_line, at_word, on_line, too_many, build_found, kelvin_found, amount_found, design_found}
+use Rattle.settle.specs.Searches.{checks_by, answer_by, entries_by}
 use Rattle.settle.specs.Told.{Settled, Told, unreadable, refused, settled}
+use Rattle.settle.specs.Encoding.{explained}
 
 -- ---- the design
 
@@ -56,12 +62,27 @@ abbrev pub ambient_from : units.Figures → Ambient
 ambient_from figures =
     record { rt = record { 0 = figures.rt }; strand_excess = record { 0 = figures.strand_excess }; scaffold_excess = record { 0 = figures.scaffold_excess } }
 
--- the design that the rows say: what was built, with their marks, potentials and ambient
+-- the design that the rows say: what was built, with their marks, potentials and ambient. A concentration comes as its logarithm.
 unfoldable pub design_said : Build → List ℕ → List Row → Design
 design_said which text rows =
     design (built_said which text rows).scaffold_glues (marks_said (count_of Position rows) rows) (built_said which text rows).strand_glues
     (built_said which text rows).dg (built_said which text rows).ds (potentials_said (strands_of rows) rows) Potentials
     (ambient_from (ambient_said rows))
+
+-- ---- the concentrations
+
+-- a strand is somewhere a friend, and its concentration has no logarithm
+abbrev pub is_dilute : List Row → Design → ℕ → Bool
+is_dilute rows d strand = thin_in (row_of_strand rows strand) && somewhere d.scaffold d.marks d.glues d.dg d.ds strand
+
+-- what the first such strand comes to, where there is one, or what comes after
+abbrev pub dilute_by : Option ℕ → List ℕ → List Row → Told → Told
+dilute_by None text rows after = after
+dilute_by (Some strand) text rows after = refused (number_of TooDilute) (amount_found text rows strand)
+
+-- what the concentrations come to: document 02's 15, or what comes after
+unfoldable pub dilute_told : List ℕ → List Row → Design → Told → Told
+dilute_told text rows d after = dilute_by (find (is_dilute rows d) (up_to (strands d))) text rows after
 
 -- ---- the search
 
@@ -77,7 +98,8 @@ room_for rows = replicate (count_of Position rows) 0
 unfoldable pub deck_written : List ℕ → List ℕ
 deck_written configuration = take (write_figures singles configuration (replicate 129 0)).count (write_words singles configuration (replicate 129 0))
 
--- a settled design of the rows: the configuration that the search of a design writes, the energy that it gives, and the number of states
+-- a settled design of the rows: the configuration that the search of a design writes, a ring's where the rows say so, the energy that it gives, and
+-- the number of states
 abbrev pub settled_of : List Row → Design → Settled
 settled_of rows d =
     record {
@@ -85,10 +107,11 @@ settled_of rows d =
       glues = glues_shown (count_of Position rows) rows;
       strand_names = strands_shown (count_of Strand rows) rows;
       marks = marks_said (count_of Position rows) rows;
-      configuration = search_entries d (room_for rows);
-      energy = (search_answer d (room_for rows)).figure;
+      ring = ring_said rows;
+      configuration = entries_by (ring_said rows) d (room_for rows);
+      energy = (answer_by (ring_said rows) d (room_for rows)).figure;
       states = states_by (count_answer d);
-      deck = deck_written (search_entries d (room_for rows));
+      deck = deck_written (entries_by (ring_said rows) d (room_for rows));
     }
 
 -- what the search's reply comes to
@@ -98,7 +121,7 @@ search_by (Err e) text rows design = refused (number_of e.refusal) (design_found
 
 -- the reply of the search over a design of the rows
 unfoldable pub search_reply : List Row → Design → Reply
-search_reply rows d = first_of (search_checks d (room_for rows))
+search_reply rows d = first_of (checks_by (ring_said rows) d (room_for rows))
 
 -- what it comes to
 unfoldable pub search_told : List ℕ → List Row → Design → Told
@@ -117,10 +140,13 @@ build_by (Err e) text rows after = refused (number_of e.refusal) (build_found te
 unfoldable pub build_told : Build → List ℕ → List Row → Told → Told
 build_told which text rows after = build_by (build_reply which text rows) text rows after
 
--- the build, then the ambient, then the search
+-- the concentrations of a design, then the search
+unfoldable pub said_told : List ℕ → List Row → Design → Told
+said_told text rows d = dilute_told text rows d (search_told text rows d)
+
+-- the build, then the ambient, then the concentrations, then the search
 unfoldable pub design_told : Build → List ℕ → List Row → Told
-design_told which text rows =
-    build_told which text rows (ambient_told text rows (search_told text rows (design_said which text rows)))
+design_told which text rows = build_told which text rows (ambient_told text rows (said_told text rows (design_said which text rows)))
 
 -- ---- the lines
 
@@ -151,6 +177,10 @@ abbrev pub read_by : Result ℕ ReadFault → Told → Told
 read_by (Ok n) rows = rows
 read_by (Err fault) rows = read_fault fault
 
--- of a text: there is room for more rows than a design has
-unfoldable pub settle_told : Build → List ℕ → Told
-settle_told which text = read_by (read_answer text 2048) (rows_told which text (rows_of text))
+-- of the lines of a text: there is room for more rows than a design has
+unfoldable pub lines_told : Build → List ℕ → Told
+lines_told which text = read_by (read_answer text 2048) (rows_told which text (rows_of text))
+
+-- of a text
+abbrev pub settle_told : Build → List ℕ → Told
+settle_told which text = explained text (lines_told which text)

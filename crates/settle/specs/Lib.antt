@@ -1,3 +1,4 @@
 pub mod Places
 pub mod Told
+pub mod Searches
 pub mod Files

@@ -5,6 +5,8 @@ use Rattle.reply.specs.declared.Refusal.TheVariants as refusal
 use Rattle.reply.specs.declared.Refused.{Refused}
 use Rattle.statements.specs.Layout.{row_word}
 use Rattle.statements.specs.Words.{Line, up_to_end, lines_of, words_in}
+use Rattle.statements.specs.declared.grammar.Kind.{Kind}
+use Rattle.statements.specs.declared.grammar.Kind.TheVariants as kind
 use Rattle.statements.specs.declared.statement.Row.{Row}
 use Rattle.statements.specs.declared.words.Word.{Word}
 use Rattle.sheet.specs.Rows.{first_of}
@@ -83,18 +85,33 @@ fault_found (Some f) = at_word f.line f.word (why_of f.cause)
 unfoldable pub build_found : List ℕ → List Row → Refused → Found
 build_found text rows refused = fault_found (place_of text rows refused)
 
--- of the temperature: the word after `kelvin`
+-- of the temperature: the word after `kelvin` or `celsius`
 unfoldable pub kelvin_found : List ℕ → List Row → Found
 kelvin_found text rows = on_row text (first_of group.Ambient rows) 1 why.KelvinRange
+
+-- the word of a strand's line that holds its amount: after `strand` come its name and three glues, after `quencher` and `reporter` a strand's name
+abbrev pub amount_word : Kind → ℕ
+amount_word kind.Strand = 5
+amount_word other = 2
+
+-- at the amount of a row, where there is one
+abbrev pub on_amount : List ℕ → Option Row → Found
+on_amount text None = nowhere why.ConcentrationRange
+on_amount text (Some row) = on_line text row.line (amount_word row.kind) why.ConcentrationRange
+
+-- of a strand's concentration
+unfoldable pub amount_found : List ℕ → List Row → ℕ → Found
+amount_found text rows strand = on_amount text (row_of_strand rows strand)
 
 -- the word of the ambient's line that holds one of its numbers: after `ambient` come RT, the strand excess and the scaffold excess
 abbrev pub ambient_word : ℕ → ℕ
 ambient_word number = cond (eqb number 0) 1 (cond (eqb number 1) 2 3)
 
--- of a design that was built, by its refusal and its place: a number of the ambient, or the potential of a strand
+-- of a design that was built, by its refusal and its place: a number of the ambient, the potential of a strand, or `ring`
 abbrev pub design_by : List ℕ → List Row → Refusal → Option ℕ → Found
 design_by text rows refusal.AmbientOut (Some number) = on_row text (first_of group.Ambient rows) (ambient_word number) why.AmbientRange
 design_by text rows refusal.PotentialOut (Some strand) = in_row (row_of_strand rows strand) why.PotentialRange
+design_by text rows refusal.NotARing place = on_row text (first_of group.Ring rows) 0 why.RingSize
 design_by text rows other place = nowhere why.Refused
 
 -- the same

@@ -1,5 +1,5 @@
 -- What became of a design file, as the program's own answer says it: refusals by document 01's number, and of each array as much as is in use.
-use Rattle.std.specs.Prelude.{List, ℕ, take, Float, Option, None, Some, Result, Ok, Err}
+use Rattle.std.specs.Prelude.{Bool, List, ℕ, take, Float, Option, None, Some, Result, Ok, Err}
 use Rattle.reply.specs.Number.{number_of}
 use Rattle.reply.specs.declared.Refusal.{Refusal}
 use Rattle.statements.specs.declared.words.Word.{Word}
@@ -8,13 +8,14 @@ use Rattle.answers.specs.declared.Found.{Found}
 use Rattle.settle.specs.declared.settle.SettledFile.{SettledFile}
 use Rattle.settle.specs.declared.settle.Unsettled.{Unsettled}
 
--- a settled design: how many strands, positions and energies it has, the glues of its positions, the names of its strands, its marks, the
--- configuration that the search gives, its energy, the number of states where so many are counted, and the configuration's deck
+-- a settled design: how many strands, positions and energies it has, the glues of its positions, the names of its strands, its marks,
+-- whether it is a ring, the configuration that the search gives, its energy, the number of states where so many are counted, and the configuration's deck
 pub record Settled : Type 0 where
   pub counts : Counts
   pub glues : List Word
   pub strand_names : List Word
   pub marks : List ℕ
+  pub ring : Bool
   pub configuration : List ℕ
   pub energy : Float
   pub states : Option ℕ
@@ -34,6 +35,7 @@ settled_file f =
       glues = take f.counts.positions f.glues;
       strand_names = take f.counts.strands f.strand_names;
       marks = take f.counts.positions f.marks;
+      ring = f.ring;
       configuration = take f.counts.positions f.configuration;
       energy = f.energy.0;
       states = f.states;

@@ -1,7 +1,7 @@
 // The place that is shown: a line, a word of it as far as there is one, and the reason.
 ghost use Rattle.std.specs.Prelude.{◌≡◌, slice_get};
 ghost use Rattle.statements.specs.Words.{lines_of, words_in};
-ghost use Rattle.settle.specs.Places.{at_line, word_on, on_line, on_row, in_row, too_many, why_of, ambient_word, build_found, kelvin_found, design_found};
+ghost use Rattle.settle.specs.Places.{at_line, word_on, on_line, on_row, in_row, too_many, why_of, ambient_word, amount_word, build_found, kelvin_found, amount_found, design_found};
 
 use answers::reasons::Why;
 use answers::{Found, Spot};
@@ -9,6 +9,7 @@ use reply::{Refusal, Refused};
 use sheet::place::Cause;
 use sheet::rows::Group;
 use sheet::said::Sheet;
+use statements::grammar::Kind;
 use statements::statement::Row;
 use statements::words::{Lines, NumberedLine, Word, Words};
 
@@ -133,6 +134,28 @@ pub(crate) fn kelvin_found(sheet: &Sheet) -> Found
     on_row(sheet.text, row, 1, Why::KelvinRange)
 }
 
+// The word of a strand's line that holds its amount.
+fn amount_word(kind: Kind) -> usize
+    ensures { result ≡ amount_word kind }
+{
+    match kind {
+        Kind::Strand => 5,
+        _ => 2,
+    }
+}
+
+// Of a strand's concentration.
+#[tactic(auto, unfolding(crate::specs::Places::amount_found))]
+pub(crate) fn amount_found(sheet: &Sheet, strand: usize) -> Found
+    ensures { result ≡ amount_found sheet.now.text.now sheet.now.rows.now strand }
+{
+    let why = Why::ConcentrationRange;
+    match sheet.row_of_strand(strand) {
+        Some(row) => on_line(sheet.text, row.line, amount_word(row.kind), why),
+        None => Found::nowhere(why),
+    }
+}
+
 // The word of the ambient's line that holds one of its numbers: RT, then the two excesses. A refusal's place is a number, as C is told it.
 fn ambient_word(number: usize) -> usize
     ensures { result ≡ ambient_word number }
@@ -144,7 +167,7 @@ fn ambient_word(number: usize) -> usize
     }
 }
 
-// Of a design that was built: a number of its ambient, or the potential of a strand.
+// Of a design that was built: a number of its ambient, the potential of a strand, or that it is a ring.
 #[tactic(auto, unfolding(crate::specs::Places::design_found))]
 pub(crate) fn design_found(sheet: &Sheet, refused: Refused) -> Found
     ensures { result ≡ design_found sheet.now.text.now sheet.now.rows.now refused }
@@ -158,6 +181,9 @@ pub(crate) fn design_found(sheet: &Sheet, refused: Refused) -> Found
         ),
         (Refusal::PotentialOut, Some(strand)) => {
             in_row(sheet.row_of_strand(strand), Why::PotentialRange)
+        }
+        (Refusal::NotARing, _) => {
+            on_row(sheet.text, sheet.first_of(Group::Ring), 0, Why::RingSize)
         }
         _ => Found::nowhere(Why::Refused),
     }

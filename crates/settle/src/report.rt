@@ -42,6 +42,7 @@ impl SettledFile {
         ensures states { result.states ≡ (settled_file self.now).states }
         ensures configuration { result.configuration.now ≡ (settled_file self.now).configuration }
         ensures marks { result.marks.now ≡ (settled_file self.now).marks }
+        ensures ring { result.ring ≡ (settled_file self.now).ring }
         ensures energy { result.energy ≡ (settled_file self.now).energy }
         ensures deck { result.deck.now ≡ (settled_file self.now).deck }
     {
@@ -54,6 +55,7 @@ impl SettledFile {
             states: self.states,
             configuration: first(&self.configuration, positions),
             marks: first(&self.marks, positions),
+            ring: self.ring,
             energy: self.energy.0,
             deck: first(&self.deck.words, self.deck.count),
         }

@@ -1,26 +1,30 @@
 // From a file's text to the configuration in which its strands settle.
-ghost use Rattle.std.specs.Prelude.{◌≡◌, take, None, Some, IfOk, IfErr};
+ghost use Rattle.std.specs.Prelude.{◌≡◌, ◌≤◌, take, find, None, Some, IfOk, IfErr};
+ghost use Rattle.lists.specs.Build.{up_to};
+ghost use Rattle.design.specs.Design.{strands};
 ghost use Rattle.reply.specs.Number.{answered};
 ghost use Rattle.sdc1d_params.specs.Params.{lent_of, outcome_of};
 ghost use Rattle.sheet.specs.Rows.{count_of};
-ghost use Rattle.sheet.specs.Said.{ambient_said, marks_said, glues_shown, strands_shown};
+ghost use Rattle.sheet.specs.Said.{ambient_said, marks_said, ring_said, glues_shown, strands_shown};
 ghost use Rattle.sheet.specs.declared.rows.Group.TheVariants as group;
-ghost use Rattle.design.specs.Answers.{count_answer};
-ghost use Rattle.mfe.specs.Answers.{search_answer, search_entries};
-ghost use Rattle.mfe.specs.Answered.{SearchAnswered};
+ghost use Rattle.design.specs.Answers.{count_answer, energy_figures};
 ghost use Rattle.statements.specs.Rows.{rows_of};
+ghost use Rattle.settle.specs.Searches.{answer_by, entries_by, AnsweredBy};
 ghost use Rattle.settle.specs.Told.{Settled, Told, settled, told, unsettled};
-ghost use Rattle.settle.specs.Files.{lent_said, built_said, build_told, ambient_from, ambient_told, design_said, room_for, deck_written, states_by, search_reply, search_by, search_told, design_told, read_fault, sheet_fault, rows_told, settle_told};
+ghost use Rattle.settle.specs.Files.{lent_said, built_said, build_told, ambient_from, ambient_told, design_said, room_for, deck_written, states_by, search_reply, search_by, search_told, is_dilute, dilute_told, said_told, design_told, read_fault, sheet_fault, rows_told, settle_told};
 
-use crate::found::{at_line, build_found, design_found, kelvin_found, on_line, too_many};
+use crate::found::{
+    amount_found, at_line, build_found, design_found, kelvin_found, on_line, too_many,
+};
 use crate::reads::first;
 use answers::reasons::{FileFault, Why};
 use answers::{Found, Spot};
 use deck::DeckForm;
 use design::{Amounts, Design};
 use mfe::mfe_configuration;
-use reply::Refusal;
 use reply::limits::{CELLS, POSITIONS, SIDES, STRANDS};
+use reply::{Refusal, Refused};
+use ring::ring_configuration;
 use sdc_common::MOST_STRANDS;
 use sdc1d::number_of_states;
 use sdc1d_params::Build;
@@ -70,6 +74,8 @@ pub(crate) struct SettledFile {
     pub(crate) strand_names: [Word; MOST_STRANDS],
     // 1 where a position is blocked.
     pub(crate) marks: [u8; POSITIONS],
+    // Whether the last position stands beside the first.
+    pub(crate) ring: bool,
     pub(crate) configuration: [u8; POSITIONS],
     pub(crate) energy: KcalPerMol,
     // How many states it has, where so many are counted.
@@ -163,15 +169,27 @@ fn states_of(design: &Design) -> Option<u64>
     number_of_states(design).ok()
 }
 
+// The lowest configuration of a design: of a ring, or of a chain.
+fn lowest(ring: bool, design: &Design, configuration: &mut [u8]) -> Result<KcalPerMol, Refused>
+    ensures value { energy_figures result ≡ answer_by ring design.now configuration.old }
+    ensures written { configuration.new ≡ entries_by ring design.now configuration.old }
+{
+    if ring {
+        ring_configuration(design, configuration)
+    } else {
+        mfe_configuration(design, configuration)
+    }
+}
+
 // The search over a design, with an entry for each position.
 fn search(sheet: &Sheet, design: &Design, configuration: &mut [u8]) -> Result<KcalPerMol, Unsettled>
     requires { configuration.old ≡ room_for sheet.now.rows.now }
-    ensures energy { IfOk result (λ energy. energy.0 ≡ (search_answer design.now (room_for sheet.now.rows.now)).figure) }
-    ensures written { configuration.new ≡ search_entries design.now (room_for sheet.now.rows.now) }
+    ensures energy { IfOk result (λ energy. energy.0 ≡ (answer_by (ring_said sheet.now.rows.now) design.now (room_for sheet.now.rows.now)).figure) }
+    ensures written { configuration.new ≡ entries_by (ring_said sheet.now.rows.now) design.now (room_for sheet.now.rows.now) }
     ensures goes_on { IfOk result (λ _. (s : Settled) → search_by (search_reply sheet.now.rows.now design.now) sheet.now.text.now sheet.now.rows.now s ≡ settled s) }
     ensures ends { IfErr result (λ u. (s : Settled) → search_by (search_reply sheet.now.rows.now design.now) sheet.now.text.now sheet.now.rows.now s ≡ unsettled u.refusal u.found) }
 {
-    match mfe_configuration(design, configuration) {
+    match lowest(sheet.is_ring(), design, configuration) {
         Ok(energy) => Ok(energy),
         Err(given) => Err(refused(given.refusal, design_found(sheet, given))),
     }
@@ -180,7 +198,7 @@ fn search(sheet: &Sheet, design: &Design, configuration: &mut [u8]) -> Result<Kc
 // The search over a design, and what is shown of it.
 fn searched(sheet: &Sheet, design: &Design) -> Result<SettledFile, Unsettled>
     ensures told { told result ≡ search_told sheet.now.text.now sheet.now.rows.now design.now }
-    ensures lowest { SearchAnswered design.now (room_for sheet.now.rows.now) }
+    ensures lowest { AnsweredBy (ring_said sheet.now.rows.now) design.now (room_for sheet.now.rows.now) }
 {
     design.hold_doubles();
     let mut configuration = [0u8; POSITIONS];
@@ -190,11 +208,46 @@ fn searched(sheet: &Sheet, design: &Design) -> Result<SettledFile, Unsettled>
         glues: glues_of(sheet),
         strand_names: names_of(sheet),
         marks: marks_of(sheet),
+        ring: sheet.is_ring(),
         configuration,
         energy,
         states: states_of(design),
         deck: deck_of(&configuration[..sheet.counts.positions]),
     })
+}
+
+// The first strand that is somewhere a friend, and whose concentration has no logarithm.
+fn first_dilute(sheet: &Sheet, design: &Design) -> Option<u8>
+    requires { strands design.now ≤ 64 }
+    ensures { result ≡ find (is_dilute sheet.now.rows.now design.now) (up_to (strands design.now)) }
+{
+    (0..design.strands() as u8).find(|strand| sheet.is_thin(usize::from(*strand))
+        && design.is_friend_somewhere(*strand))
+}
+
+// The concentrations of a design.
+fn concentrations(sheet: &Sheet, design: &Design) -> Result<(), Unsettled>
+    requires { strands design.now ≤ 64 }
+    ensures goes_on { IfOk result (λ _. (after : Told) → dilute_told sheet.now.text.now sheet.now.rows.now design.now after ≡ after) }
+    ensures ends { IfErr result (λ u. (after : Told) → dilute_told sheet.now.text.now sheet.now.rows.now design.now after ≡ unsettled u.refusal u.found) }
+{
+    match first_dilute(sheet, design) {
+        None => Ok(()),
+        Some(strand) => {
+            let found = amount_found(sheet, usize::from(strand));
+            Err(refused(Refusal::TooDilute, found))
+        }
+    }
+}
+
+// A design, its concentrations and the search.
+fn said(sheet: &Sheet, design: &Design) -> Result<SettledFile, Unsettled>
+    requires { strands design.now ≤ 64 }
+    ensures told { told result ≡ said_told sheet.now.text.now sheet.now.rows.now design.now }
+    ensures lowest { IfOk result (λ _. AnsweredBy (ring_said sheet.now.rows.now) design.now (room_for sheet.now.rows.now)) }
+{
+    concentrations(sheet, design)?;
+    searched(sheet, design)
 }
 
 // The build of a file's design, which is lent zeros.
@@ -232,7 +285,7 @@ fn ambient_of(sheet: &Sheet) -> Result<Ambient, Unsettled>
 // The design of a file, built and searched.
 fn settled(which: Build, sheet: &Sheet) -> Result<SettledFile, Unsettled>
     ensures told { told result ≡ design_told which sheet.now.text.now sheet.now.rows.now }
-    ensures lowest { IfOk result (λ _. SearchAnswered (design_said which sheet.now.text.now sheet.now.rows.now) (room_for sheet.now.rows.now)) }
+    ensures lowest { IfOk result (λ _. AnsweredBy (ring_said sheet.now.rows.now) (design_said which sheet.now.text.now sheet.now.rows.now) (room_for sheet.now.rows.now)) }
 {
     let counts = sheet.counts;
     let strands = counts.strands + OTHERS;
@@ -260,14 +313,14 @@ fn settled(which: Build, sheet: &Sheet) -> Result<SettledFile, Unsettled>
         Amounts::Potentials,
         ambient,
     );
-    searched(sheet, &design)
+    said(sheet, &design)
 }
 
 // The rows of a text.
 #[tactic(auto, unfolding(crate::specs::Files::rows_told))]
 fn settle_rows(which: Build, text: &[u8], rows: &[Row]) -> Result<SettledFile, Unsettled>
     ensures told { told result ≡ rows_told which text.now rows.now }
-    ensures lowest { IfOk result (λ _. SearchAnswered (design_said which text.now rows.now) (room_for rows.now)) }
+    ensures lowest { IfOk result (λ _. AnsweredBy (ring_said rows.now) (design_said which text.now rows.now) (room_for rows.now)) }
 {
     match Sheet::of(text, rows) {
         Ok(sheet) => settled(which, &sheet),
@@ -275,10 +328,10 @@ fn settle_rows(which: Build, text: &[u8], rows: &[Row]) -> Result<SettledFile, U
     }
 }
 
-// The text of a file. Where it is settled, the configuration is the lowest that its design has.
+// The text of a file. Where it is settled, the configuration is the lowest that its design has, as a ring where the file says so.
 pub(crate) fn settle(which: Build, text: &[u8]) -> Result<SettledFile, Unsettled>
     ensures told { told result ≡ settle_told which text.now }
-    ensures lowest { IfOk result (λ _. SearchAnswered (design_said which text.now (rows_of text.now)) (room_for (rows_of text.now))) }
+    ensures lowest { IfOk result (λ _. AnsweredBy (ring_said (rows_of text.now)) (design_said which text.now (rows_of text.now)) (room_for (rows_of text.now))) }
 {
     // More rows than any design has. This array and those above are of a fixed size, as in every crate here: what a design holds is bounded, and no
     // call has to tell that memory could not be had.

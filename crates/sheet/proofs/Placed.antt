@@ -12,7 +12,7 @@ use Rattle.sheet.specs.Faults.{limit_of}
 use Rattle.sheet.specs.Place.{first_fault}
 use Rattle.sheet.specs.declared.place.BuildFault.{BuildFault}
 use Rattle.sheet.specs.declared.rows.Group.{Group}
-use Rattle.sheet.specs.declared.rows.Group.TheVariants.{Ambient, Strand, Quencher, Reporter, Position, Entry, Penalty}
+use Rattle.sheet.specs.declared.rows.Group.TheVariants.{Ambient, Strand, Quencher, Reporter, Position, Entry, Penalty, Ring}
 
 module _ (rule : Row → Option BuildFault) (rows : List Row) (i : ℕ) where
   pub fault_here : (d : Row) → i < length rows → {fault : BuildFault} → rule (get_or rows i d) ≡ Some fault → first_fault rule (drop i rows) ≡ Some fault
@@ -36,3 +36,4 @@ limit_most Reporter = omega arith
 limit_most Position = omega arith
 limit_most Entry = omega arith
 limit_most Penalty = omega arith
+limit_most Ring = omega arith

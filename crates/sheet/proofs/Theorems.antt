@@ -104,7 +104,7 @@ answered (Ok done) (Some row) rows counts e = (refl, refl, cc)
 answered (Err fault) o rows counts e = absurd (cc)
 
 any-row : Row
-any-row = record { kind = Kelvin; line = 0; words = []; numbers = [] }
+any-row = record { kind = Kelvin; concentration = false; line = 0; words = []; numbers = [] }
 
 pub counted : (text : List ℕ) (rows : List Row) (counts : Counts) → sheet_answer text rows ≡ Ok counts → counts ≡ counts_of rows
 unfolding sheet_answer

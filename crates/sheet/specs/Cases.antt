@@ -1,17 +1,21 @@
 -- Small sheets of rows, worked out by hand and computed from the definitions.
-use Rattle.std.specs.Prelude.{List, [], ◌∷◌, ◌++◌, map, ◌≡◌, refl, ℕ, suc, pos, Float, replicate, false, Result, Ok, Err, Some, None}
+use Rattle.std.specs.Prelude.{List, [], ◌∷◌, ◌++◌, map, ◌≡◌, refl, ℕ, suc, pos, Float, replicate, true, false, Result, Ok, Err, Some, None}
 use Rattle.std.specs.Float.{fin}
+use Rattle.std.specs.Float.Ieee.{le}
 use Rattle.doubles.specs.Decimal.{zero}
 use Rattle.lists.specs.Find.{first_index}
 use Rattle.lists.specs.Build.{tabulate, up_to}
 use Rattle.statements.specs.Words.{word_at, spelled}
 use Rattle.statements.specs.declared.grammar.Kind.{Kind}
-use Rattle.statements.specs.declared.grammar.Kind.TheVariants.{Kelvin, Ambient, Strand, Quencher, Reporter, Position, EnergyGiven, EnergySequence, PairSequence, Penalty, Blocked}
+use Rattle.statements.specs.declared.grammar.Kind.TheVariants.{Kelvin, Ambient, Strand, Quencher, Reporter, Position, EnergyGiven, EnergySequence, PairSequence, Penalty, Blocked, Celsius, Ring}
 use Rattle.statements.specs.declared.statement.Row.{Row}
 use Rattle.statements.specs.declared.words.Word.{Word}
 use Rattle.sheet.specs.Rows.{places_from, rows_of}
 use Rattle.sheet.specs.Faults.{is_name_twice, fault_of, fault_from, sheet_answer}
 use Rattle.sheet.specs.Parts.{glue_at, bases_at, word_mark, pair_at, form_at, blocked_at, potential_at}
+use Rattle.logarithm.specs.Near.{least_argument, most_argument}
+use Rattle.logarithm.specs.Figure.{ln_of}
+use Rattle.sheet.specs.Amounts.{potential_of, is_thin}
 use Rattle.sheet.specs.Once.{strand_named, copied_of}
 use Rattle.sheet.specs.declared.faults.Counts.{Counts}
 use Rattle.sheet.specs.declared.faults.SheetFault.{SheetFault}
@@ -20,7 +24,7 @@ use Rattle.sheet.specs.declared.rows.Group.TheVariants as group
 
 -- a row of a kind, with these words and numbers
 abbrev pub row_of : Kind → ℕ → List Word → List Float → Row
-row_of kind line words numbers = record { kind = kind; line = line; words = words; numbers = numbers }
+row_of kind line words numbers = record { kind = kind; concentration = false; line = line; words = words; numbers = numbers }
 
 -- no word
 abbrev pub none : Word
@@ -78,8 +82,12 @@ cases =
     ∷ (Strand at 0 ∷ Ambient at 0 ∷ Position at 1 ∷ Position at 1 ∷ EnergyGiven at 1 ∷ PairSequence at 1 ∷ Strand at 1 ∷ []) is counts 2 2 2
     ∷ (Strand at 0 ∷ Strand at 1 ∷ []) is Err NoAmbient
     ∷
-    -- the two ways to give the ambient, and what is given once
+    -- the three ways to give the ambient, and what is given once
     (Kelvin at 0 ∷ Strand at 0 ∷ Ambient at 0 ∷ []) is Err (GivenTwice 3 group.Ambient)
+    ∷ (Celsius at 0 ∷ []) is counts 0 0 0
+    ∷ (Celsius at 0 ∷ Kelvin at 0 ∷ []) is Err (GivenTwice 2 group.Ambient)
+    ∷ (Ring at 0 ∷ Kelvin at 0 ∷ []) is counts 0 0 0
+    ∷ (Ring at 0 ∷ Kelvin at 0 ∷ Ring at 0 ∷ []) is Err (GivenTwice 3 group.Ring)
     ∷ (Quencher at 0 ∷ Reporter at 0 ∷ Quencher at 1 ∷ []) is Err (GivenTwice 3 group.Quencher)
     ∷ (Penalty at 0 ∷ Penalty at 0 ∷ Kelvin at 0 ∷ []) is Err (GivenTwice 2 group.Penalty)
     ∷
@@ -166,3 +174,22 @@ gathered =
       nothing = refl;
       blocks = refl;
     }
+
+-- ---- amounts
+
+-- a strand with this concentration in mol/l
+abbrev pub concentrated : Float → Row
+concentrated x = record { kind = Strand; concentration = true; line = 1; words = []; numbers = x ∷ zero ∷ zero ∷ [] }
+
+-- 0 and 1025 mol/l have no logarithm and give 0.0, 1024 has one; that of 1 mol/l is 0.0
+pub record Amounts : Type 0 where
+  pub none : is_thin (concentrated zero) ≡ true
+  pub none_read : potential_of (concentrated zero) ≡ zero
+  pub most : is_thin (concentrated (whole 1024)) ≡ false
+  pub more : is_thin (concentrated (whole 1025)) ≡ true
+  pub one : potential_of (concentrated (whole 1)) ≡ zero
+
+-- the definitions read them so
+pub amounts : Amounts
+unfolding least_argument most_argument ln_of le
+amounts = record { none = refl; none_read = refl; most = refl; more = refl; one = refl }

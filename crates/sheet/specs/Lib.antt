@@ -1,5 +1,6 @@
 pub mod Rows
 pub mod Faults
+pub mod Amounts
 pub mod Parts
 pub mod Once
 pub mod Theorems

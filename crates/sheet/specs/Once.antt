@@ -1,5 +1,8 @@
--- What stands in the file at most once: the ambient, the junction penalty, quencher and reporter.
+-- What stands in the file at most once: the ambient, the junction penalty, quencher, reporter and `ring`.
 use Rattle.std.specs.Prelude.{Bool, cond, List, ℕ, suc, eqb, ltb, Float, length, Option, None, Some}
+use Rattle.std.specs.Float.{binary64}
+use Rattle.std.specs.Float.Ieee.{add}
+use Rattle.doubles.specs.Decimal.{nearest, plus}
 use Rattle.lists.specs.Find.{first_index}
 use Rattle.statements.specs.Layout.{row_word, row_number, word_in}
 use Rattle.statements.specs.declared.grammar.Kind.{Kind}
@@ -17,9 +20,15 @@ use Rattle.sheet.specs.declared.rows.Group.TheVariants as group
 abbrev pub number_once : Group → List Row → ℕ → Float
 number_once group rows j = row_number (first_of group rows) j
 
--- the ambient of a row by its kind: at its kelvin, or with its RT, strand excess and scaffold excess
+-- the kelvin of a temperature in degrees Celsius: one rounded sum
+unfoldable pub kelvin_of : Float → Float
+unfolding nearest
+kelvin_of celsius = add binary64 celsius (nearest (plus 27315 2))
+
+-- the ambient of a row by its kind: at its kelvin, at those of its degrees Celsius, or with its RT, strand excess and scaffold excess
 abbrev pub ambient_by : Kind → Row → Ambient
 ambient_by kind.Kelvin row = At (record { 0 = row_number (Some row) 0 })
+ambient_by kind.Celsius row = At (record { 0 = kelvin_of (row_number (Some row) 0) })
 ambient_by other row =
     Given (record { rt = record { 0 = row_number (Some row) 0 }; strand_excess = record { 0 = row_number (Some row) 1 }; scaffold_excess = record { 0 = row_number (Some row) 2 } })
 

@@ -5,8 +5,8 @@ use Rattle.statements.specs.declared.grammar.Kind.{Kind}
 use Rattle.statements.specs.declared.grammar.Kind.TheVariants as kind
 use Rattle.statements.specs.declared.statement.Row.{Row}
 use Rattle.statements.specs.declared.words.Word.{Word}
-use Rattle.sheet.specs.Rows.{word_among, number_among, kind_among}
-use Rattle.sheet.specs.Once.{number_once}
+use Rattle.sheet.specs.Rows.{first_of, row_among, word_among, number_among, kind_among}
+use Rattle.sheet.specs.Amounts.{potential_in}
 use Rattle.sheet.specs.declared.rows.Group.TheVariants.{Quencher, Reporter}
 
 -- ---- kinds
@@ -109,6 +109,6 @@ energy_at rows chosen k = number_among rows chosen (k / 2) (k % 2)
 unfoldable pub potential_at : List Row → List ℕ → ℕ → Float
 potential_at rows chosen m =
     cond (eqb m 0) zero
-    (cond (ltb (m - 1) (length chosen)) (number_among rows chosen (m - 1) 0)
-    (cond (eqb (m - 1) (length chosen)) (number_once Quencher rows 0)
-    (number_once Reporter rows 0)))
+    (cond (ltb (m - 1) (length chosen)) (potential_in (row_among rows chosen (m - 1)))
+    (cond (eqb (m - 1) (length chosen)) (potential_in (first_of Quencher rows))
+    (potential_in (first_of Reporter rows))))

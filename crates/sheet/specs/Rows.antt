@@ -8,15 +8,16 @@ use Rattle.statements.specs.declared.grammar.Kind.TheVariants as kind
 use Rattle.statements.specs.declared.statement.Row.{Row}
 use Rattle.statements.specs.declared.words.Word.{Word}
 use Rattle.sheet.specs.declared.rows.Group.{Group}
-use Rattle.sheet.specs.declared.rows.Group.TheVariants.{Ambient, Strand, Quencher, Reporter, Position, Entry, Penalty}
+use Rattle.sheet.specs.declared.rows.Group.TheVariants.{Ambient, Strand, Quencher, Reporter, Position, Entry, Penalty, Ring}
 use Rattle.sheet.specs.contracts.rows.GroupPartialEq.TheImpl as same
 
 -- ---- groups of kinds
 
--- Kinds of one group stand for the same thing: the two ways to give the ambient, open and blocked positions, and the four kinds of entries.
+-- Kinds of one group stand for the same thing: the three ways to give the ambient, open and blocked positions, and the four kinds of entries.
 -- Every other kind is a group by itself.
 abbrev pub group_of : Kind → Group
 group_of kind.Kelvin = Ambient
+group_of kind.Celsius = Ambient
 group_of kind.Ambient = Ambient
 group_of kind.Strand = Strand
 group_of kind.Quencher = Quencher
@@ -28,6 +29,7 @@ group_of kind.EnergySequence = Entry
 group_of kind.PairGiven = Entry
 group_of kind.PairSequence = Entry
 group_of kind.Penalty = Penalty
+group_of kind.Ring = Ring
 
 -- a row is one of a group
 abbrev pub is_of : Group → Row → Bool

@@ -1,6 +1,7 @@
 -- What a file's statements say to the calls: the parameter set that `from_params` is handed, the ambient, and the marks and potentials of the
 -- design, out of the rows that crate `statements` gives. Strands, positions and entries stand in the order of the file's lines.
-use Rattle.std.specs.Prelude.{List, ℕ, ◌*◌, Float, Option, None, Some}
+use Rattle.std.specs.Prelude.{Bool, List, ℕ, ◌*◌, Float, Option, None, Some}
+use Rattle.std.specs.Option.{is_some}
 use Rattle.lists.specs.Build.{tabulate}
 use Rattle.reply.specs.Number.{number_of, answered}
 use Rattle.reply.specs.declared.Refusal.TheVariants.{OutOfRange}
@@ -10,13 +11,13 @@ use Rattle.sdc1d_params.specs.Params.{Params, params_of}
 use Rattle.sdc1d_params.specs.declared.Copies.{Copies}
 use Rattle.statements.specs.declared.statement.Row.{Row}
 use Rattle.statements.specs.declared.words.Word.{Word}
-use Rattle.sheet.specs.Rows.{rows_of}
+use Rattle.sheet.specs.Rows.{first_of, rows_of}
 use Rattle.sheet.specs.Faults.{counts_of}
 use Rattle.sheet.specs.Parts.{glue_at, first_at, name_number_at, entry_number_at, energy_at, potential_at, blocked_at}
 use Rattle.sheet.specs.Once.{number_once, ambient_of, copied_of}
 use Rattle.sheet.specs.declared.once.Ambient.{Ambient}
 use Rattle.sheet.specs.declared.once.Ambient.TheVariants.{At, Given}
-use Rattle.sheet.specs.declared.rows.Group.TheVariants.{Strand, Quencher, Reporter, Position, Entry, Penalty}
+use Rattle.sheet.specs.declared.rows.Group.TheVariants.{Strand, Quencher, Reporter, Position, Entry, Penalty, Ring}
 
 -- ---- the parameter set
 
@@ -66,13 +67,17 @@ ambient_said rows = ambient_by (ambient_of rows)
 
 -- ---- the rest of the design
 
--- the potentials of the first n strands, strand 0 first, which has 0.0
+-- the potentials of the first n strands, strand 0 first, which has 0.0; of a concentration the logarithm
 unfoldable pub potentials_said : ℕ → List Row → List Float
 potentials_said n rows = tabulate n (potential_at rows (rows_of Strand rows))
 
 -- the marks of the first n positions
 unfoldable pub marks_said : ℕ → List Row → List ℕ
 marks_said n rows = tabulate n (blocked_at rows (rows_of Position rows))
+
+-- the scaffold is a ring: the file has the statement
+abbrev pub ring_said : List Row → Bool
+ring_said rows = is_some (first_of Ring rows)
 
 -- ---- what is shown
 

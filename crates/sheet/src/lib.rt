@@ -1,6 +1,7 @@
 // A design file's rows, gathered into what the calls take.
 #![tactic(auto)]
 
+mod amounts;
 pub mod faults;
 mod once;
 mod parts;

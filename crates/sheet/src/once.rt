@@ -1,6 +1,6 @@
 // What stands in the file at most once.
 ghost use Rattle.std.specs.Prelude.{◌≡◌, ◌<◌, position};
-ghost use Rattle.sheet.specs.Once.{number_once, ambient_of, is_named, copied_of};
+ghost use Rattle.sheet.specs.Once.{number_once, kelvin_of, ambient_of, is_named, copied_of};
 ghost use Rattle.sheet.specs.declared.rows.Group.TheVariants as group;
 
 use crate::faults::same_word;
@@ -19,14 +19,24 @@ pub(crate) enum Ambient {
 }
 
 // Number j of the first row of a group, or 0.0.
-pub(crate) fn number_once(rows: &[Row], group: Group, j: usize) -> f64
+fn number_once(rows: &[Row], group: Group, j: usize) -> f64
     requires { j < 3 }
     ensures { result ≡ number_once group rows.now j }
 {
     first_of(rows, group).map_or(0.0, |row| row.numbers[j])
 }
 
-// The ambient, as kelvin or as three numbers.
+// 0 °C.
+const FREEZING: Kelvin = Kelvin(273.15);
+
+// The kelvin of a temperature in degrees Celsius.
+fn kelvin_of(celsius: f64) -> Kelvin
+    ensures { result.0 ≡ kelvin_of celsius }
+{
+    Kelvin(celsius) + FREEZING
+}
+
+// The ambient, at a temperature or as three numbers.
 pub(crate) fn ambient_of(rows: &[Row]) -> Option<Ambient>
     ensures { result ≡ ambient_of rows.now }
 {
@@ -34,6 +44,7 @@ pub(crate) fn ambient_of(rows: &[Row]) -> Option<Ambient>
     let [first, second, third] = row.numbers;
     match row.kind {
         Kind::Kelvin => Some(Ambient::At(Kelvin(first))),
+        Kind::Celsius => Some(Ambient::At(kelvin_of(first))),
         _ => Some(Ambient::Given(units::Ambient::new(first, second, third))),
     }
 }

@@ -3,8 +3,8 @@ ghost use Rattle.std.specs.Prelude.{◌≡◌, ℕ, length};
 ghost use Rattle.lists.specs.Build.{tabulate};
 ghost use Rattle.sheet.specs.Parts.{is_pair, is_sequence, glue_at, first_at, bases_at, name_row, name_number_at, entry_row, entry_number_at, energy_at, potential_at, blocked_at};
 
-use crate::once::number_once;
-use crate::rows::{Chosen, Group};
+use crate::amounts::potential_of;
+use crate::rows::{Chosen, Group, first_of};
 use statements::grammar::Kind;
 use statements::words::Word;
 
@@ -81,11 +81,11 @@ impl Chosen<'_> {
         if m == 0 {
             0.0
         } else if m - 1 < self.places.len() {
-            self.number(m - 1, 0)
+            self.row(m - 1).map_or(0.0, |row| potential_of(row))
         } else if m - 1 == self.places.len() {
-            number_once(self.rows, Group::Quencher, 0)
+            first_of(self.rows, Group::Quencher).map_or(0.0, |row| potential_of(row))
         } else {
-            number_once(self.rows, Group::Reporter, 0)
+            first_of(self.rows, Group::Reporter).map_or(0.0, |row| potential_of(row))
         }
     }
 

@@ -9,7 +9,7 @@ use statements::grammar::Kind;
 use statements::statement::Row;
 use statements::words::Word;
 
-// What a row stands for. The two ways to give the ambient are of one group, and so are open and blocked positions, and the four kinds of entries.
+// What a row stands for. The three ways to give the ambient are of one group, and so are open and blocked positions, and the four kinds of entries.
 #[derive(Clone, Copy, PartialEq, Eq)]
 pub enum Group {
     Ambient,
@@ -19,6 +19,7 @@ pub enum Group {
     Position,
     Entry,
     Penalty,
+    Ring,
 }
 
 impl From<Kind> for Group {
@@ -26,7 +27,7 @@ impl From<Kind> for Group {
 
     fn from(kind: Kind) -> Self {
         match kind {
-            Kind::Kelvin | Kind::Ambient => Group::Ambient,
+            Kind::Kelvin | Kind::Celsius | Kind::Ambient => Group::Ambient,
             Kind::Strand => Group::Strand,
             Kind::Quencher => Group::Quencher,
             Kind::Reporter => Group::Reporter,
@@ -34,6 +35,7 @@ impl From<Kind> for Group {
             Kind::EnergyGiven | Kind::EnergySequence | Kind::PairGiven | Kind::PairSequence =>
                 Group::Entry,
             Kind::Penalty => Group::Penalty,
+            Kind::Ring => Group::Ring,
         }
     }
 }

@@ -9,7 +9,7 @@ ghost use Rattle.sheet.specs.Rows.{rows_of};
 ghost use Rattle.sheet.specs.Faults.{counts_of, sheet_answer};
 ghost use Rattle.sheet.specs.Parts.{glue_at, first_at, name_number_at, entry_number_at, energy_at};
 ghost use Rattle.sheet.specs.Theorems.{Sound};
-ghost use Rattle.sheet.specs.Said.{copies_said, params_said, ambient_said, potentials_said, marks_said, glues_shown, strands_shown};
+ghost use Rattle.sheet.specs.Said.{copies_said, params_said, ambient_said, potentials_said, marks_said, ring_said, glues_shown, strands_shown};
 ghost use Rattle.sheet.specs.declared.rows.Group.TheVariants as group;
 
 use crate::faults::{Counts, SheetFault, check};
@@ -165,6 +165,13 @@ impl Sheet<'_> {
             &mut places[..self.counts.positions],
         );
         positions.blocks(marks);
+    }
+
+    // Whether the scaffold is a ring.
+    pub fn is_ring(&self) -> bool
+        ensures { result ≡ ring_said self.now.rows.now }
+    {
+        self.first_of(Group::Ring).is_some()
     }
 
     // The glue of each position, as many as there is room for.

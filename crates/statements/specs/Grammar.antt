@@ -1,25 +1,27 @@
 -- The grammar: a line is one statement, whose first word says which. Keywords are in lower case.
 --
 --     kelvin NUMBER
+--     celsius NUMBER
 --     ambient NUMBER NUMBER NUMBER
---     strand NAME GLUE GLUE GLUE NUMBER
---     quencher GLUE NUMBER                    GLUE is here a strand's name
---     reporter GLUE NUMBER
+--     strand NAME GLUE GLUE GLUE AMOUNT
+--     quencher GLUE AMOUNT                    GLUE is here a strand's name
+--     reporter GLUE AMOUNT
 --     scaffold GLUE ..                        any number of them
 --     blocked GLUE ..                         the same
 --     energy NAME dg NUMBER ds NUMBER         or: energy NAME seq BASES
 --     pair NAME NAME dg NUMBER ds NUMBER      or: pair NAME NAME seq BASES
 --     penalty NUMBER NUMBER
+--     ring
 --
--- A GLUE may be `-`, which stands for none; a NAME may not.
+-- A GLUE may be `-`, which stands for none; a NAME may not. An AMOUNT is a potential, which is a NUMBER, or a concentration (Amounts.antt).
 use Rattle.std.specs.Prelude.{Bool, true, false, List, [], ◌∷◌, ℕ, ◌<◌, Option, slice_get}
 use Rattle.std.specs.List.{find}
 use Rattle.std.specs.Option.{option_map}
 use Rattle.statements.specs.Words.{spells}
 use Rattle.statements.specs.declared.grammar.Kind.{Kind}
-use Rattle.statements.specs.declared.grammar.Kind.TheVariants.{Kelvin, Ambient, Strand, Quencher, Reporter, Position, EnergyGiven, EnergySequence, PairGiven, PairSequence, Penalty, Blocked}
+use Rattle.statements.specs.declared.grammar.Kind.TheVariants.{Kelvin, Ambient, Strand, Quencher, Reporter, Position, EnergyGiven, EnergySequence, PairGiven, PairSequence, Penalty, Blocked, Celsius, Ring}
 use Rattle.statements.specs.declared.grammar.Item.{Item}
-use Rattle.statements.specs.declared.grammar.Item.TheVariants.{Number, Name, Glue, Bases, DgOrSeq, Ds}
+use Rattle.statements.specs.declared.grammar.Item.TheVariants.{Number, Amount, Name, Glue, Bases, DgOrSeq, Ds}
 
 -- the kind is a position's, open or blocked
 abbrev pub is_position : Kind → Bool
@@ -69,6 +71,14 @@ penalty_bytes = 112 ∷ 101 ∷ 110 ∷ 97 ∷ 108 ∷ 116 ∷ 121 ∷ []
 abbrev pub blocked_bytes : List ℕ
 blocked_bytes = 98 ∷ 108 ∷ 111 ∷ 99 ∷ 107 ∷ 101 ∷ 100 ∷ []
 
+-- c e l s i u s
+abbrev pub celsius_bytes : List ℕ
+celsius_bytes = 99 ∷ 101 ∷ 108 ∷ 115 ∷ 105 ∷ 117 ∷ 115 ∷ []
+
+-- r i n g
+abbrev pub ring_bytes : List ℕ
+ring_bytes = 114 ∷ 105 ∷ 110 ∷ 103 ∷ []
+
 -- d g
 abbrev pub dg_bytes : List ℕ
 dg_bytes = 100 ∷ 103 ∷ []
@@ -100,6 +110,8 @@ keywords =
     ∷ (pair_bytes, PairGiven)
     ∷ (penalty_bytes, Penalty)
     ∷ (blocked_bytes, Blocked)
+    ∷ (celsius_bytes, Celsius)
+    ∷ (ring_bytes, Ring)
     ∷ []
 
 -- the kind of a statement with this first word
@@ -108,14 +120,15 @@ kind_of word = option_map (λ (entry : List ℕ × Kind). entry.1) (find (λ (en
 
 -- ---- the words after it
 
--- What each word has to be, with the slot of the row that it fills: a row has the word slots 0 to 3 and the number slots 0 to 2. `dg` or `seq`
+-- What each word has to be, with the slot of the row that it fills: a row has the word slots 0 to 3 and the number slots 0 to 2, of which an amount
+-- fills the first. `dg` or `seq`
 -- decides between the two kinds of `energy` and of `pair`, which are alike up to there.
 unfoldable pub items_of : Kind → List Item
 items_of Kelvin = Number 0 ∷ []
 items_of Ambient = Number 0 ∷ Number 1 ∷ Number 2 ∷ []
-items_of Strand = Name 0 ∷ Glue 1 ∷ Glue 2 ∷ Glue 3 ∷ Number 0 ∷ []
-items_of Quencher = Glue 0 ∷ Number 0 ∷ []
-items_of Reporter = Glue 0 ∷ Number 0 ∷ []
+items_of Strand = Name 0 ∷ Glue 1 ∷ Glue 2 ∷ Glue 3 ∷ Amount ∷ []
+items_of Quencher = Glue 0 ∷ Amount ∷ []
+items_of Reporter = Glue 0 ∷ Amount ∷ []
 items_of Position = Glue 0 ∷ []
 items_of EnergyGiven = Name 0 ∷ DgOrSeq ∷ Number 0 ∷ Ds ∷ Number 1 ∷ []
 items_of EnergySequence = Name 0 ∷ DgOrSeq ∷ Bases 1 ∷ []
@@ -123,6 +136,8 @@ items_of PairGiven = Name 0 ∷ Name 1 ∷ DgOrSeq ∷ Number 0 ∷ Ds ∷ Numbe
 items_of PairSequence = Name 0 ∷ Name 1 ∷ DgOrSeq ∷ Bases 2 ∷ []
 items_of Penalty = Number 0 ∷ Number 1 ∷ []
 items_of Blocked = Glue 0 ∷ []
+items_of Celsius = Number 0 ∷ []
+items_of Ring = []
 
 -- what the word at a place after the keyword has to be; after the last item there is none
 unfoldable pub item_of : Kind → ℕ → Option Item
@@ -137,6 +152,7 @@ sequence_kind kind = kind
 -- the slot is one of a row's
 abbrev pub InRow : Item → Type 0
 InRow (Number slot) = slot < 3
+InRow Amount = Unit
 InRow (Name slot) = slot < 4
 InRow (Glue slot) = slot < 4
 InRow (Bases slot) = slot < 4

@@ -3,9 +3,9 @@
 --     kind              words 0 to 3                 numbers 0 to 2
 --     Kelvin                                         kelvin
 --     Ambient                                        RT, strand excess, scaffold excess
---     Strand            name, west, bottom, east     potential
---     Quencher          strand                       potential
---     Reporter          strand                       potential
+--     Strand            name, west, bottom, east     amount
+--     Quencher          strand                       amount
+--     Reporter          strand                       amount
 --     Position          glue
 --     EnergyGiven       glue                         dG, dS
 --     EnergySequence    glue, bases
@@ -13,6 +13,10 @@
 --     PairSequence      glue, glue, bases
 --     Penalty                                        dG, dS
 --     Blocked           glue
+--     Celsius                                        degrees Celsius
+--     Ring
+--
+-- An amount is a concentration in mol/l where the row's mark says so, and else a potential.
 use Rattle.std.specs.Prelude.{List, ℕ, Option, None, Some, slice_get, get_or, Float}
 use Rattle.doubles.specs.Decimal.{zero}
 use Rattle.statements.specs.Words.{word_at}

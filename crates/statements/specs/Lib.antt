@@ -1,5 +1,6 @@
 pub mod Words
 pub mod Grammar
+pub mod Amounts
 pub mod Layout
 pub mod Statement
 pub mod Rows

@@ -1,17 +1,20 @@
 -- The statement of a line: a row's slots, filled word by word from the left, or the first word at fault.
-use Rattle.std.specs.Prelude.{cond, List, [], ◌∷◌, ℕ, ◌+◌, set, replicate, Float, Option, None, Some, Result, Ok, Err}
+use Rattle.std.specs.Prelude.{false, cond, List, [], ◌∷◌, ℕ, ◌+◌, set, replicate, Float, Option, None, Some, Result, Ok, Err}
 use Rattle.doubles.specs.Decimal.{zero}
 use Rattle.decimals.specs.Number.{number_of}
 use Rattle.decimals.specs.declared.NumberFault.{NumberFault}
 use Rattle.decimals.specs.declared.NumberFault.TheVariants as number
 use Rattle.statements.specs.Words.{words_in, word_at, spelled, spells}
 use Rattle.statements.specs.Grammar.{kind_of, item_of, sequence_kind, is_position, dg_bytes, ds_bytes, seq_bytes, dash_bytes}
+use Rattle.statements.specs.Amounts.{amount_of}
+use Rattle.statements.specs.declared.amounts.Amount.{Amount}
 use Rattle.statements.specs.declared.words.Word.{Word}
 use Rattle.statements.specs.declared.grammar.Kind.{Kind}
 use Rattle.statements.specs.declared.grammar.Item.{Item}
 use Rattle.statements.specs.declared.grammar.Item.TheVariants.{Number, Name, Glue, Bases, DgOrSeq, Ds}
+use Rattle.statements.specs.declared.grammar.Item.TheVariants as item
 use Rattle.statements.specs.declared.statement.Reason.{Reason}
-use Rattle.statements.specs.declared.statement.Reason.TheVariants.{NoSuchStatement, TooFewWords, TooManyWords, NotANumber, TooManyDigits, OutOfReach, NeitherDgNorSeq, NotDs, NotAName}
+use Rattle.statements.specs.declared.statement.Reason.TheVariants.{NoSuchStatement, TooFewWords, TooManyWords, NotANumber, NotAnAmount, TooManyDigits, OutOfReach, NeitherDgNorSeq, NotDs, NotAName}
 use Rattle.statements.specs.declared.statement.Fault.{Fault}
 use Rattle.statements.specs.declared.statement.Row.{Row}
 use Rattle.statements.specs.declared.statement.Statement.{Statement}
@@ -20,9 +23,9 @@ use Rattle.statements.specs.declared.statement.Statement.TheVariants.{Nothing, O
 -- ---- rows
 
 -- A row has four words and three numbers. A word that is absent, or that the kind does not have, has the size 0; a number that the kind does not
--- have is 0.0.
+-- have is 0.0, and so is an amount, which is then no concentration.
 abbrev pub blank : Kind → ℕ → Row
-blank kind line = record { kind = kind; line = line; words = replicate 4 (word_at 0 0); numbers = replicate 3 zero }
+blank kind line = record { kind = kind; concentration = false; line = line; words = replicate 4 (word_at 0 0); numbers = replicate 3 zero }
 
 -- no row, for a word at fault
 abbrev pub faulty : {A : Type 0} → Word → Reason → Result A Fault
@@ -30,15 +33,20 @@ faulty word reason = Err (record { word = word; reason = reason })
 
 -- the row with a word in a slot
 unfoldable pub put : ℕ → Word → Row → Row
-put slot word row = record { kind = row.kind; line = row.line; words = set row.words slot word; numbers = row.numbers }
+put slot word row = record { kind = row.kind; concentration = row.concentration; line = row.line; words = set row.words slot word; numbers = row.numbers }
 
 -- the row with a number in a slot
 unfoldable pub put_number : ℕ → Float → Row → Row
-put_number slot x row = record { kind = row.kind; line = row.line; words = row.words; numbers = set row.numbers slot x }
+put_number slot x row = record { kind = row.kind; concentration = row.concentration; line = row.line; words = row.words; numbers = set row.numbers slot x }
+
+-- the row with an amount, which is its first number
+unfoldable pub put_amount : Amount → Row → Row
+put_amount amount row =
+    record { kind = row.kind; concentration = amount.concentration; line = row.line; words = row.words; numbers = set row.numbers 0 amount.number }
 
 -- the row of `energy` or `pair` with a sequence for its numbers
 abbrev pub by_sequence : Row → Row
-by_sequence row = record { kind = sequence_kind row.kind; line = row.line; words = row.words; numbers = row.numbers }
+by_sequence row = record { kind = sequence_kind row.kind; concentration = row.concentration; line = row.line; words = row.words; numbers = row.numbers }
 
 -- ---- one word
 
@@ -53,6 +61,16 @@ unfoldable pub number_put : Result Float NumberFault → ℕ → Word → Row �
 number_put (Ok x) slot word row = Ok (put_number slot x row)
 number_put (Err why) slot word row = faulty word (reason_of why)
 
+-- why a word is no amount
+abbrev pub reason_of_amount : NumberFault → Reason
+reason_of_amount number.NotANumber = NotAnAmount
+reason_of_amount other = reason_of other
+
+-- an amount is kept; a word that is none is at fault, with the reason
+unfoldable pub amount_put : Result Amount NumberFault → Word → Row → Result Row Fault
+amount_put (Ok amount) word row = Ok (put_amount amount row)
+amount_put (Err why) word row = faulty word (reason_of_amount why)
+
 -- a glue: of `-` no bytes are kept
 abbrev pub glue_of : List ℕ → Word → Word
 glue_of bytes word = word_at word.start (cond (spells bytes dash_bytes) 0 word.size)
@@ -60,6 +78,7 @@ glue_of bytes word = word_at word.start (cond (spells bytes dash_bytes) 0 word.s
 -- the row after a word, of these bytes, that has to be an item
 unfoldable pub accepted : List ℕ → Option Item → Word → Row → Result Row Fault
 accepted bytes (Some (Number slot)) word row = number_put (number_of bytes) slot word row
+accepted bytes (Some item.Amount) word row = amount_put (amount_of bytes) word row
 accepted bytes (Some (Name slot)) word row = cond (spells bytes dash_bytes) (faulty word NotAName) (Ok (put slot word row))
 accepted bytes (Some (Glue slot)) word row = Ok (put slot (glue_of bytes word) row)
 accepted bytes (Some (Bases slot)) word row = Ok (put slot word row)

@@ -24,11 +24,13 @@ pub enum Kind {
     Penalty,
     // A position of `blocked`.
     Blocked,
+    Celsius,
+    Ring,
 }
 
-// The words that begin a statement. `energy` and `pair` are of the kind with numbers, until `seq` is met. A table: of a `match` on ten byte strings
+// The words that begin a statement. `energy` and `pair` are of the kind with numbers, until `seq` is met. A table: of a `match` on twelve byte strings
 // the proof does not close.
-const KEYWORDS: [(&[u8], Kind); 10] = [
+const KEYWORDS: [(&[u8], Kind); 12] = [
     (b"kelvin", Kind::Kelvin),
     (b"ambient", Kind::Ambient),
     (b"strand", Kind::Strand),
@@ -39,12 +41,16 @@ const KEYWORDS: [(&[u8], Kind); 10] = [
     (b"pair", Kind::PairGiven),
     (b"penalty", Kind::Penalty),
     (b"blocked", Kind::Blocked),
+    (b"celsius", Kind::Celsius),
+    (b"ring", Kind::Ring),
 ];
 
 // What a word after the keyword has to be, and the slot of the row that it fills.
 #[derive(Clone, Copy)]
 pub enum Item {
     Number(usize),
+    // A potential or a concentration, which is the row's first number.
+    Amount,
     // Any word but `-`.
     Name(usize),
     // Any word, or `-` where there is none.
@@ -89,19 +95,20 @@ impl Kind {
     fn items(self) -> &'static [Item]
         ensures { result.now ≡ items_of self }
     {
-        use Item::{Bases, DgOrSeq, Ds, Glue, Name, Number};
+        use Item::{Amount, Bases, DgOrSeq, Ds, Glue, Name, Number};
 
         match self {
-            Kind::Kelvin => &[Number(0)],
+            Kind::Kelvin | Kind::Celsius => &[Number(0)],
             Kind::Ambient => &[Number(0), Number(1), Number(2)],
-            Kind::Strand => &[Name(0), Glue(1), Glue(2), Glue(3), Number(0)],
-            Kind::Quencher | Kind::Reporter => &[Glue(0), Number(0)],
+            Kind::Strand => &[Name(0), Glue(1), Glue(2), Glue(3), Amount],
+            Kind::Quencher | Kind::Reporter => &[Glue(0), Amount],
             Kind::Position | Kind::Blocked => &[Glue(0)],
             Kind::EnergyGiven => &[Name(0), DgOrSeq, Number(0), Ds, Number(1)],
             Kind::EnergySequence => &[Name(0), DgOrSeq, Bases(1)],
             Kind::PairGiven => &[Name(0), Name(1), DgOrSeq, Number(0), Ds, Number(1)],
             Kind::PairSequence => &[Name(0), Name(1), DgOrSeq, Bases(2)],
             Kind::Penalty => &[Number(0), Number(1)],
+            Kind::Ring => &[],
         }
     }
 

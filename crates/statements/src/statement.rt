@@ -4,8 +4,9 @@ ghost use Rattle.std.specs.Option.{ForSome};
 ghost use Rattle.statements.specs.Words.{words_in};
 ghost use Rattle.statements.specs.inner.Words.{Inside};
 ghost use Rattle.statements.specs.Grammar.{InRow};
-ghost use Rattle.statements.specs.Statement.{reason_of, blank, put, glue_of, accepted, closed, fit, statement_of};
+ghost use Rattle.statements.specs.Statement.{reason_of, reason_of_amount, blank, put, glue_of, accepted, closed, fit, statement_of};
 
+use crate::amounts::read_amount;
 use crate::grammar::{Item, Kind};
 use crate::words::{NumberedLine, Word, Words, bytes, next_word};
 use decimals::{NumberFault, read_number};
@@ -17,6 +18,8 @@ pub enum Reason {
     TooFewWords,
     TooManyWords,
     NotANumber,
+    // Where an amount has to stand.
+    NotAnAmount,
     // A number with more than 17 digits.
     TooManyDigits,
     // A number whose exponent, or last place, is too large or too small.
@@ -39,6 +42,16 @@ impl From<NumberFault> for Reason {
     }
 }
 
+// Why a word is no amount.
+fn reason_of_amount(fault: NumberFault) -> Reason
+    ensures { result ≡ reason_of_amount fault }
+{
+    match fault {
+        NumberFault::NotANumber => Reason::NotAnAmount,
+        fault => fault.into(),
+    }
+}
+
 // The word at which a line can't be read, and why.
 #[derive(Clone, Copy, PartialEq, Eq)]
 pub struct Fault {
@@ -52,6 +65,8 @@ pub struct Fault {
 #[derive(Clone, Copy)]
 pub struct Row {
     pub kind: Kind,
+    // Whether its amount, number 0, is a concentration.
+    pub concentration: bool,
     // The number of its line, from 1.
     pub line: usize,
     pub words: [Word; 4],
@@ -85,6 +100,7 @@ impl Row {
     {
         Row {
             kind,
+            concentration: false,
             line,
             words: [Word::default(); 4],
             numbers: [0.0; 3],
@@ -102,7 +118,7 @@ impl Row {
     }
 
     // The row after one word more, which has to be an item.
-    #[tactic(auto, unfolding(crate::specs::Statement::accepted, crate::specs::Statement::number_put, crate::specs::Statement::put_number))]
+    #[tactic(auto, unfolding(crate::specs::Statement::accepted, crate::specs::Statement::number_put, crate::specs::Statement::put_number, crate::specs::Statement::amount_put, crate::specs::Statement::put_amount))]
     fn accept(mut self, bytes: &[u8], item: Option<Item>, word: Word) -> Result<Self, Fault>
         requires { ForSome item InRow }
         ensures { result ≡ accepted bytes.now item word self }
@@ -114,6 +130,12 @@ impl Row {
         match item {
             Item::Number(slot) => {
                 self.numbers[slot] = read_number(bytes).map_err(|why| fault(why.into()))?;
+                Ok(self)
+            }
+            Item::Amount => {
+                let amount = read_amount(bytes).map_err(|why| fault(reason_of_amount(why)))?;
+                self.numbers[0] = amount.number;
+                self.concentration = amount.concentration;
                 Ok(self)
             }
             Item::Name(slot) => match bytes {

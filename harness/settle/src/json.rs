@@ -3,6 +3,7 @@
 #[derive(Debug, Clone, PartialEq)]
 pub enum Value {
     Null,
+    Bool(bool),
     /// As it is spelled.
     Number(String),
     Text(String),
@@ -63,6 +64,11 @@ impl Reader<'_> {
     fn value(&mut self) -> Result<Value, String> {
         if self.take("null") {
             return Ok(Value::Null);
+        }
+        for truth in [true, false] {
+            if self.take(&truth.to_string()) {
+                return Ok(Value::Bool(truth));
+            }
         }
         match self.rest.chars().next() {
             Some('"') => self.text().map(Value::Text),
@@ -153,12 +159,13 @@ mod tests {
 
     #[test]
     fn values_are_read_and_others_are_not() {
-        let object = read(r#"{"a":[1,-0.5,null],"b":"x\"\\\u00ff"}"#).unwrap();
+        let object = read(r#"{"a":[1,-0.5,null,true],"b":"x\"\\\u00ff"}"#).unwrap();
         assert_eq!(object.field("b"), Some(&Value::Text("x\"\\\u{ff}".into())));
         let Some(Value::List(items)) = object.field("a") else {
             panic!("{object:?}")
         };
         assert_eq!(items[1], Value::Number("-0.5".into()));
+        assert_eq!(items[3], Value::Bool(true));
         for wrong in [
             "",
             "{",

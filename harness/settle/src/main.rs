@@ -3,6 +3,7 @@
 //! Writes design files to a folder and runs `./settle --json` on them, with `--archive`, and on the designs without it too. Without an oracle the designs are left out. The exit
 //! status is 0 only if nothing differs.
 
+mod alike;
 mod damage;
 mod design;
 mod exact;
@@ -98,6 +99,7 @@ fn run(arguments: &Arguments) -> Result<usize, String> {
         let mut oracle = Program::start("oracle", oracle)?;
         settled_as_the_oracle(arguments, &mut oracle, &mut tally)?;
     }
+    let pairs = alike_in_pairs(arguments, &mut tally)?;
     damaged(arguments, &mut tally)?;
     let (seconds, damaged) = (started.elapsed().as_secs_f64(), arguments.damaged);
     println!(
@@ -105,7 +107,7 @@ fn run(arguments: &Arguments) -> Result<usize, String> {
         tally.settled, tally.refused, tally.unreadable
     );
     println!(
-        "files: {designs} designs as the oracle has them, {damaged} damaged; differ {}",
+        "files: {designs} designs as the oracle has them, {pairs} pairs alike, {damaged} damaged; differ {}",
         tally.differ
     );
     Ok(tally.differ)
@@ -335,6 +337,7 @@ fn unlike(answer: &Answer, design: &Design, lowest: &Lowest) -> Option<String> {
             settled.configuration == lowest.configuration,
         ),
         ("blocked", settled.blocked == design.blocked),
+        ("ring", !settled.ring),
         ("names", settled.names == names),
         ("states", settled.states == lowest.states),
         (
@@ -369,6 +372,26 @@ fn deck(settled: &Settled) -> Vec<u32> {
         }
     }
     words
+}
+
+// ---- the same in other words
+
+/// As many random designs as are asked for, each in pairs of files that have to be answered alike; how many pairs there were.
+fn alike_in_pairs(arguments: &Arguments, tally: &mut Tally) -> Result<usize, String> {
+    let mut random = Random::stream(arguments.seed, "alike", 0);
+    let (mut left, mut count) = (arguments.designs, 0);
+    while left > 0 {
+        let designs = left.min(BATCH / 10);
+        let pairs: Vec<_> = (0..designs)
+            .flat_map(|_| alike::pairs(&mut random))
+            .collect();
+        for (answer, complaint, text) in alike::asked(&arguments.settle, &pairs)? {
+            tally.count(&answer, complaint, &text);
+        }
+        count += pairs.len();
+        left -= designs;
+    }
+    Ok(count)
 }
 
 // ---- damaged files
@@ -437,9 +460,10 @@ fn damaged_file(random: &mut Random, planted: &mut [usize; damage::KINDS]) -> Da
         _ => {}
     }
     let design = Design::random(random);
-    let ambient = match random.once_in(2) {
-        true => statement(&["kelvin", "310.15"]),
-        false => statement(&["ambient", "0.61", "-0.5", "12.25"]),
+    let ambient = match random.below(3) {
+        0 => statement(&["kelvin", "310.15"]),
+        1 => statement(&["celsius", "37"]),
+        _ => statement(&["ambient", "0.61", "-0.5", "12.25"]),
     };
     let mut statements = design.statements(random, ambient);
     if random.once_in(4) {

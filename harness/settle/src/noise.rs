@@ -2,14 +2,16 @@
 
 use compare::random::Random;
 
-const WORDS: [&str; 35] = [
+const WORDS: [&str; 39] = [
     "kelvin",
+    "celsius",
     "ambient",
     "strand",
     "quencher",
     "reporter",
     "scaffold",
     "blocked",
+    "ring",
     "energy",
     "pair",
     "penalty",
@@ -27,6 +29,8 @@ const WORDS: [&str; 35] = [
     "0.6",
     "-16",
     "1e3",
+    "100nM",
+    "5\u{b5}M",
     "0x3ff0000000000000",
     "acgt",
     "1",

@@ -16,8 +16,9 @@ pub struct Answer {
     pub settled: Option<Settled>,
 }
 
-#[derive(Debug, Clone)]
+#[derive(Debug, Clone, PartialEq)]
 pub struct Settled {
+    pub ring: bool,
     pub configuration: Vec<usize>,
     pub blocked: Vec<bool>,
     pub names: Vec<Option<Vec<u8>>>,
@@ -124,6 +125,9 @@ fn settled(object: &Value) -> Result<Settled, String> {
             .field(name)
             .ok_or_else(|| format!("{name} is missing"))
     };
+    let Value::Bool(ring) = field("ring")? else {
+        return Err("a ring or none".to_string());
+    };
     let Value::Number(energy) = field("energy")? else {
         return Err("the energy is a number".to_string());
     };
@@ -134,6 +138,7 @@ fn settled(object: &Value) -> Result<Settled, String> {
         other => Err(format!("{digits} digits, not {other:?}")),
     };
     Ok(Settled {
+        ring: *ring,
         configuration: list(field("configuration")?, |value| {
             number(value).map(|n| n as usize)
         })?,

@@ -7,12 +7,12 @@ use crate::design::Design;
 use crate::statements::{statement, Statement};
 use compare::random::Random;
 use refused::{
-    ambient_range, bad_sequence, bases_32, copied_potential_range, energy_range, entries_1025,
-    kelvin_range, long_name, no_such_strand, pair_twice, positions_129, potential_range,
-    strands_62,
+    ambient_range, bad_sequence, bases_32, concentration_range, copied_concentration_range,
+    copied_potential_range, energy_range, entries_1025, kelvin_range, long_name, no_such_strand,
+    pair_twice, positions_129, potential_range, small_ring, strands_62,
 };
 use unreadable::{
-    bad_number, dash_for_a_name, given_twice, no_ambient, no_statement, strand_twice,
+    bad_number, dash_for_a_name, given_twice, no_ambient, no_statement, ring_twice, strand_twice,
     twice_if_there, word_missing, word_too_many, wrong_letters,
 };
 
@@ -51,7 +51,7 @@ fn refused_at(reply: u32, at: usize, word: &'static str) -> Option<Expected> {
     })
 }
 
-pub const KINDS: usize = 29;
+pub const KINDS: usize = 33;
 
 /// Plants a fault of a kind; none where the design has no place for it.
 pub fn plant(
@@ -68,7 +68,11 @@ pub fn plant(
         4 => dash_for_a_name(random, all),
         5 => wrong_letters(random, all, b"dg", &["DG", "dG", "gd", "sequence", "-"]),
         6 => wrong_letters(random, all, b"ds", &["DS", "dS", "dg", "seq", "1"]),
-        7 => given_twice(random, all, &["kelvin 310", "ambient 0.6 0 0"]),
+        7 => given_twice(
+            random,
+            all,
+            &["kelvin 310", "celsius 37", "ambient 0.6 0 0"],
+        ),
         8 => twice_if_there(random, all, b"penalty", "penalty 0 0"),
         9 => twice_if_there(random, all, b"quencher", "quencher - 0"),
         10 => twice_if_there(random, all, b"reporter", "reporter - 0"),
@@ -102,12 +106,20 @@ pub fn plant(
         25 => ambient_range(random, design, all),
         26 => potential_range(random, design, all),
         27 => copied_potential_range(random, design, all),
+        28 => ring_twice(all),
+        29 => small_ring(random, all),
+        30 => concentration_range(random, design, all),
+        31 => copied_concentration_range(random, design, all),
         _ => no_such_strand(random, all),
     }
 }
 
 fn is(statement: &Statement, keyword: &[u8]) -> bool {
     statement[0] == keyword
+}
+
+fn is_ambient(statement: &Statement) -> bool {
+    [b"kelvin".as_slice(), b"celsius", b"ambient"].contains(&statement[0].as_slice())
 }
 
 /// One of the statements for which a condition holds.

@@ -1,6 +1,6 @@
 //! Faults for which a design is refused, each by its number.
 
-use super::{add, is, one, refused, refused_at, split, Expected};
+use super::{add, is, is_ambient, one, refused, refused_at, split, Expected};
 use crate::design::{base, pair, Design, Entry};
 use crate::statements::{number, statement, Statement};
 use compare::random::Random;
@@ -144,17 +144,24 @@ pub fn energy_range(
 }
 
 fn ambient_line(random: &mut Random, all: &[Statement]) -> Option<usize> {
-    one(random, all, |words| {
-        is(words, b"kelvin") || is(words, b"ambient")
-    })
+    one(random, all, is_ambient)
 }
 
 /// Here the potentials are not asked yet.
 pub fn kelvin_range(random: &mut Random, all: &mut [Statement]) -> Option<Expected> {
     let at = ambient_line(random, all)?;
-    let kelvin = random.pick(&["199.99999999999997", "500.1", "-300", "0x7ff0000000000000"]);
-    all[at] = statement(&["kelvin", kelvin]);
-    refused_at(9, at, kelvin)
+    let (keyword, word) = random.pick(&[
+        ("kelvin", "199.99999999999997"),
+        ("kelvin", "500.1"),
+        ("kelvin", "-300"),
+        ("kelvin", "0x7ff0000000000000"),
+        ("celsius", "-73.15"),
+        ("celsius", "226.86"),
+        ("celsius", "300"),
+        ("celsius", "0x7ff8000000000000"),
+    ]);
+    all[at] = statement(&[keyword, word]);
+    refused_at(9, at, word)
 }
 
 /// The first that is out is told, RT, strand excess, scaffold excess; half of the files have an unfit
@@ -223,6 +230,63 @@ pub fn copied_potential_range(
     let potential = random.pick(&UNFIT_POTENTIALS);
     all.push(statement(&[keyword, "rich", potential]));
     refused_at(17, all.len() - 1, "rich")
+}
+
+const UNFIT_CONCENTRATIONS: [&str; 8] = [
+    "0M",
+    "-0.0nM",
+    "-100nM",
+    "8.6e-19M",
+    "0.00086fM",
+    "1024.1M",
+    "1024000.1mM",
+    "1e300\u{b5}M",
+];
+
+/// Beside it half of the files have an ambient out, whose number is higher.
+fn ambient_out(random: &mut Random, all: &mut [Statement]) -> Option<()> {
+    let at = ambient_line(random, all)?;
+    if random.once_in(2) {
+        all[at] = split("ambient 9 0 0");
+    }
+    Some(())
+}
+
+pub fn concentration_range(
+    random: &mut Random,
+    design: &Design,
+    all: &mut Vec<Statement>,
+) -> Option<Expected> {
+    ambient_out(random, all)?;
+    let concentration = random.pick(&UNFIT_CONCENTRATIONS);
+    let at = rich(design, all, concentration)?;
+    refused_at(15, at, concentration)
+}
+
+/// Of the quencher or the reporter, which copies a strand that is somewhere a friend.
+pub fn copied_concentration_range(
+    random: &mut Random,
+    design: &Design,
+    all: &mut Vec<Statement>,
+) -> Option<Expected> {
+    ambient_out(random, all)?;
+    rich(design, all, random.pick(&["-16", "100nM", "0.1\u{3bc}M"]))?;
+    let keyword = random.pick(&["quencher", "reporter"]);
+    all.retain(|words| !is(words, keyword.as_bytes()));
+    let concentration = random.pick(&UNFIT_CONCENTRATIONS);
+    all.push(statement(&[keyword, "rich", concentration]));
+    refused_at(15, all.len() - 1, concentration)
+}
+
+/// A ring of fewer than three positions.
+pub fn small_ring(random: &mut Random, all: &mut Vec<Statement>) -> Option<Expected> {
+    all.retain(|words| !is(words, b"scaffold") && !is(words, b"blocked"));
+    for _ in 0..random.below(3) {
+        all.push(split(random.pick(&["scaffold -", "blocked -"])));
+    }
+    let at = random.within(0..=all.len());
+    all.insert(at, split("ring"));
+    refused_at(20, at, "ring")
 }
 
 pub fn no_such_strand(random: &mut Random, all: &mut Vec<Statement>) -> Option<Expected> {

@@ -1,6 +1,6 @@
 //! Faults for which a file cannot be read.
 
-use super::{is, one, split, unreadable, Expected};
+use super::{is, is_ambient, one, split, unreadable, Expected};
 use crate::statements::{statement, Statement};
 use compare::random::Random;
 
@@ -8,7 +8,7 @@ use compare::random::Random;
 fn number_places(words: &Statement) -> Vec<usize> {
     let keyword = words[0].as_slice();
     match keyword {
-        b"kelvin" => vec![1],
+        b"kelvin" | b"celsius" => vec![1],
         b"ambient" => vec![1, 2, 3],
         b"strand" => vec![5],
         b"quencher" | b"reporter" => vec![2],
@@ -53,6 +53,11 @@ pub fn bad_number(random: &mut Random, all: &mut [Statement]) -> Option<Expected
         "\u{221e}",
         "0X3ff0000000000000",
         "1\u{0}",
+        "M",
+        "uM",
+        "1nm",
+        "1nMM",
+        "0x3ff0000000000000M",
     ];
     all[at][place] = random.pick(&bad).as_bytes().to_vec();
     unreadable(at)
@@ -64,7 +69,7 @@ fn is_positions(words: &Statement) -> bool {
 }
 
 pub fn word_missing(random: &mut Random, all: &mut [Statement]) -> Option<Expected> {
-    let at = one(random, all, |words| !is_positions(words))?;
+    let at = one(random, all, |words| !is_positions(words) && words.len() > 1)?;
     let left = random.within(1..=all[at].len() - 1);
     all[at].truncate(left);
     unreadable(at)
@@ -162,12 +167,17 @@ pub fn twice_if_there(
 }
 
 pub fn no_ambient(all: &mut Vec<Statement>) -> Option<Expected> {
-    all.retain(|words| !is(words, b"kelvin") && !is(words, b"ambient"));
+    all.retain(|words| !is_ambient(words));
     Some(Expected {
         reply: None,
         statement: None,
         word: None,
     })
+}
+
+pub fn ring_twice(all: &mut Vec<Statement>) -> Option<Expected> {
+    all.extend([split("ring"), split("ring")]);
+    unreadable(all.len() - 1)
 }
 
 pub fn strand_twice(random: &mut Random, all: &mut Vec<Statement>) -> Option<Expected> {

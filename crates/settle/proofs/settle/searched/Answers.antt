@@ -1,17 +1,27 @@
 -- `settle::settle::searched` meets its contract. Assumes nothing.
 use mathlib.Core.Path.{◌≡◌, sym, ap, ◌∙◌}
+use mathlib.Core.Bool.{Bool, true, false}
+use mathlib.Core.List.{List}
 use Prim.Native.Nat.{ℕ}
 use native.Mathlib.Omega.{arith}
 use lib.ListN.{take, replicate}
 use Rattle.std.proofs.Common.{rules}
 use Rattle.std.specs.Prelude.{Err}
 use Rattle.std.proofs.lemmas.List.{take-replicate}
-use Rattle.mfe.specs.Answers.{search_entries}
+use Rattle.design.specs.Design.{Design}
+use Rattle.design.specs.Laws.{Doubles}
+use Rattle.sheet.specs.Said.{ring_said}
+use Rattle.settle.specs.Searches.{entries_by, AnsweredBy}
 use Rattle.settle.specs.Told.{settled}
 use Rattle.settle.specs.Files.{room_for, deck_written, settled_of, search_told}
 use Rattle.mfe.proofs.Answered.{search-answered}
+use Rattle.ring.proofs.Answered.{ring-search-answered}
 use Rattle.settle.proofs.Taken.{taken, same_settled}
 use Rattle.settle.proofs.settle.searched.Goals as goal
+
+answered-by : (ring : Bool) (d : Design) (entries : List ℕ) → Doubles d → AnsweredBy ring d entries
+answered-by true d entries doubles = ring-search-answered d entries doubles
+answered-by false d entries doubles = search-answered d entries doubles
 
 pub search-requires : goal.search-requires
 search-requires c =
@@ -38,12 +48,12 @@ returns-clause-told c =
     let goes = rw c.in_ok-energy.was at c.search.ensures.goes_on in
     let energy = rw c.in_ok-energy.was at c.search.ensures.energy in
     let front = taken s.counts.positions c.search.new.configuration _ (search rules) ∙ c.search.ensures.written in
-    let slice : take s.counts.positions _ ≡ search_entries d (room_for s.rows.now) = front in
+    let slice : take s.counts.positions _ ≡ entries_by (ring_said s.rows.now) d (room_for s.rows.now) = front in
     let deck = c.deck_of.ensures ∙ ap deck_written slice in
-    ap settled (same_settled s.counted c.glues_of.ensures c.names_of.ensures c.marks_of.ensures front energy c.states_of.ensures deck) ∙ sym (goes (settled_of s.rows.now d))
+    ap settled (same_settled s.counted c.glues_of.ensures c.names_of.ensures c.marks_of.ensures c.is_ring.ensures front energy c.states_of.ensures deck) ∙ sym (goes (settled_of s.rows.now d))
 
 pub returns-in_err-energy-clause-lowest : goal.returns-in_err-energy-clause-lowest
-returns-in_err-energy-clause-lowest c = search-answered c.args.design.now (room_for c.args.sheet.now.rows.now) c.hold_doubles.ensures
+returns-in_err-energy-clause-lowest c = answered-by (ring_said c.args.sheet.now.rows.now) c.args.design.now (room_for c.args.sheet.now.rows.now) c.hold_doubles.ensures
 
 pub returns-clause-lowest : goal.returns-clause-lowest
-returns-clause-lowest c = search-answered c.args.design.now (room_for c.args.sheet.now.rows.now) c.hold_doubles.ensures
+returns-clause-lowest c = answered-by (ring_said c.args.sheet.now.rows.now) c.args.design.now (room_for c.args.sheet.now.rows.now) c.hold_doubles.ensures

@@ -6,16 +6,16 @@ use native.Mathlib.Omega.{arith}
 use lib.Ieee.{of_bits}
 use lib.ListN.{take, replicate}
 use Rattle.std.proofs.Common.{rules}
-use Rattle.std.specs.Prelude.{Float, Err}
+use Rattle.std.specs.Prelude.{Float, Err, IfOk}
 use Rattle.std.proofs.lemmas.List.{take-replicate}
 use Rattle.doubles.specs.Decimal.{zero}
 use Rattle.sdc1d_params.specs.Params.{lent_of}
 use Rattle.sdc1d_params.specs.Tables.{empty_table}
-use Rattle.sheet.specs.Said.{marks_said, potentials_said}
-use Rattle.settle.specs.Files.{lent_said, room_for, search_told, design_told}
-use Rattle.mfe.specs.Answered.{SearchAnswered}
+use Rattle.sheet.specs.Said.{marks_said, potentials_said, ring_said}
+use Rattle.settle.specs.Searches.{AnsweredBy}
+use Rattle.settle.specs.Files.{lent_said, room_for, said_told, design_told}
 use Rattle.design.specs.Design.{Design}
-use Rattle.settle.proofs.Said.{designed, where_ok}
+use Rattle.settle.proofs.Said.{designed}
 use Rattle.settle.proofs.settle.settled.Goals as goal
 
 pub build-requires : goal.build-requires
@@ -65,7 +65,7 @@ returns-clause-told c =
     let marks = c.marks.ensures ∙ ap (λ (k : ℕ). marks_said k rows) (search rules) in
     let potentials = c.potentials.ensures ∙ ap (λ (k : ℕ). potentials_said k rows) (search rules) in
     let same = c.new-design.ensures ∙ designed c.args.which s.text.now rows _ _ _ _ built marks potentials given in
-    c.searched.ensures.told ∙ ap (search_told s.text.now rows) same ∙ sym (goes _ ∙ goes' _)
+    c.said.ensures.told ∙ ap (said_told s.text.now rows) same ∙ sym (goes _ ∙ goes' _)
 
 pub returns-clause-lowest : goal.returns-clause-lowest
 returns-clause-lowest c =
@@ -79,4 +79,4 @@ returns-clause-lowest c =
     let marks = c.marks.ensures ∙ ap (λ (k : ℕ). marks_said k rows) (search rules) in
     let potentials = c.potentials.ensures ∙ ap (λ (k : ℕ). potentials_said k rows) (search rules) in
     let same = c.new-design.ensures ∙ designed c.args.which s.text.now rows _ _ _ _ built marks potentials given in
-    where_ok c.searched.result (subst (λ (d : Design). SearchAnswered d (room_for rows)) same c.searched.ensures.lowest)
+    subst (λ (d : Design). IfOk c.said.result (λ f. AnsweredBy (ring_said rows) d (room_for rows))) same c.said.ensures.lowest

@@ -9,7 +9,7 @@ use Rattle.std.specs.List.{slice_get}
 use Rattle.lists.specs.Each.{Each}
 use Rattle.statements.specs.Grammar.{InRow, items_of}
 use Rattle.statements.specs.declared.grammar.Kind.{Kind}
-use Rattle.statements.specs.declared.grammar.Kind.TheVariants.{Kelvin, Ambient, Strand, Quencher, Reporter, Position, EnergyGiven, EnergySequence, PairGiven, PairSequence, Penalty, Blocked}
+use Rattle.statements.specs.declared.grammar.Kind.TheVariants.{Kelvin, Ambient, Strand, Quencher, Reporter, Position, EnergyGiven, EnergySequence, PairGiven, PairSequence, Penalty, Blocked, Celsius, Ring}
 use Rattle.statements.specs.declared.grammar.Item.{Item}
 use Rattle.statements.proofs.grammar.Kind.item_at.Goals as goal
 
@@ -24,9 +24,9 @@ each : (kind : Kind) → Each InRow (items_of kind)
 unfolding items_of
 each Kelvin = (omega arith, tt)
 each Ambient = (omega arith, (omega arith, (omega arith, tt)))
-each Strand = (omega arith, (omega arith, (omega arith, (omega arith, (omega arith, tt)))))
-each Quencher = (omega arith, (omega arith, tt))
-each Reporter = (omega arith, (omega arith, tt))
+each Strand = (omega arith, (omega arith, (omega arith, (omega arith, (tt, tt)))))
+each Quencher = (omega arith, (tt, tt))
+each Reporter = (omega arith, (tt, tt))
 each Position = (omega arith, tt)
 each EnergyGiven = (omega arith, (tt, (omega arith, (tt, (omega arith, tt)))))
 each EnergySequence = (omega arith, (tt, (omega arith, tt)))
@@ -34,6 +34,8 @@ each PairGiven = (omega arith, (omega arith, (tt, (omega arith, (tt, (omega arit
 each PairSequence = (omega arith, (omega arith, (tt, (omega arith, tt))))
 each Penalty = (omega arith, (omega arith, tt))
 each Blocked = (omega arith, tt)
+each Celsius = (omega arith, tt)
+each Ring = tt
 
 pub returns-clause-in_row : goal.returns-clause-in_row
 unfolding items_of
