@@ -3,6 +3,7 @@ pub mod Grammar
 pub mod Layout
 pub mod Statement
 pub mod Rows
+pub mod Faults
 pub mod Cases
 pub mod Theorems
 pub mod inner

@@ -1,6 +1,7 @@
 // The reader of design files: the statements of a text, as rows in a lent slice.
 #![tactic(auto)]
 
+pub mod faults;
 pub mod grammar;
 mod rows;
 pub mod statement;
