@@ -31,6 +31,7 @@ use Rattle.answers.specs.declared.reasons.FileFault.TheVariants as file
 use Rattle.answers.specs.declared.reasons.Why.TheVariants as why
 use Rattle.settle.specs.Places.{nowhere, at_line, at_word, on_line, too_many, build_found, kelvin_found, design_found}
 use Rattle.settle.specs.Told.{Settled, Told, unreadable, refused, settled}
+use Rattle.settle.specs.Encoding.{explained}
 
 -- ---- the design
 
@@ -150,6 +151,10 @@ abbrev pub read_by : Result ℕ ReadFault → Told → Told
 read_by (Ok n) rows = rows
 read_by (Err fault) rows = read_fault fault
 
--- of a text: there is room for more rows than a design has
-unfoldable pub settle_told : Build → List ℕ → Told
-settle_told which text = read_by (read_answer text 2048) (rows_told which text (rows_of text))
+-- of the lines of a text: there is room for more rows than a design has
+unfoldable pub lines_told : Build → List ℕ → Told
+lines_told which text = read_by (read_answer text 2048) (rows_told which text (rows_of text))
+
+-- of a text
+abbrev pub settle_told : Build → List ℕ → Told
+settle_told which text = explained text (lines_told which text)
