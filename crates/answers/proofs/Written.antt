@@ -48,6 +48,11 @@ pub on_ok_told : {T E : Type 0} (a b : Option (List ℕ)) (text : List ℕ → L
 on_ok_told a b text x (Ok t) p = (x, p.0, p.1)
 on_ok_told a b text x (Err e) p = tt
 
+pub on_ok_alone : {T E : Type 0} (a b : Option (List ℕ)) (text : List ℕ → List ℕ → List ℕ) (x : List ℕ) (r : Result T E)
+    → OnOk r (Appends a b (text x [])) → OnOk r ((y : List ℕ) × (z : List ℕ) × Appends a b (text y z))
+on_ok_alone a b text x (Ok t) p = (x, [], p)
+on_ok_alone a b text x (Err e) p = tt
+
 -- ---- texts one after the other
 
 pub refused_parts : (a b c d e f g : List ℕ) → (a ++ (b ++ (c ++ (d ++ (e ++ f))))) ++ g ≡ a ++ (b ++ (c ++ (d ++ (e ++ (f ++ g)))))

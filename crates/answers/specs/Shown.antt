@@ -1,10 +1,10 @@
 -- How bytes of a file, or of its name, are shown: text as it is, anything else byte by byte.
-use Rattle.std.specs.Prelude.{Bool, true, false, cond, not, ◌&&◌, ◌||◌, List, [], ◌∷◌, ◌++◌, ℕ, ◌+◌, eqb, ltb, leb, length, get_or, take}
+use Rattle.std.specs.Prelude.{Bool, false, cond, not, ◌&&◌, ◌||◌, List, [], ◌∷◌, ◌++◌, ℕ, eqb, ltb, leb, length, get_or, take}
 use Rattle.std.specs.Str.{is_utf8}
 use lib.Chars.{codes}
 use Rattle.answers.specs.Text.{hex_text, pieces}
 use Rattle.answers.specs.declared.print.Style.{Style}
-use Rattle.answers.specs.declared.print.Style.TheVariants.{People, Json}
+use Rattle.answers.specs.declared.print.Style.TheVariants.{People, Json, Tsv}
 
 -- ---- what a text is
 
@@ -38,6 +38,7 @@ is_quote byte = eqb byte 34 || eqb byte 92
 -- A byte of a text stands for itself, and so does a printable one where the bytes are no text; any other is told by its two hexadecimal digits.
 unfoldable pub byte_text : Style → Bool → ℕ → List ℕ
 byte_text People as_text byte = cond (as_text || is_printable byte) (byte ∷ []) (codes "\\x" ++ hex_text 2 byte)
+byte_text Tsv as_text byte = cond (as_text || is_printable byte) (byte ∷ []) (codes "\\x" ++ hex_text 2 byte)
 byte_text Json as_text byte =
     cond (is_quote byte) (92 ∷ byte ∷ []) (cond (as_text || is_printable byte) (byte ∷ []) (codes "\\u00" ++ hex_text 2 byte))
 

@@ -1,4 +1,5 @@
--- All that is written of a file, for people and as JSON. Left open are the drawing of a settled configuration and the words of a reason.
+-- All that is written of a file, for people, as JSON, and as a row of a table. Left open are the drawing of a settled configuration, the words of a reason,
+-- and the other lines that can't be read.
 use Rattle.std.specs.Prelude.{List, [], ◌∷◌, ◌++◌, ℕ, length, Option, None, Some}
 use Rattle.std.specs.Fmt.{decimal}
 use Rattle.std.specs.Io.KnownBytes.{Appends}
@@ -11,11 +12,12 @@ use Rattle.answers.specs.declared.SettledDesign.{SettledDesign}
 use Rattle.answers.specs.declared.names.Occupant.{Occupant}
 use Rattle.answers.specs.declared.names.Occupant.TheVariants.{Nobody, Strand, Quencher, Reporter, Blocked}
 use Rattle.answers.specs.declared.print.Style.{Style}
-use Rattle.answers.specs.declared.print.Style.TheVariants.{People, Json}
+use Rattle.answers.specs.declared.print.Style.TheVariants.{People, Json, Tsv}
 use Rattle.answers.specs.Names.{part, name_of, occupant_of}
 use Rattle.answers.specs.Shown.{shown_bytes, json_text, word_text}
 use Rattle.answers.specs.Text.{comma, pieces, count_text, counts_text, energy_text, deck_text, json_counts_text, numbers_text, json_energy_text, words_text}
 use Rattle.answers.specs.TradeWords.{trade_word}
+use Rattle.answers.specs.Table.{settled_row, unsettled_row}
 
 -- ---- a file that is settled
 
@@ -97,6 +99,7 @@ unreadable_text People path text spot reason others =
     shown_bytes People path ++ ((10 ∷ codes "  unreadable") ++ (found_text text spot reason ++ others))
 unreadable_text Json path text spot reason others =
     json_head path ++ (codes "null," ++ (json_found text spot reason ++ (codes ",\"others\":[" ++ (others ++ (codes "]}" ++ (10 ∷ []))))))
+unreadable_text Tsv path text spot reason others = unsettled_row path text None spot reason
 
 -- a file whose design is refused: the number, and the trade word
 unfoldable pub refused_text : Style → List ℕ → List ℕ → Refusal → Spot → List ℕ → List ℕ
@@ -104,8 +107,10 @@ refused_text People path text refusal spot reason =
     shown_bytes People path ++ ((10 ∷ codes "  refused ") ++ (decimal (number_of refusal) ++ (codes " (" ++ (trade_word refusal ++ (codes ")" ++ found_text text spot reason)))))
 refused_text Json path text refusal spot reason =
     json_head path ++ (decimal (number_of refusal) ++ (codes ",\"refused\":\"" ++ (trade_word refusal ++ (codes "\"," ++ (json_found text spot reason ++ (codes "}" ++ (10 ∷ [])))))))
+refused_text Tsv path text refusal spot reason = unsettled_row path text (Some (number_of refusal)) spot reason
 
--- a settled one: for people with a drawing, as JSON whole
+-- a settled one: for people with a drawing, otherwise whole
 abbrev pub Settles : Option (List ℕ) → Option (List ℕ) → Style → List ℕ → SettledDesign → Type 0
 Settles old new People path d = Draws old new (settled_text path d)
 Settles old new Json path d = Appends old new (json_settled path d)
+Settles old new Tsv path d = Appends old new (settled_row path d)

@@ -9,6 +9,7 @@ pub mod reads;
 pub mod reasons;
 mod shown;
 mod summary;
+mod table;
 mod words;
 
 ghost use Rattle.std.specs.Prelude.{◌≡◌, cond, eqb, None, Some, OnOk};
@@ -115,6 +116,7 @@ impl<W: Write> Printer<'_, W> {
         match style {
             Style::People => self.print_unreadable(file, found.spot, reason, others),
             Style::Json => self.print_json_unreadable(file, found.spot, reason, others),
+            Style::Tsv => self.print_unsettled_row(file, None, found.spot, reason),
         }
     }
 
@@ -132,6 +134,10 @@ impl<W: Write> Printer<'_, W> {
         match style {
             Style::People => self.print_refused(file, refusal, found.spot, reason),
             Style::Json => self.print_json_refused(file, refusal, found.spot, reason),
+            Style::Tsv => {
+                let number = refusal.number() as usize;
+                self.print_unsettled_row(file, Some(number), found.spot, reason)
+            }
         }
     }
 
@@ -142,6 +148,7 @@ impl<W: Write> Printer<'_, W> {
         match style {
             Style::People => self.print_settled(path, design),
             Style::Json => self.print_json_settled(path, design),
+            Style::Tsv => self.print_settled_row(path, design),
         }
     }
 }

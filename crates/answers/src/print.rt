@@ -12,6 +12,8 @@ use std::io::Write;
 pub enum Style {
     People,
     Json,
+    // A row of a table.
+    Tsv,
 }
 
 // A writer. What is known of the bytes that it holds grows by what is printed.

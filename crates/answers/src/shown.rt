@@ -116,6 +116,7 @@ impl<W: Write> Printer<'_, W> {
             _ if as_text || is_printable(byte) => self.out.write_all(&[byte]),
             Style::Json => write!(self.out, "\\u00{byte:02x}"),
             Style::People => write!(self.out, "\\x{byte:02x}"),
+            Style::Tsv => write!(self.out, "\\x{byte:02x}"),
         }
     }
 

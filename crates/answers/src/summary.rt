@@ -27,7 +27,7 @@ pub(crate) fn comma(i: usize) -> &'static str
 }
 
 // How many states a design has.
-fn states_of(design: &SettledDesign) -> Option<usize>
+pub(crate) fn states_of(design: &SettledDesign) -> Option<usize>
     ensures { result ≡ design.now.states }
 {
     match design.states {

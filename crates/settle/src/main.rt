@@ -1,6 +1,6 @@
 // Reads design files and prints, of each, the configuration in which its strands settle, or why there is none.
 //
-// The first argument is --people or --json, the second --ordinary or --archive, the rest are names of files. Whether all files were settled goes
+// The first argument is --people, --json or --tsv, the second --ordinary or --archive, the rest are names of files. Whether all files were settled goes
 // to descriptor 3, as 0 or 1, where the script `settle` reads it. The exit status says only how the program ended.
 #![tactic(auto)]
 
@@ -106,8 +106,20 @@ impl<R: Env + Files + Print + Alloc + Input> Run<'_, R> {
         Ok(is_settled)
     }
 
+    // What stands before the first file: of a table its heads.
+    fn begin(&self) -> io::Result<()> {
+        let Style::Tsv = self.style else {
+            return Ok(());
+        };
+        let mut told = Vec::new(self.rt.alloc());
+        let mut printer = Printer { out: &mut told };
+        printer.heads()?;
+        self.rt.write_all(&told)
+    }
+
     // All files in turn. Answers whether each was settled. The arguments are asked for by number: std's iterator over them copies them all.
     fn settle_all(&self, room: &mut [u8]) -> io::Result<bool> {
+        self.begin()?;
         let rt = self.rt;
         let mut all = true;
         for i in (3..usize::MAX).take_while(|i| is_given(rt, *i)) {
@@ -150,6 +162,8 @@ fn ended<R: Eprint>(rt: &R, error: io::Error) -> io::Result<ExitCode> {
 fn main(rt: HostRuntime) -> io::Result<ExitCode> {
     let style = if is_word(&rt, 1, b"--json") {
         Style::Json
+    } else if is_word(&rt, 1, b"--tsv") {
+        Style::Tsv
     } else {
         Style::People
     };
