@@ -1,3 +1,6 @@
 pub mod Text
+pub mod Shown
 pub mod Names
 pub mod TradeWords
+pub mod Table
+pub mod Told

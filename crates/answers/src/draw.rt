@@ -1,9 +1,11 @@
 // The settled configuration as people see it: the strands over the positions on which they sit, in as many stretches as lines are wide.
-ghost use Rattle.std.specs.Prelude.{◌≡◌, ◌<◌, IfOk, length};
+ghost use Rattle.std.specs.Prelude.{◌≡◌, ◌<◌, OnOk, IfOk, length};
+ghost use Rattle.answers.specs.Text.{Grows};
 ghost use Rattle.answers.specs.Names.{shown};
 
 use crate::SettledDesign;
-use crate::print::{Printer, width};
+use crate::print::{Printer, Style};
+use crate::shown::width;
 use std::io;
 use std::io::Write;
 
@@ -41,6 +43,15 @@ impl SettledDesign<'_> {
         width(self.shown(Line::Strands, i)).max(width(self.shown(Line::Scaffold, i)))
     }
 
+    // How many blanks follow position i on a line that ends before position `end`: none follow the last.
+    fn gap(&self, line: Line, i: usize, end: usize) -> usize {
+        if end <= i.wrapping_add(1) {
+            return 0;
+        }
+        let missing = self.column(i).saturating_sub(width(self.shown(line, i)));
+        missing.wrapping_add(2)
+    }
+
     // The position after the last that has room on a line which begins with position `from`.
     fn stretch_end(&self, from: usize) -> usize
         ensures { from < length self.now.configuration.now → from < result }
@@ -65,23 +76,24 @@ impl<W: Write> Printer<'_, W> {
         line: Line,
         from: usize,
         end: usize,
-    ) -> io::Result<()> {
+    ) -> io::Result<()>
+        ensures { OnOk result (Grows (W.contents self.old.out.now) (W.contents self.new.out.now)) }
+    {
         let head = head(line);
         write!(self.out, "{head}")?;
         // By number: a column is asked for by its position.
         for i in from..end {
             let word = design.shown(line, i);
-            self.print_bytes(word)?;
-            if i + 1 < end {
-                self.print_blanks(design.column(i).saturating_sub(width(word)))?;
-                write!(self.out, "  ")?;
-            }
+            self.print_bytes(Style::People, word)?;
+            self.print_blanks(design.gap(line, i, end))?;
         }
         writeln!(self.out)
     }
 
     // The head of a stretch, by its first and last position.
-    fn print_range(&mut self, first: usize, last: usize) -> io::Result<()> {
+    fn print_range(&mut self, first: usize, last: usize) -> io::Result<()>
+        ensures { OnOk result (Grows (W.contents self.old.out.now) (W.contents self.new.out.now)) }
+    {
         if first == last {
             writeln!(self.out, "  position {last}")
         } else {
@@ -91,7 +103,8 @@ impl<W: Write> Printer<'_, W> {
 
     // One stretch, and where the next begins.
     fn print_stretch(&mut self, design: &SettledDesign, from: usize) -> io::Result<usize>
-        ensures { IfOk result (λ end. from < length design.now.configuration.now → from < end) }
+        ensures goes_on { IfOk result (λ end. from < length design.now.configuration.now → from < end) }
+        ensures grows { OnOk result (Grows (W.contents self.old.out.now) (W.contents self.new.out.now)) }
     {
         let end = design.stretch_end(from);
         self.print_range(from.wrapping_add(1), end)?;
@@ -101,7 +114,9 @@ impl<W: Write> Printer<'_, W> {
     }
 
     // All stretches in turn.
-    pub(crate) fn draw(&mut self, design: &SettledDesign) -> io::Result<()> {
+    pub(crate) fn draw(&mut self, design: &SettledDesign) -> io::Result<()>
+        ensures { OnOk result (Grows (W.contents self.old.out.now) (W.contents self.new.out.now)) }
+    {
         let mut from = 0;
         // Where a stretch begins, the one before it tells when it is printed: an iterator would lay each out twice, or hold the printer.
         while from < design.configuration.len() {

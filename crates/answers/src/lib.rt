@@ -3,22 +3,26 @@
 
 mod draw;
 mod names;
+mod place;
 pub mod print;
 pub mod reads;
 pub mod reasons;
+mod shown;
 mod summary;
+mod table;
 mod words;
 
-ghost use Rattle.std.specs.Prelude.{◌≡◌, cond, eqb, None, Some};
+ghost use Rattle.std.specs.Prelude.{◌≡◌, cond, eqb, None, Some, OnOk};
+ghost use Rattle.answers.specs.Told.{Tells, TellsMore, unreadable_text, refused_text, Settles};
 
 use print::{Printer, Style};
 use reads::part;
 use reasons::{Why, reason_text};
 use reply::Refusal;
+use statements::faults::LineFault;
 use statements::words::Word;
 use std::io;
 use std::io::Write;
-use words::trade_word;
 
 // A design file: its name, and its text as far as it could be read.
 #[derive(Clone, Copy)]
@@ -64,6 +68,21 @@ impl Found {
             why,
         }
     }
+
+    // The reason in words, and what to do.
+    fn reason(&self, text: &[u8]) -> &'static str {
+        let word = self.spot.word.unwrap_or_default();
+        reason_text(self.why, part(text, word))
+    }
+}
+
+impl From<LineFault> for Found {
+    fn from(other: LineFault) -> Self {
+        Found {
+            spot: Spot::at(Some(other.line), other.fault.word),
+            why: Why::Line(other.fault.reason),
+        }
+    }
 }
 
 // What is printed of a settled design. The glue of each position and the name of each user strand are words of the text; a position without a
@@ -84,118 +103,54 @@ pub struct SettledDesign<'a> {
     pub deck: &'a [u32],
 }
 
-// How much of a word is shown.
-const SHOWN: usize = 64;
-
 impl<W: Write> Printer<'_, W> {
-    // A word at fault, its beginning where it is long.
-    fn print_word(&mut self, text: &[u8], word: Word) -> io::Result<()> {
-        if SHOWN < word.size {
-            let shown = Word {
-                size: SHOWN,
-                ..word
-            };
-            self.print_bytes(part(text, shown))?;
-            return write!(self.out, "...");
+    // A file that can't be read, and why, with the other lines of it that can't be.
+    pub fn unreadable(
+        &mut self,
+        style: Style,
+        file: DesignFile,
+        found: Found,
+        others: &[LineFault],
+    ) -> io::Result<()>
+        ensures { OnOk result (TellsMore (W.contents self.old.out.now) (W.contents self.new.out.now) (unreadable_text style file.entry.path.now file.entry.text.now found.spot)) }
+    {
+        let reason = found.reason(file.text);
+        match style {
+            Style::People => self.print_unreadable(file, found.spot, reason, others),
+            Style::Json => self.print_json_unreadable(file, found.spot, reason, others),
+            Style::Tsv => self.print_unsettled_row(file, None, found.spot, reason),
         }
-        self.print_bytes(part(text, word))
     }
 
-    // The place of a reason and, on a line of its own, the reason, for people.
-    fn print_found(&mut self, text: &[u8], found: Found) -> io::Result<()> {
-        if let Some(line) = found.spot.line {
-            write!(self.out, ", line {line}")?;
-        }
-        if let Some(word) = found.spot.word {
-            write!(self.out, ", at ")?;
-            self.print_word(text, word)?;
-        }
-        let reason = reason_text(found.why);
-        writeln!(self.out, "\n  {reason}")
-    }
-
-    // The place of a reason and the reason, as the last fields.
-    fn print_json_found(&mut self, text: &[u8], found: Found) -> io::Result<()> {
-        write!(self.out, ",\"line\":")?;
-        self.print_count_or_null(found.spot.line)?;
-        write!(self.out, ",\"word\":")?;
-        match found.spot.word {
-            Some(word) => {
-                write!(self.out, "\"")?;
-                self.print_word(text, word)?;
-                write!(self.out, "\"")?;
+    // A file whose design is refused, by which number, and why.
+    pub fn refused(
+        &mut self,
+        style: Style,
+        file: DesignFile,
+        refusal: Refusal,
+        found: Found,
+    ) -> io::Result<()>
+        ensures { OnOk result (Tells (W.contents self.old.out.now) (W.contents self.new.out.now) (refused_text style file.entry.path.now file.entry.text.now refusal found.spot)) }
+    {
+        let reason = found.reason(file.text);
+        match style {
+            Style::People => self.print_refused(file, refusal, found.spot, reason),
+            Style::Json => self.print_json_refused(file, refusal, found.spot, reason),
+            Style::Tsv => {
+                let number = refusal.number() as usize;
+                self.print_unsettled_row(file, Some(number), found.spot, reason)
             }
-            None => write!(self.out, "null")?,
-        }
-        let reason = reason_text(found.why);
-        writeln!(self.out, ",\"reason\":\"{reason}\"}}")
-    }
-
-    // `{"file":"NAME","reply":`
-    pub(crate) fn print_json_head(&mut self, path: &[u8]) -> io::Result<()> {
-        write!(self.out, "{{\"file\":")?;
-        self.print_json_text(path)?;
-        write!(self.out, ",\"reply\":")
-    }
-}
-
-// A file that can't be read, and why.
-pub fn unreadable<W: Write>(
-    out: &mut W,
-    style: Style,
-    file: DesignFile,
-    found: Found,
-) -> io::Result<()> {
-    let mut printer = Printer { out, style };
-    match style {
-        Style::People => {
-            printer.print_bytes(file.path)?;
-            write!(printer.out, "\n  unreadable")?;
-            printer.print_found(file.text, found)
-        }
-        Style::Json => {
-            printer.print_json_head(file.path)?;
-            write!(printer.out, "null")?;
-            printer.print_json_found(file.text, found)
         }
     }
-}
 
-// A file whose design is refused, by which number, and why.
-pub fn refused<W: Write>(
-    out: &mut W,
-    style: Style,
-    file: DesignFile,
-    refusal: Refusal,
-    found: Found,
-) -> io::Result<()> {
-    let mut printer = Printer { out, style };
-    let number = refusal.number();
-    let word = trade_word(refusal);
-    match style {
-        Style::People => {
-            printer.print_bytes(file.path)?;
-            write!(printer.out, "\n  refused {number} ({word})")?;
-            printer.print_found(file.text, found)
+    // A file whose design is settled.
+    pub fn settled(&mut self, style: Style, path: &[u8], design: &SettledDesign) -> io::Result<()>
+        ensures { OnOk result (Settles (W.contents self.old.out.now) (W.contents self.new.out.now) style path.now design.now) }
+    {
+        match style {
+            Style::People => self.print_settled(path, design),
+            Style::Json => self.print_json_settled(path, design),
+            Style::Tsv => self.print_settled_row(path, design),
         }
-        Style::Json => {
-            printer.print_json_head(file.path)?;
-            write!(printer.out, "{number},\"refused\":\"{word}\"")?;
-            printer.print_json_found(file.text, found)
-        }
-    }
-}
-
-// A file whose design is settled.
-pub fn settled<W: Write>(
-    out: &mut W,
-    style: Style,
-    path: &[u8],
-    design: &SettledDesign,
-) -> io::Result<()> {
-    let mut printer = Printer { out, style };
-    match style {
-        Style::People => printer.print_settled(path, design),
-        Style::Json => printer.print_json_settled(path, design),
     }
 }

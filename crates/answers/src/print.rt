@@ -1,7 +1,7 @@
-// What is written: texts, numbers, and the bytes of a file as people or a JSON reader can take them.
+// What is written, and whom it is for.
 ghost use Rattle.std.specs.Prelude.{OnOk};
 ghost use Rattle.std.specs.Io.KnownBytes.{Appends};
-ghost use Rattle.answers.specs.Text.{fixed_shown};
+ghost use Rattle.answers.specs.Text.{Grows, fixed_shown};
 
 use crate::reads::first;
 use std::io;
@@ -12,14 +12,14 @@ use std::io::Write;
 pub enum Style {
     People,
     Json,
+    // A row of a table.
+    Tsv,
 }
 
-// A writer, and whom it writes for. It isn't public, and a public function takes both and makes it: `.ci/contracts` knows a function that prints
-// by its `out: &mut W`.
+// A writer. What is known of the bytes that it holds grows by what is printed.
 #[derive(Drop)]
-pub(crate) struct Printer<'a, W: Write> {
-    pub(crate) out: &'a mut W,
-    pub(crate) style: Style,
+pub struct Printer<'a, W: Write> {
+    pub out: &'a mut W,
 }
 
 impl<W: Write> Printer<'_, W> {
@@ -33,74 +33,14 @@ impl<W: Write> Printer<'_, W> {
         self.out.write_all(first(&text, size))
     }
 
-    // A byte that is not plain. People get \x and two digits; JSON \u and four, so that the character's number is the byte.
-    fn print_odd(&mut self, byte: u8) -> io::Result<()> {
-        match (byte, self.style) {
-            (b'"' | b'\\', Style::People) => self.out.write_all(&[byte]),
-            (b'"' | b'\\', Style::Json) => self.out.write_all(&[b'\\', byte]),
-            (_, Style::People) => write!(self.out, "\\x{byte:02x}"),
-            (_, Style::Json) => write!(self.out, "\\u00{byte:02x}"),
-        }
-    }
-
-    // Plain bytes, and an odd one that may stand behind them.
-    fn print_run(&mut self, run: &[u8]) -> io::Result<()> {
-        match run {
-            [plain @ .., odd] if !is_plain(*odd) => {
-                self.out.write_all(plain)?;
-                self.print_odd(*odd)
-            }
-            plain => self.out.write_all(plain),
-        }
-    }
-
-    // Bytes of a file, or of its name.
-    pub(crate) fn print_bytes(&mut self, bytes: &[u8]) -> io::Result<()> {
-        for run in bytes.split_inclusive(|byte| !is_plain(*byte)) {
-            self.print_run(run)?;
-        }
-        Ok(())
-    }
-
-    // The same as a JSON text, between its quotes.
-    pub(crate) fn print_json_text(&mut self, bytes: &[u8]) -> io::Result<()> {
-        write!(self.out, "\"")?;
-        self.print_bytes(bytes)?;
-        write!(self.out, "\"")
-    }
-
     // So many blanks.
-    pub(crate) fn print_blanks(&mut self, n: usize) -> io::Result<()> {
+    pub(crate) fn print_blanks(&mut self, n: usize) -> io::Result<()>
+        ensures { OnOk result (Grows (W.contents self.old.out.now) (W.contents self.new.out.now)) }
+    {
         // By number: there are no values, but only how many blanks.
         for _ in 0..n {
             write!(self.out, " ")?;
         }
         Ok(())
-    }
-}
-
-// A byte that stands for itself in any output: printable ASCII, but for the two bytes that JSON strings escape.
-fn is_plain(byte: u8) -> bool {
-    match byte {
-        b'"' | b'\\' => false,
-        b' '..=b'~' => true,
-        _ => false,
-    }
-}
-
-// How wide bytes are as people get them.
-pub(crate) fn width(bytes: &[u8]) -> usize {
-    let mut sum = 0usize;
-    for byte in bytes {
-        sum = sum.wrapping_add(byte_width(*byte));
-    }
-    sum
-}
-
-// How wide a byte is: itself, or \x and two digits.
-fn byte_width(byte: u8) -> usize {
-    match byte {
-        b' '..=b'~' => 1,
-        _ => 4,
     }
 }

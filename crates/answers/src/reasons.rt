@@ -1,4 +1,5 @@
 // Why a file gives no settled configuration, and what to do about it. The texts hold nothing that a JSON string escapes.
+use statements::grammar::Kind;
 use statements::statement::Reason;
 
 // Why a file can't be had.
@@ -9,6 +10,11 @@ pub enum FileFault {
     NotAllowed,
     ReadFailed,
     TooLong,
+    LongPath,
+    // What is read is no plain text.
+    ByteOrderMark,
+    Utf16,
+    ReturnsAlone,
 }
 
 // Each reason that is told.
@@ -58,18 +64,55 @@ fn file_reason(fault: FileFault) -> &'static str {
         FileFault::ReadFailed => "the file could not be read to its end. Try again, or copy it",
         FileFault::TooLong =>
             "the file has more than 1 MiB. Take out comments and what the design does not need",
+        FileFault::LongPath =>
+            "the file's name is too long for this system. Name it from a folder nearer to it",
+        FileFault::ByteOrderMark =>
+            "the file begins with a byte order mark. Save it as UTF-8 without one (without BOM)",
+        FileFault::Utf16 => "the file is UTF-16, or no text. Save it as UTF-8 without BOM",
+        FileFault::ReturnsAlone =>
+            "the lines end in carriage returns alone. Save the file with line feeds at the ends of lines",
     }
 }
 
-// Of a line.
-fn line_reason(reason: Reason) -> &'static str {
+// Of a line that ends too early, by its keyword.
+fn early_reason(keyword: &[u8]) -> &'static str {
+    match Kind::of(keyword) {
+        Some(Kind::Kelvin) => "the line ends too early. It has to be: kelvin T",
+        Some(Kind::Celsius) => "the line ends too early. It has to be: celsius T",
+        Some(Kind::Ambient) => "the line ends too early. It has to be: ambient RT STRAND SCAFFOLD",
+        Some(Kind::Strand) =>
+            "the line ends too early. It has to be: strand NAME WEST BOTTOM EAST AMOUNT",
+        Some(Kind::Quencher) => "the line ends too early. It has to be: quencher STRAND AMOUNT",
+        Some(Kind::Reporter) => "the line ends too early. It has to be: reporter STRAND AMOUNT",
+        Some(Kind::EnergyGiven) =>
+            "the line ends too early. It has to be: energy GLUE dg DG ds DS, or energy GLUE seq BASES",
+        Some(Kind::PairGiven) =>
+            "the line ends too early. It has to be: pair GLUE GLUE dg DG ds DS, or pair GLUE GLUE seq BASES",
+        Some(Kind::Penalty) => "the line ends too early. It has to be: penalty DG DS",
+        _ => "the line ends too early. docs/DESIGN-FILE.md has the words of this statement",
+    }
+}
+
+// The minus of typography, and the en dash.
+const MINUS: &[u8] = b"\xe2\x88\x92";
+
+const DASH: &[u8] = b"\xe2\x80\x93";
+
+// Whether a word has one of them in it.
+fn has_typographic_minus(word: &[u8]) -> bool {
+    word.windows(3).any(|three| three == MINUS || three == DASH)
+}
+
+// Of a line, by the word at fault.
+fn line_reason(reason: Reason, word: &[u8]) -> &'static str {
     match reason {
         Reason::NoSuchStatement =>
             "no statement begins with this word. The statements are kelvin, celsius, ambient, strand, quencher, reporter, scaffold, blocked, ring, energy, pair, penalty; # begins a comment",
-        Reason::TooFewWords =>
-            "the line ends too early. See docs/DESIGN-FILE.md for the words of this statement",
+        Reason::TooFewWords => early_reason(word),
         Reason::TooManyWords =>
             "the statement ends before this word. Take it out, or begin a comment with #",
+        Reason::NotANumber | Reason::NotAnAmount if has_typographic_minus(word) =>
+            "this minus is that of typography (U+2212), or a dash. Type - in its place",
         Reason::NotANumber =>
             "this is no number. Write a decimal of up to 17 digits, as -1.25 or 3e-7, or 0x and the 16 hexadecimal digits of a double",
         Reason::NotAnAmount =>
@@ -84,11 +127,11 @@ fn line_reason(reason: Reason) -> &'static str {
     }
 }
 
-// The reason, and what to do.
-pub(crate) fn reason_text(why: Why) -> &'static str {
+// The reason, and what to do, by the word at fault.
+pub(crate) fn reason_text(why: Why, word: &[u8]) -> &'static str {
     match why {
         Why::File(fault) => file_reason(fault),
-        Why::Line(reason) => line_reason(reason),
+        Why::Line(reason) => line_reason(reason, word),
         Why::NameTwice => "a strand further up has this name. Give each strand a name of its own",
         Why::GivenTwice => "this was given further up, and is given once. Keep one of the lines",
         Why::NoAmbient => "the file gives no temperature. Add a line as: celsius 37",

@@ -2,10 +2,12 @@
 ghost use Rattle.std.specs.Prelude.{◌≡◌, length, OnOk};
 ghost use Rattle.std.specs.Io.KnownBytes.{Appends};
 ghost use Rattle.answers.specs.Text.{count_text, ring_text, json_ring_text, comma, number_piece, numbers_text, word_piece, words_text, json_counts_text, json_bits_text, json_energy_text, number_of_text, states_text, counts_text, unit_text, energy_text, deck_gap, deck_piece, deck_text};
+ghost use Rattle.answers.specs.Names.{occupant_of};
+ghost use Rattle.answers.specs.Told.{Draws, json_name, name_piece, names_text, settled_text, json_settled};
 
 use crate::SettledDesign;
 use crate::names::Occupant;
-use crate::print::Printer;
+use crate::print::{Printer, Style};
 use doubles::bits;
 use std::io;
 use std::io::Write;
@@ -18,14 +20,14 @@ fn deck_gap(i: usize) -> &'static str
 }
 
 // What stands before an element of a list, by its place.
-fn comma(i: usize) -> &'static str
+pub(crate) fn comma(i: usize) -> &'static str
     ensures { result.now ≡ comma i }
 {
     if 0 < i { "," } else { "" }
 }
 
 // How many states a design has.
-fn states_of(design: &SettledDesign) -> Option<usize>
+pub(crate) fn states_of(design: &SettledDesign) -> Option<usize>
     ensures { result ≡ design.now.states }
 {
     match design.states {
@@ -104,21 +106,25 @@ impl<'a, W: Write> Printer<'a, W> {
         self.print_unit(energy)
     }
 
-    // That a ring's last position stands beside its first.
-    fn print_ring(&mut self, last: usize) -> io::Result<()>
-        ensures { OnOk result (Appends (W.contents self.old.out.now) (W.contents self.new.out.now) (ring_text last)) }
+    // Of a ring, that its last position stands beside its first.
+    fn print_ring(&mut self, ring: bool, last: usize) -> io::Result<()>
+        ensures { OnOk result (Appends (W.contents self.old.out.now) (W.contents self.new.out.now) (ring_text ring last)) }
     {
-        writeln!(self.out, "  ring: position {last} stands beside position 1")
+        if ring {
+            return writeln!(self.out, "  ring: position {last} stands beside position 1");
+        }
+        write!(self.out, "")
     }
 
     // For people.
-    pub(crate) fn print_settled(&mut self, path: &[u8], design: &SettledDesign) -> io::Result<()> {
-        self.print_bytes(path)?;
+    #[tactic(auto, unfolding(crate::specs::Told::settled_text))]
+    pub(crate) fn print_settled(&mut self, path: &[u8], design: &SettledDesign) -> io::Result<()>
+        ensures { OnOk result (Draws (W.contents self.old.out.now) (W.contents self.new.out.now) (settled_text path.now design.now)) }
+    {
+        self.print_bytes(Style::People, path)?;
         self.print_counts(design)?;
         self.draw(design)?;
-        if design.ring {
-            self.print_ring(design.configuration.len())?;
-        }
+        self.print_ring(design.ring, design.configuration.len())?;
         self.print_energy(design.energy)?;
         self.print_deck(design.deck)
     }
@@ -174,20 +180,32 @@ impl<'a, W: Write> Printer<'a, W> {
     }
 
     // The name of who has this number in a configuration.
-    fn print_json_name(&mut self, design: &SettledDesign, number: u8) -> io::Result<()> {
+    fn print_json_name(&mut self, design: &SettledDesign, number: u8) -> io::Result<()>
+        ensures { OnOk result (Appends (W.contents self.old.out.now) (W.contents self.new.out.now) (json_name design.now (occupant_of (length design.now.strand_names.now) number))) }
+    {
         match design.occupant_of(number) {
             Occupant::Nobody => write!(self.out, "null"),
             occupant => self.print_json_text(design.name_of(occupant)),
         }
     }
 
+    // The same in a list by its place.
+    fn print_name_in(&mut self, design: &SettledDesign, i: usize, number: u8) -> io::Result<()>
+        ensures { OnOk result (Appends (W.contents self.old.out.now) (W.contents self.new.out.now) (name_piece design.now i number)) }
+    {
+        let comma = comma(i);
+        write!(self.out, "{comma}")?;
+        self.print_json_name(design, number)
+    }
+
     // The field that holds the names of who sits where.
-    fn print_names(&mut self, design: &SettledDesign) -> io::Result<()> {
+    #[tactic(auto, unfolding(crate::specs::Told::names_text))]
+    fn print_names(&mut self, design: &SettledDesign) -> io::Result<()>
+        ensures { OnOk result (Appends (W.contents self.old.out.now) (W.contents self.new.out.now) (names_text design.now)) }
+    {
         write!(self.out, ",\"names\":[")?;
         for (i, number) in design.configuration.iter().enumerate() {
-            let comma = comma(i);
-            write!(self.out, "{comma}")?;
-            self.print_json_name(design, *number)?;
+            self.print_name_in(design, i, *number)?;
         }
         write!(self.out, "]")
     }
@@ -233,11 +251,14 @@ impl<'a, W: Write> Printer<'a, W> {
     }
 
     // As one object, on a line of its own.
+    #[tactic(auto, unfolding(crate::specs::Told::json_settled))]
     pub(crate) fn print_json_settled(
         &mut self,
         path: &[u8],
         design: &SettledDesign,
-    ) -> io::Result<()> {
+    ) -> io::Result<()>
+        ensures { OnOk result (Appends (W.contents self.old.out.now) (W.contents self.new.out.now) (json_settled path.now design.now)) }
+    {
         self.print_json_head(path)?;
         self.print_json_counts(design)?;
         self.print_json_ring(design.ring)?;

@@ -17,7 +17,7 @@ use Rattle.sheet.specs.Said.{ambient_said, marks_said, potentials_said}
 use Rattle.sheet.specs.declared.rows.Group.TheVariants.{Position}
 use Rattle.design.specs.declared.Amounts.TheVariants.{Potentials}
 use Rattle.design.specs.Design.{design}
-use Rattle.settle.specs.Files.{strands_of, built_said, ambient_from, design_said, rows_told, read_fault, settle_told}
+use Rattle.settle.specs.Files.{strands_of, built_said, ambient_from, design_said, rows_told, read_fault, lines_told}
 
 pub designed : (which : Build) (text : List ℕ) (rows : List Row) (o : Outcome) (marks : List ℕ) (potentials : List Float) (ambient : Ambient)
     → o ≡ built_said which text rows → marks ≡ marks_said (count_of Position rows) rows → potentials ≡ potentials_said (strands_of rows) rows → ambient ≡ ambient_from (ambient_said rows)
@@ -32,12 +32,12 @@ rows_read text before rows n e r =
     rw (r, read.filled, read.count) (take-over (rows_of text) before)
 
 module _ (which : Build) (text : List ℕ) (room : ℕ) (long : room ≡ 2048) where
-  pub told_rows : {n : ℕ} → read_answer text room ≡ Ok n → settle_told which text ≡ rows_told which text (rows_of text)
-  unfolding settle_told
+  pub told_rows : {n : ℕ} → read_answer text room ≡ Ok n → lines_told which text ≡ rows_told which text (rows_of text)
+  unfolding lines_told
   told_rows e = rw (rw long at e)
 
-  pub told_fault : {fault : ReadFault} → read_answer text room ≡ Err fault → settle_told which text ≡ read_fault fault
-  unfolding settle_told
+  pub told_fault : {fault : ReadFault} → read_answer text room ≡ Err fault → lines_told which text ≡ read_fault fault
+  unfolding lines_told
   told_fault e = rw (rw long at e)
 
 -- what holds whatever is answered holds where it is an answer

@@ -1,4 +1,4 @@
-// A file's bytes, or why they can't be had.
+// A file's bytes, or those of the standard input, or why they can't be had.
 use answers::reasons::FileFault;
 use std::fs::File;
 use std::io;
@@ -12,6 +12,7 @@ fn reason(error: Error) -> FileFault {
         ErrorKind::NotFound => FileFault::NoSuchFile,
         ErrorKind::IsADirectory => FileFault::IsAFolder,
         ErrorKind::PermissionDenied => FileFault::NotAllowed,
+        ErrorKind::InvalidFilename => FileFault::LongPath,
         _ => FileFault::ReadFailed,
     }
 }
@@ -21,5 +22,12 @@ pub(crate) fn read<R: Files>(rt: &R, path: &[u8], mut room: &mut [u8]) -> Result
     let name = from_utf8(path).map_err(|_| FileFault::NoSuchFile)?;
     let file = File::open(rt, name).map_err(reason)?;
     let size = io::copy(&mut file.take(room.len() as u64), &mut room).map_err(reason)?;
+    Ok(size as usize)
+}
+
+// The same of the standard input.
+pub(crate) fn read_input<R: Input>(rt: &R, mut room: &mut [u8]) -> Result<usize, FileFault> {
+    let input = rt.reader();
+    let size = io::copy(&mut input.take(room.len() as u64), &mut room).map_err(reason)?;
     Ok(size as usize)
 }

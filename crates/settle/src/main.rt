@@ -1,9 +1,10 @@
 // Reads design files and prints, of each, the configuration in which its strands settle, or why there is none.
 //
-// The first argument is --people or --json, the second --ordinary or --archive, the rest are names of files. Whether all files were settled goes
+// The first argument is --people, --json or --tsv, the second --ordinary or --archive, the rest are names of files. Whether all files were settled goes
 // to descriptor 3, as 0 or 1, where the script `settle` reads it. The exit status says only how the program ended.
 #![tactic(auto)]
 
+mod encoding;
 mod file;
 mod found;
 mod reads;
@@ -12,9 +13,9 @@ mod settle;
 
 ghost use Rattle.std.specs.Prelude.{◌≡◌, length};
 
-use answers::print::Style;
+use answers::print::{Printer, Style};
 use answers::reasons::{FileFault, Why};
-use answers::{DesignFile, Found, unreadable};
+use answers::{DesignFile, Found};
 use reads::first;
 use sdc1d_params::Build;
 use statements::LONGEST;
@@ -31,6 +32,12 @@ const STATUS: &str = "/dev/fd/3";
 // The exit status that a shell tells of a program which a closed pipe ended.
 const PIPE_CLOSED: u8 = 141;
 
+// The exit status where the output can't be written.
+const NOT_WRITTEN: u8 = 3;
+
+// What stands for the standard input among the files.
+const INPUT: &[u8] = b"-";
+
 // How long an argument is that can be told.
 const ARGUMENT: usize = 4096;
 
@@ -44,44 +51,75 @@ fn room() -> [u8; LONGEST + 1]
 // A run over the files that the arguments name, with what the first two ask for. The room for a file's bytes is lent beside it: a call that fills
 // a field's slice while another field is lent is not covered.
 #[derive(Drop)]
-struct Run<'a, R: Env + Files, W: Write> {
+struct Run<'a, R: Env + Files + Print + Alloc + Input> {
     rt: &'a R,
-    out: &'a mut W,
     style: Style,
     which: Build,
 }
 
-impl<R: Env + Files, W: Write> Run<'_, R, W> {
+impl<R: Env + Files + Print + Alloc + Input> Run<'_, R> {
     // A file that can't be had. Answers that it was not settled.
-    fn failed(&mut self, path: &[u8], fault: FileFault) -> io::Result<bool> {
+    fn failed<W: Write>(
+        &self,
+        printer: &mut Printer<'_, W>,
+        path: &[u8],
+        fault: FileFault,
+    ) -> io::Result<bool> {
         let file = DesignFile { path, text: b"" };
-        unreadable(self.out, self.style, file, Found::nowhere(Why::File(fault)))?;
+        let found = Found::nowhere(Why::File(fault));
+        printer.unreadable(self.style, file, found, &[])?;
         Ok(false)
     }
 
     // A file by its name. Answers whether its configuration was settled.
-    fn settle_file(&mut self, path: &[u8], room: &mut [u8]) -> io::Result<bool> {
-        match file::read(self.rt, path, room) {
-            Err(fault) => self.failed(path, fault),
+    fn settle_file<W: Write>(
+        &self,
+        printer: &mut Printer<'_, W>,
+        path: &[u8],
+        room: &mut [u8],
+    ) -> io::Result<bool> {
+        let bytes = if path == INPUT {
+            file::read_input(self.rt, room)
+        } else {
+            file::read(self.rt, path, room)
+        };
+        match bytes {
+            Err(fault) => self.failed(printer, path, fault),
             Ok(size) => {
                 let text = first(room, size);
                 let outcome = settle::settle(self.which, text);
-                report::report(self.out, self.style, DesignFile { path, text }, outcome)
+                report::report(printer, self.style, DesignFile { path, text }, outcome)
             }
         }
     }
 
-    // The file that an argument names.
-    fn settle_argument(&mut self, i: usize, room: &mut [u8]) -> io::Result<bool> {
+    // The file that an argument names. What is told of it is written at once.
+    fn settle_argument(&self, i: usize, room: &mut [u8]) -> io::Result<bool> {
+        let mut told = Vec::new(self.rt.alloc());
+        let mut printer = Printer { out: &mut told };
         let mut path = [0u8; ARGUMENT];
-        match self.rt.arg(i, &mut path) {
-            Ok(size) => self.settle_file(first(&path, size), room),
-            Err(_) => self.failed(b"", FileFault::NoSuchFile),
-        }
+        let is_settled = match self.rt.arg(i, &mut path) {
+            Ok(size) => self.settle_file(&mut printer, first(&path, size), room)?,
+            Err(_) => self.failed(&mut printer, &path, FileFault::LongPath)?,
+        };
+        self.rt.write_all(&told)?;
+        Ok(is_settled)
+    }
+
+    // What stands before the first file: of a table its heads.
+    fn begin(&self) -> io::Result<()> {
+        let Style::Tsv = self.style else {
+            return Ok(());
+        };
+        let mut told = Vec::new(self.rt.alloc());
+        let mut printer = Printer { out: &mut told };
+        printer.heads()?;
+        self.rt.write_all(&told)
     }
 
     // All files in turn. Answers whether each was settled. The arguments are asked for by number: std's iterator over them copies them all.
-    fn settle_all(&mut self, room: &mut [u8]) -> io::Result<bool> {
+    fn settle_all(&self, room: &mut [u8]) -> io::Result<bool> {
+        self.begin()?;
         let rt = self.rt;
         let mut all = true;
         for i in (3..usize::MAX).take_while(|i| is_given(rt, *i)) {
@@ -111,10 +149,21 @@ fn tell<R: Files>(rt: &R, status: &[u8]) {
     }
 }
 
+// A run that could not write ends so: silently where the pipe was closed.
+fn ended<R: Eprint>(rt: &R, error: io::Error) -> io::Result<ExitCode> {
+    if let ErrorKind::BrokenPipe = error.kind() {
+        return Ok(ExitCode::from(PIPE_CLOSED));
+    }
+    eprintln!(rt; "settle: the output can't be written: {error}")?;
+    Ok(ExitCode::from(NOT_WRITTEN))
+}
+
 // Settles the files, and writes 0 to the script if each was settled, 1 if not.
 fn main(rt: HostRuntime) -> io::Result<ExitCode> {
     let style = if is_word(&rt, 1, b"--json") {
         Style::Json
+    } else if is_word(&rt, 1, b"--tsv") {
+        Style::Tsv
     } else {
         Style::People
     };
@@ -123,23 +172,16 @@ fn main(rt: HostRuntime) -> io::Result<ExitCode> {
     } else {
         Build::Ordinary
     };
-    let mut room = room();
-    let mut out = io::writer(&rt);
-    let mut run = Run {
+    let run = Run {
         rt: &rt,
-        out: &mut out,
         style,
         which,
     };
+    let mut room = room();
     match run.settle_all(&mut room) {
         Ok(true) => tell(&rt, b"0"),
         Ok(false) => tell(&rt, b"1"),
-        Err(error) => {
-            if let ErrorKind::BrokenPipe = error.kind() {
-                return Ok(ExitCode::from(PIPE_CLOSED));
-            }
-            return Err(error);
-        }
+        Err(error) => return ended(&rt, error),
     }
     Ok(ExitCode::SUCCESS)
 }

@@ -4,28 +4,47 @@ ghost use Rattle.settle.specs.Told.{settled_file};
 
 use crate::reads::first;
 use crate::settle::{SettledFile, Unsettled};
-use answers::print::Style;
-use answers::{DesignFile, SettledDesign, refused, settled, unreadable};
+use answers::print::{Printer, Style};
+use answers::reasons::Why;
+use answers::{DesignFile, Found, SettledDesign};
+use statements::faults::{LineFault, line_faults};
 use std::io;
 use std::io::Write;
 
+// How many lines at fault are told of a file.
+const LINES_TOLD: usize = 10;
+
+// The lines at fault but the first, where that is what was found.
+fn other_faults<'a>(text: &[u8], found: Found, room: &'a mut [LineFault]) -> &'a [LineFault] {
+    match found.why {
+        Why::Line(_) => {
+            let count = line_faults(text, room);
+            room.get(1..count).unwrap_or(&[])
+        }
+        _ => &[],
+    }
+}
+
 // Prints what became of a file. Answers whether its configuration was settled.
-// `out` and `style` go on as they came: `answers` alone has a type of both.
 pub(crate) fn report<W: Write>(
-    out: &mut W,
+    printer: &mut Printer<'_, W>,
     style: Style,
     file: DesignFile,
     outcome: Result<SettledFile, Unsettled>,
 ) -> io::Result<bool> {
     match outcome {
         Ok(design) => {
-            settled(out, style, file.path, &design.shown(file.text))?;
+            printer.settled(style, file.path, &design.shown(file.text))?;
             Ok(true)
         }
         Err(Unsettled { found, refusal }) => {
             match refusal {
-                Some(refusal) => refused(out, style, file, refusal, found)?,
-                None => unreadable(out, style, file, found)?,
+                Some(refusal) => printer.refused(style, file, refusal, found)?,
+                None => {
+                    let mut faults = [LineFault::blank(); LINES_TOLD];
+                    let others = other_faults(file.text, found, &mut faults);
+                    printer.unreadable(style, file, found, others)?;
+                }
             }
             Ok(false)
         }

@@ -11,8 +11,9 @@ ghost use Rattle.design.specs.Answers.{count_answer, energy_figures};
 ghost use Rattle.statements.specs.Rows.{rows_of};
 ghost use Rattle.settle.specs.Searches.{answer_by, entries_by, AnsweredBy};
 ghost use Rattle.settle.specs.Told.{Settled, Told, settled, told, unsettled};
-ghost use Rattle.settle.specs.Files.{lent_said, built_said, build_told, ambient_from, ambient_told, design_said, room_for, deck_written, states_by, search_reply, search_by, search_told, is_dilute, dilute_told, said_told, design_told, read_fault, sheet_fault, rows_told, settle_told};
+ghost use Rattle.settle.specs.Files.{lent_said, built_said, build_told, ambient_from, ambient_told, design_said, room_for, deck_written, states_by, search_reply, search_by, search_told, is_dilute, dilute_told, said_told, design_told, read_fault, sheet_fault, rows_told, lines_told, settle_told};
 
+use crate::encoding::explained;
 use crate::found::{
     amount_found, at_line, build_found, design_found, kelvin_found, on_line, too_many,
 };
@@ -45,7 +46,7 @@ pub(crate) struct Unsettled {
 }
 
 // Of a file that can't be read.
-fn unreadable(found: Found) -> Unsettled
+pub(crate) fn unreadable(found: Found) -> Unsettled
     ensures { (result.refusal ≡ None) × (result.found ≡ found) }
 {
     Unsettled {
@@ -328,9 +329,9 @@ fn settle_rows(which: Build, text: &[u8], rows: &[Row]) -> Result<SettledFile, U
     }
 }
 
-// The text of a file. Where it is settled, the configuration is the lowest that its design has, as a ring where the file says so.
-pub(crate) fn settle(which: Build, text: &[u8]) -> Result<SettledFile, Unsettled>
-    ensures told { told result ≡ settle_told which text.now }
+// The lines of a text.
+fn settle_lines(which: Build, text: &[u8]) -> Result<SettledFile, Unsettled>
+    ensures told { told result ≡ lines_told which text.now }
     ensures lowest { IfOk result (λ _. AnsweredBy (ring_said (rows_of text.now)) (design_said which text.now (rows_of text.now)) (room_for (rows_of text.now))) }
 {
     // More rows than any design has. This array and those above are of a fixed size, as in every crate here: what a design holds is bounded, and no
@@ -339,5 +340,17 @@ pub(crate) fn settle(which: Build, text: &[u8]) -> Result<SettledFile, Unsettled
     match statements::read(text, &mut room) {
         Ok(count) => settle_rows(which, text, first(&room, count)),
         Err(fault) => Err(of_lines(fault)),
+    }
+}
+
+// The text of a file. Where it is settled, the configuration is the lowest that its design has, as a ring where the file says so.
+#[tactic(auto, unfolding(crate::specs::Encoding::explained))]
+pub(crate) fn settle(which: Build, text: &[u8]) -> Result<SettledFile, Unsettled>
+    ensures told { told result ≡ settle_told which text.now }
+    ensures lowest { IfOk result (λ _. AnsweredBy (ring_said (rows_of text.now)) (design_said which text.now (rows_of text.now)) (room_for (rows_of text.now))) }
+{
+    match settle_lines(which, text) {
+        Ok(design) => Ok(design),
+        Err(ended) => Err(explained(text, ended)),
     }
 }

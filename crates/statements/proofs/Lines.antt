@@ -13,12 +13,14 @@ use Rattle.statements.specs.inner.Lines.{lines_left, IsFirst}
 use Rattle.statements.specs.Grammar.{kind_of}
 use Rattle.statements.specs.Statement.{statement_from, statement_of_words, statement_of}
 use Rattle.statements.specs.Rows.{rows_of_line, rows_from, count_of, answer_by, answer_from}
+use Rattle.statements.specs.Faults.{fault_before, faults_from}
 use Rattle.statements.specs.declared.words.Word.{Word}
 use Rattle.statements.specs.declared.words.Lines.{Lines}
 use Rattle.statements.specs.declared.words.NumberedLine.{NumberedLine}
 use Rattle.statements.specs.declared.grammar.Kind.{Kind}
 use Rattle.statements.specs.declared.statement.Fault.{Fault}
 use Rattle.statements.specs.declared.statement.Row.{Row}
+use Rattle.statements.specs.declared.statement.Statement.{Statement}
 use Rattle.statements.specs.declared.ReadFault.TheVariants.{Unreadable, TooManyRows}
 
 -- ---- the statement
@@ -78,6 +80,20 @@ module _ (text : List ℕ) (before after : Lines) (line : NumberedLine) (t : bef
         → answer_from text room before.number count (lines_left before) ≡ answer_from text room after.number (count + more) (lines_left after)
     unfolding answer_from answer_by
     answer-more more c h = rw (f.first, counted (Ok more) c, f.next) (simp (le-ltb room (count + more) h))
+
+  -- its fault, where it has one, and those of the lines after it
+  faults-first : faults_from text before.number (lines_left before)
+      ≡ fault_before line.number (statement_of line.text.now line.start line.number) (faults_from text after.number (lines_left after))
+  unfolding faults_from
+  faults-first = rw (f.first, f.next, f.number, shown) refl
+
+  pub fault-here : (fault : Fault) → statement_of line.text.now line.start line.number ≡ Err fault
+      → faults_from text before.number (lines_left before) ≡ record { line = line.number; fault = fault } ∷ faults_from text after.number (lines_left after)
+  fault-here fault e = faults-first ∙ rw e refl
+
+  pub fault-later : (s : Statement) → statement_of line.text.now line.start line.number ≡ Ok s
+      → faults_from text before.number (lines_left before) ≡ faults_from text after.number (lines_left after)
+  fault-later s e = faults-first ∙ rw e refl
 
   -- its rows, and those of the lines after it
   rows-first : rows_from text before.number (lines_left before)

@@ -4,6 +4,7 @@ pub mod Amounts
 pub mod Layout
 pub mod Statement
 pub mod Rows
+pub mod Faults
 pub mod Cases
 pub mod Theorems
 pub mod inner

@@ -62,7 +62,7 @@ pub enum Item {
 
 impl Kind {
     // The kind of a statement with this first word.
-    pub(crate) fn of(word: &[u8]) -> Option<Kind>
+    pub fn of(word: &[u8]) -> Option<Kind>
         ensures { result ≡ kind_of word.now }
     {
         KEYWORDS

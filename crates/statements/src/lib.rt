@@ -2,6 +2,7 @@
 #![tactic(auto)]
 
 mod amounts;
+pub mod faults;
 pub mod grammar;
 mod rows;
 pub mod statement;

@@ -17,7 +17,7 @@ use compare::random::Random;
 use damage::Expected;
 use design::Design;
 use exact::Exact;
-use settle::{fresh_folder, Answer, Settle, Settled};
+use settle::{fresh_folder, shown, Answer, Settle, Settled};
 use statements::{statement, written, Statement};
 use std::path::{Path, PathBuf};
 use std::process::ExitCode;
@@ -167,7 +167,7 @@ fn fixed(settle: &Settle, tally: &mut Tally) -> Result<(), String> {
         (with_returns, Some(0), None),
         (full, Some(0), None),
         (over, None, None),
-        (vec![0; 1 << 20], None, Some(1)),
+        (vec![0; 1 << 20], None, None),
         (vec![0xff; (1 << 20) + 1], None, None),
         (long_word, None, Some(1)),
         (newlines, None, None),
@@ -175,7 +175,7 @@ fn fixed(settle: &Settle, tally: &mut Tally) -> Result<(), String> {
         ([&whole[..], b"\xff\xfe \x00"].concat(), None, Some(5)),
     ];
     for byte in 0..=255u8 {
-        let idle = matches!(byte, b'\n' | b'\r' | b'\t' | b' ' | b'#');
+        let idle = matches!(byte, 0 | b'\n' | b'\r' | b'\t' | b' ' | b'#');
         asked.push((vec![byte], None, (!idle).then_some(1)));
     }
     let texts: Vec<&[u8]> = asked.iter().map(|(text, ..)| text.as_slice()).collect();
@@ -249,7 +249,7 @@ fn not_retired(answer: &Answer, name: &[u8]) -> Option<String> {
     let shown = answer
         .word
         .as_deref()
-        .is_some_and(|word| word.ends_with(b"**"));
+        .is_some_and(|word| word.ends_with("**"));
     let told = answer.reply == Some(21) && answer.line.is_some() && shown;
     (!told).then(|| format!("{} retires", String::from_utf8_lossy(name)))
 }
@@ -328,7 +328,7 @@ fn unlike(answer: &Answer, design: &Design, lowest: &Lowest) -> Option<String> {
     let names: Vec<_> = settled
         .configuration
         .iter()
-        .map(|strand| design.shown(*strand))
+        .map(|strand| design.shown(*strand).as_deref().map(shown))
         .collect();
     let checks = [
         ("bits", settled.bits == lowest.bits),
@@ -428,7 +428,7 @@ fn damaged(arguments: &Arguments, tally: &mut Tally) -> Result<(), String> {
 
 /// The reply, the line and, where one is known, the word.
 fn is_as(answer: &Answer, expected: &Expected, line: Option<usize>) -> bool {
-    let word = expected.word.map(str::as_bytes);
+    let word = expected.word;
     answer.reply == expected.reply
         && answer.line == line
         && (word.is_none() || answer.word.as_deref() == word)
@@ -443,11 +443,14 @@ fn misplaced(answer: &Answer, text: &[u8]) -> Option<String> {
         None => text,
     };
     let word = answer.word.as_deref()?;
-    let shown = match word.len() {
-        67 => word.strip_suffix(b"...").unwrap_or(word),
-        _ => word,
-    };
-    let there = line.windows(shown.len()).any(|part| part == shown);
+    let whole = [Some(word), word.strip_suffix("...")];
+    let there = (0..=line.len()).any(|from| {
+        whole.iter().flatten().any(|word| {
+            let sizes = [word.len(), word.chars().count()];
+            let part = |size| line.get(from..from + size).unwrap_or_default();
+            sizes.iter().any(|size| shown(part(*size)) == **word)
+        })
+    });
     (!there).then(|| "no such word".to_string())
 }
 

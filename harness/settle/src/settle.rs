@@ -11,7 +11,8 @@ pub struct Answer {
     /// Document 01's number, 0 where the design settled; none where the file can't be read.
     pub reply: Option<u32>,
     pub line: Option<usize>,
-    pub word: Option<Vec<u8>>,
+    /// As it is shown.
+    pub word: Option<String>,
     /// Where the design settled.
     pub settled: Option<Settled>,
 }
@@ -21,7 +22,7 @@ pub struct Settled {
     pub ring: bool,
     pub configuration: Vec<usize>,
     pub blocked: Vec<bool>,
-    pub names: Vec<Option<Vec<u8>>>,
+    pub names: Vec<Option<String>>,
     pub states: Option<u64>,
     /// To six places, as printed.
     pub energy: String,
@@ -111,10 +112,18 @@ fn answer(line: &str, name: &str) -> Result<Answer, String> {
     if reason.len() < 10 {
         return Err("a reason says more".to_string());
     }
+    if reply.is_none() {
+        list(field("others")?, |other| {
+            let has = |name| other.field(name).ok_or(format!("{name} is missing"));
+            number(has("line")?)?;
+            text(has("word")?)?;
+            text(has("reason")?)
+        })?;
+    }
     Ok(Answer {
         reply,
         line: perhaps(field("line")?, |value| number(value).map(|n| n as usize))?,
-        word: perhaps(field("word")?, bytes)?,
+        word: perhaps(field("word")?, text)?,
         settled: None,
     })
 }
@@ -147,7 +156,7 @@ fn settled(object: &Value) -> Result<Settled, String> {
             1 => Ok(true),
             mark => Err(format!("no mark: {mark}")),
         })?,
-        names: list(field("names")?, |value| perhaps(value, bytes))?,
+        names: list(field("names")?, |value| perhaps(value, text))?,
         states: perhaps(field("states")?, number)?,
         energy: energy.clone(),
         bits: hex(field("bits")?, 16)?,
@@ -181,14 +190,18 @@ fn number(value: &Value) -> Result<u64, String> {
     }
 }
 
-/// Each character stands for the byte of its number.
-fn bytes(value: &Value) -> Result<Vec<u8>, String> {
+fn text(value: &Value) -> Result<String, String> {
     match value {
-        Value::Text(text) => text
-            .chars()
-            .map(|c| u8::try_from(c as u32).map_err(|_| format!("{c} is no byte")))
-            .collect(),
+        Value::Text(text) => Ok(text.clone()),
         other => Err(format!("no text: {other:?}")),
+    }
+}
+
+/// Bytes of a file as JSON has them: text without control characters as it is, else a character for each byte.
+pub fn shown(bytes: &[u8]) -> String {
+    match std::str::from_utf8(bytes) {
+        Ok(text) if !text.chars().any(char::is_control) => text.to_string(),
+        _ => bytes.iter().map(|byte| char::from(*byte)).collect(),
     }
 }
 

@@ -1,11 +1,11 @@
--- `settle::settle::settle` meets its contract. Assumes nothing.
+-- `settle::settle::settle_lines` meets its contract. Assumes nothing.
 use mathlib.Core.Path.{◌≡◌, sym, ap, ◌∙◌}
 use mathlib.Core.List.{List}
 use lib.ListN.{length, replicate, length-replicate}
 use Rattle.statements.specs.declared.statement.Row.{Row}
 use Rattle.settle.specs.Files.{rows_told}
 use Rattle.settle.proofs.Said.{rows_read, told_rows, told_fault}
-use Rattle.settle.proofs.settle.settle.Goals as goal
+use Rattle.settle.proofs.settle.settle_lines.Goals as goal
 
 pub returns-in-Ok-clause-told : goal.returns-in-Ok-clause-told
 returns-in-Ok-clause-told c =
