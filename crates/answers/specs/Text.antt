@@ -79,9 +79,9 @@ deck_piece i word = deck_gap i ++ (32 ∷ hex_text 8 word)
 unfoldable pub deck_text : List ℕ → List ℕ
 deck_text words = codes "  deck" ++ (pieces deck_piece 0 words ++ (10 ∷ []))
 
--- that a ring's last position stands beside its first
-abbrev pub ring_text : ℕ → List ℕ
-ring_text last = codes "  ring: position " ++ (decimal last ++ (codes " stands beside position 1" ++ (10 ∷ [])))
+-- of a ring, that its last position stands beside its first
+abbrev pub ring_text : Bool → ℕ → List ℕ
+ring_text ring last = cond ring (codes "  ring: position " ++ (decimal last ++ (codes " stands beside position 1" ++ (10 ∷ [])))) []
 
 -- ---- as JSON
 

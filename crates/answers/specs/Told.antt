@@ -15,7 +15,7 @@ use Rattle.answers.specs.declared.print.Style.{Style}
 use Rattle.answers.specs.declared.print.Style.TheVariants.{People, Json, Tsv}
 use Rattle.answers.specs.Names.{part, name_of, occupant_of}
 use Rattle.answers.specs.Shown.{shown_bytes, json_text, word_text}
-use Rattle.answers.specs.Text.{comma, pieces, count_text, counts_text, energy_text, deck_text, json_counts_text, numbers_text, json_energy_text, words_text}
+use Rattle.answers.specs.Text.{comma, pieces, count_text, counts_text, ring_text, energy_text, deck_text, json_counts_text, json_ring_text, numbers_text, json_energy_text, words_text}
 use Rattle.answers.specs.TradeWords.{trade_word}
 use Rattle.answers.specs.Table.{settled_row, unsettled_row}
 
@@ -25,11 +25,11 @@ use Rattle.answers.specs.Table.{settled_row, unsettled_row}
 abbrev pub Draws : Option (List ℕ) → Option (List ℕ) → (List ℕ → List ℕ) → Type 0
 Draws old new text = (drawing : List ℕ) × Appends old new (text drawing)
 
--- for people: the file's name, the counts, the drawing, the energy, the deck
+-- for people: the file's name, the counts, the drawing, what closes a ring, the energy, the deck
 unfoldable pub settled_text : List ℕ → SettledDesign → List ℕ → List ℕ
 settled_text path d drawing =
     shown_bytes People path ++ (counts_text (length d.configuration.now) (length d.strand_names.now) d.entries d.states
-    ++ (drawing ++ (energy_text d.energy ++ deck_text d.deck.now)))
+    ++ (drawing ++ (ring_text d.ring (length d.configuration.now) ++ (energy_text d.energy ++ deck_text d.deck.now))))
 
 -- the name of who sits somewhere, null where nobody does
 abbrev pub json_name : SettledDesign → Occupant → List ℕ
@@ -55,8 +55,8 @@ json_head path = codes "{\"file\":" ++ (json_text path ++ codes ",\"reply\":")
 unfoldable pub json_settled : List ℕ → SettledDesign → List ℕ
 json_settled path d =
     json_head path ++ (json_counts_text (length d.configuration.now) (length d.strand_names.now) d.entries d.states
-    ++ (numbers_text (codes "configuration") d.configuration.now ++ (numbers_text (codes "blocked") d.marks.now
-    ++ (names_text d ++ (json_energy_text d.energy ++ (words_text d.deck.now ++ (codes "}" ++ (10 ∷ []))))))))
+    ++ (json_ring_text d.ring ++ (numbers_text (codes "configuration") d.configuration.now ++ (numbers_text (codes "blocked") d.marks.now
+    ++ (names_text d ++ (json_energy_text d.energy ++ (words_text d.deck.now ++ (codes "}" ++ (10 ∷ [])))))))))
 
 -- ---- a file that is not
 

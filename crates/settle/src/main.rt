@@ -11,7 +11,8 @@ mod reads;
 mod report;
 mod settle;
 
-ghost use Rattle.std.specs.Prelude.{◌≡◌, length};
+ghost use Rattle.std.specs.Prelude.{◌≡◌, false, length, OnOk, IfOk};
+ghost use Rattle.settle.specs.Printed.{PrintedLost, PrintedOf};
 
 use answers::print::{Printer, Style};
 use answers::reasons::{FileFault, Why};
@@ -64,7 +65,10 @@ impl<R: Env + Files + Print + Alloc + Input> Run<'_, R> {
         printer: &mut Printer<'_, W>,
         path: &[u8],
         fault: FileFault,
-    ) -> io::Result<bool> {
+    ) -> io::Result<bool>
+        ensures printed { OnOk result (PrintedLost (W.contents printer.old.out.now) (W.contents printer.new.out.now) self.now.style path.now) }
+        ensures answer { IfOk result (λ is_settled. is_settled ≡ false) }
+    {
         let file = DesignFile { path, text: b"" };
         let found = Found::nowhere(Why::File(fault));
         printer.unreadable(self.style, file, found, &[])?;
@@ -77,7 +81,9 @@ impl<R: Env + Files + Print + Alloc + Input> Run<'_, R> {
         printer: &mut Printer<'_, W>,
         path: &[u8],
         room: &mut [u8],
-    ) -> io::Result<bool> {
+    ) -> io::Result<bool>
+        ensures { OnOk result (PrintedOf (W.contents printer.old.out.now) (W.contents printer.new.out.now) self.now.which self.now.style path.now) }
+    {
         let bytes = if path == INPUT {
             file::read_input(self.rt, room)
         } else {

@@ -1,6 +1,7 @@
 // What is printed of a file.
-ghost use Rattle.std.specs.Prelude.{◌≡◌};
-ghost use Rattle.settle.specs.Told.{settled_file};
+ghost use Rattle.std.specs.Prelude.{◌≡◌, OnOk, IfOk};
+ghost use Rattle.settle.specs.Told.{settled_file, told};
+ghost use Rattle.settle.specs.Printed.{Printed, settles};
 
 use crate::reads::first;
 use crate::settle::{SettledFile, Unsettled};
@@ -31,7 +32,10 @@ pub(crate) fn report<W: Write>(
     style: Style,
     file: DesignFile,
     outcome: Result<SettledFile, Unsettled>,
-) -> io::Result<bool> {
+) -> io::Result<bool>
+    ensures printed { OnOk result (Printed (W.contents printer.old.out.now) (W.contents printer.new.out.now) style file.entry.path.now file.entry.text.now (told outcome)) }
+    ensures answer { IfOk result (λ is_settled. is_settled ≡ settles (told outcome)) }
+{
     match outcome {
         Ok(design) => {
             printer.settled(style, file.path, &design.shown(file.text))?;
