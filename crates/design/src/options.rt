@@ -1,8 +1,8 @@
 // The options of each position, into lent rows of 64: its friends in rising order, then 0 for empty. A blocked position has no friends.
-ghost use Rattle.std.specs.Prelude.{◌≡◌, ◌*◌, ◌<◌, ◌≤◌, length};
+ghost use Rattle.std.specs.Prelude.{◌≡◌, ◌+◌, ◌*◌, ◌<◌, ◌≤◌, length};
 ghost use Rattle.model.specs.Model.{Model};
 ghost use Rattle.ensemble.specs.Layout.{Searchable, OptionRows};
-ghost use Rattle.design.specs.Design.{positions, strands, befriends, friends_of, model_of};
+ghost use Rattle.design.specs.Design.{positions, strands, bottom, befriends, friends_of, model_of};
 ghost use Rattle.design.specs.Filling.{Written, Optioned};
 
 use super::Design;
@@ -20,20 +20,20 @@ pub struct OptionedDesign<'a, 'b> {
     ghost same_strands: { options.strands ≡ strands design.now },
 }
 
-impl TabledDesign<'_> {
-    // Whether the strand is a friend at an open position with this scaffold glue: as `Design` tells it, but no read asks whether its place is there. A
-    // search tests up to 7,680 strands, and one that finds few takes a tenth less by it.
-    fn is_friend(&self, scaffold_glue: u8, strand: u8) -> bool
-        requires glue_bound { scaffold_glue < 64 }
-        requires strand_in_bounds { strand < strands self.now }
-        ensures { result ≡ befriends scaffold_glue self.now.glues self.now.dg self.now.ds strand }
-    {
-        let design = self.design;
-        let bottom = design.glues[SIDES * usize::from(strand) + BOTTOM_GLUE_INDEX];
-        let cell = usize::from(scaffold_glue) * GLUES + usize::from(bottom);
-        (design.dg[cell] != 0.0) | (design.ds[cell] != 0.0)
-    }
+// Whether the strand is a friend at an open position with this scaffold glue: as `Design` tells it, but no read asks whether its place is there. The slices
+// are lent one by one, and not the design, so that they stay at hand while a search tests up to 7,680 strands and writes what it finds.
+fn is_friend(glues: &[u8], dg: &[f64], ds: &[f64], scaffold_glue: u8, strand: u8) -> bool
+    requires glue_in_bounds { 3 * strand + 1 < length glues.now }
+    requires dg_in_bounds { scaffold_glue * 64 + bottom glues.now strand < length dg.now }
+    requires ds_in_bounds { scaffold_glue * 64 + bottom glues.now strand < length ds.now }
+    ensures { result ≡ befriends scaffold_glue glues.now dg.now ds.now strand }
+{
+    let bottom = glues[SIDES * usize::from(strand) + BOTTOM_GLUE_INDEX];
+    let cell = usize::from(scaffold_glue) * GLUES + usize::from(bottom);
+    (dg[cell] != 0.0) | (ds[cell] != 0.0)
+}
 
+impl TabledDesign<'_> {
     // Writes the friends of a position into the first entries, and says how many there are: strand 0 is none, so one entry at least is left.
     pub fn write_friends(&self, position: usize, entries: &mut [u8]) -> usize
         requires position_in_bounds { position < positions self.now }
@@ -45,11 +45,13 @@ impl TabledDesign<'_> {
             return 0;
         }
         let scaffold_glue = self.design.scaffold_glue(position);
+        let design = self.design;
+        let (glues, dg, ds) = (design.glues, design.dg, design.ds);
         // By number: a strand is one. The friends can't be collected into a slice, and of what is written through an adapter of `iter_mut` nothing is
         // known.
         let mut count = 0;
         for strand in 0..self.design.strands() as u8 {
-            if self.is_friend(scaffold_glue, strand) {
+            if is_friend(glues, dg, ds, scaffold_glue, strand) {
                 entries[count] = strand;
                 count += 1;
             }
