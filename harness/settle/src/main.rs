@@ -409,10 +409,14 @@ fn damaged(arguments: &Arguments, tally: &mut Tally) -> Result<(), String> {
         let texts: Vec<&[u8]> = files.iter().map(|(text, _)| text.as_slice()).collect();
         for (answer, (text, expected)) in arguments.settle.ask(&texts)?.iter().zip(&files) {
             let complaint = match expected {
-                Some((expected, line)) if !is_as(answer, expected, *line) => {
-                    Some(format!("expected {expected:?} at line {line:?}"))
+                Some((expected, line)) => {
+                    let line = line.filter(|_| expected.reply.is_some() || is_plain(text));
+                    match is_as(answer, expected, line) {
+                        true => misplaced(answer, text),
+                        false => Some(format!("expected {expected:?} at line {line:?}")),
+                    }
                 }
-                _ => misplaced(answer, text),
+                None => misplaced(answer, text),
             };
             tally.count(answer, complaint, text);
         }
@@ -432,6 +436,15 @@ fn is_as(answer: &Answer, expected: &Expected, line: Option<usize>) -> bool {
     answer.reply == expected.reply
         && answer.line == line
         && (word.is_none() || answer.word.as_deref() == word)
+}
+
+/// Written as design files are: no byte order mark, no UTF-16, no lines that end in carriage returns alone. Any other file that can't be read is told as
+/// what it is, with no line.
+fn is_plain(text: &[u8]) -> bool {
+    let front = &text[..text.len().min(2)];
+    let is_utf16 = front.contains(&0) || front == b"\xff\xfe" || front == b"\xfe\xff";
+    let returns_alone = text.contains(&b'\r') && !text.contains(&b'\n');
+    !(text.starts_with(b"\xef\xbb\xbf") || is_utf16 || returns_alone)
 }
 
 /// A line is one of the file's, and a word stands in it; of a long one the beginning, and dots.
