@@ -70,7 +70,7 @@ impl TabledDesign<'_> {
 
     // The options of each position into its row, and how many it has. A row is worked out for the first open position that has a glue, and copied for the
     // others: where glues come again, few of up to 8,192 tests for friends are left.
-    fn fill_options(&self, rows: &mut [u8], counts: &mut [u8])
+    pub fn fill_options(&self, rows: &mut [u8], counts: &mut [u8])
         requires rows_in_bounds { 64 * positions self.now ≤ length rows.old }
         requires counts_len { length counts.old ≡ positions self.now }
         ensures searchable { Searchable (strands self.now) rows.new counts.new }

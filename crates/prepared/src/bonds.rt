@@ -3,6 +3,7 @@ ghost use Rattle.std.specs.Prelude.{◌≡◌, List, ℕ, Float, ◌*◌, ◌<�
 ghost use Rattle.ensemble.specs.Layout.{OptionRows};
 ghost use Rattle.design.specs.Design.{strands, strand_bond_in, model_of};
 ghost use Rattle.design.specs.Checks.{Admitted};
+ghost use Rattle.design.specs.Blocked.{with_marks};
 ghost use Rattle.design.specs.Unread.{PotentialsOf};
 ghost use Rattle.design.specs.Filling.{Kept, Holds};
 ghost use Rattle.prepared.specs.Layout.{StateCells};
@@ -25,13 +26,13 @@ fn fill_empties(design: &Design, cells: &mut [f64])
     }
 }
 
-// The bonds of an admitted design that its states and its search read. They are written into cells that callers go on to lend, so the clause is of cells and
-// of no `Bonds`.
+// The bonds of an admitted design that its states and its search read, whatever is blocked of it. They are written into cells that callers go on to lend, so
+// the clause is of cells and of no `Bonds`.
 pub fn fill_bonds(optioned: &OptionedDesign, strand_bonds: &mut [f64], scaffold_bonds: &mut [f64])
     requires strands_nonzero { 0 < strands optioned.now.design.now }
     requires strands_in_bounds { strands optioned.now.design.now * strands optioned.now.design.now ≤ length strand_bonds.old }
     requires counts_in_bounds { length optioned.now.options.counts.now * strands optioned.now.design.now ≤ length scaffold_bonds.old }
-    ensures { (potentials : List Float) → PotentialsOf optioned.now.design.now potentials → Admitted optioned.now.design.now → OptionRows (model_of optioned.now.design.now) optioned.now.options.rows.now optioned.now.options.counts.now → StateCells (model_of optioned.now.design.now) (strands optioned.now.design.now) strand_bonds.new scaffold_bonds.new potentials }
+    ensures { (marks : List ℕ) (potentials : List Float) → PotentialsOf (with_marks optioned.now.design.now marks) potentials → Admitted (with_marks optioned.now.design.now marks) → OptionRows (model_of (with_marks optioned.now.design.now marks)) optioned.now.options.rows.now optioned.now.options.counts.now → StateCells (model_of (with_marks optioned.now.design.now marks)) (strands optioned.now.design.now) strand_bonds.new scaffold_bonds.new potentials }
 {
     optioned.fill_read_strand_bonds(strand_bonds);
     fill_empties(optioned.design, strand_bonds);

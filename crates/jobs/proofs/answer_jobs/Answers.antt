@@ -23,7 +23,7 @@ invariant_of-settled c =
     record {
       same_strands = p.same_strands;
       option_rows = p.option_rows;
-      state_cells = rw (bonds.strand_bonds, bonds.scaffold_bonds, bonds.potentials, bonds.strands, c.potentials.ensures.many, sym c.admitted.view_is) (c.fill_bonds.ensures c.potentials.result.now own c.admitted.invariant.0.admitted (rw c.admitted.view_is p.option_rows));
+      state_cells = rw (bonds.strand_bonds, bonds.scaffold_bonds, bonds.potentials, bonds.strands, c.potentials.ensures.many, sym c.admitted.view_is) (c.fill_bonds.ensures c.admitted.inside.design.now.marks c.potentials.result.now own c.admitted.invariant.0.admitted (rw c.admitted.view_is p.option_rows));
       counted = c.args.counted.now.counted;
     }
 
@@ -49,7 +49,7 @@ returns c =
     let number : length shown ≡ n = c.lowest-least.auto.configuration ∙ (omega (arith, length-take n (replicate {A = ℕ} 128 0))) in
     let bonds = c.new-bonds.ensures in
     let own = rw (sym c.admitted.view_is) at c.potentials.ensures in
-    let cells : StateBonds (model_of d) c.new-bonds.result = rw (bonds.strand_bonds, bonds.scaffold_bonds, bonds.potentials, bonds.strands, c.potentials.ensures.many, sym c.admitted.view_is) (c.fill_bonds.ensures c.potentials.result.now own c.admitted.invariant.0.admitted (rw c.admitted.view_is p.option_rows)) in
+    let cells : StateBonds (model_of d) c.new-bonds.result = rw (bonds.strand_bonds, bonds.scaffold_bonds, bonds.potentials, bonds.strands, c.potentials.ensures.many, sym c.admitted.view_is) (c.fill_bonds.ensures c.admitted.inside.design.now.marks c.potentials.result.now own c.admitted.invariant.0.admitted (rw c.admitted.view_is p.option_rows)) in
     let same : c.new-bonds.result.strand_bonds.strands ≡ a.counted.now.options.strands = bonds.strands ∙ c.potentials.ensures.many ∙ sym p.same_strands in
     let found = c.lowest-least.ensures (model_of d) (record { options = p.option_rows; bonds = rw (sym same) cells.searched }) (rw (sym c.admitted.view_is, c.rt.ensures) refl) in
     let held = a.counted.now.counted ∙ ap (λ (n : ℕ). min n 1048577) (product_is p.option_rows) in
