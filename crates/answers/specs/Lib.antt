@@ -1,4 +1,5 @@
 pub mod Text
+pub mod Back
 pub mod Shown
 pub mod Names
 pub mod TradeWords
