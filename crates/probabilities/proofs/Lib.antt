@@ -15,3 +15,4 @@ pub mod Cells
 pub mod Doubled
 pub mod Beyond
 pub mod ZeroAlone
+pub mod Wider
