@@ -20,9 +20,9 @@
  *   - Doubles are rounded to nearest, and subnormals are kept: the mode in which a program starts.
  *     Not so after fesetround, in code that sets flush-to-zero or denormals-are-zero, or in a program
  *     that is linked with -ffast-math.
- *   - A call has 256 KiB of stack left on its thread: a search takes about 140, as does a job sheet, the
- *     sums of energies less than 160, the search over tables and the sums over states less than 64,
- *     mj_params 32, every other less than 16.
+ *   - A call has 256 KiB of stack left on its thread: a search takes about 140, as do a job sheet and
+ *     mj_first_state_under, the sums of energies less than 160, mj_params, the search over tables and
+ *     the sums over states less than 64, every other less than 16.
  *
  * Sequences. Letters are a, c, g, t in either case; no NUL ends a sequence. Of two sequences the
  * second is read by index beside the first, not backwards: "aac" pairs with "ttg" without a mismatch.
