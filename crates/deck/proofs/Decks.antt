@@ -14,7 +14,7 @@ use Rattle.deck.specs.Form.{Form, Rules, HasWord, nothing, may_follow}
 use Rattle.deck.specs.Deck.{is_first, follow, positions, words_fit, is_deck, configuration_of, stretches_of, deck_of, too_high}
 use Rattle.deck.specs.declared.form.Stretch.{Stretch}
 use Rattle.deck.proofs.Split.{kind-word, payload-word, word_split}
-use Rattle.deck.proofs.Stretches.{Each, may-apart, laid-length, laid-stretches, follow-stretches, stretches-have-words, fewer-stretches, stretches-laid, strands-laid}
+use Rattle.deck.proofs.Stretches.{Each, may-apart, laid-length, laid-stretches, follow-stretches, stretches-have-words, fewer-stretches, stretches-laid, strands-laid, sum-stretches}
 
 -- what it is for words to fit, test by test
 pub record Parts (form : Form) (test : ℕ → ℕ → Bool) (first : ℕ) (ss : List Stretch) : Type 0 where
@@ -70,11 +70,8 @@ module _ (form : Form) where
     -- ---- a configuration's deck
 
     module _ (c : List ℕ) (few : length c ≤ 128) (strands : any too_high c ≡ false) where
-      sum-stretches : positions (stretches_of form c) ≡ length c
-      sum-stretches = sym (laid-length (stretches_of form c)) ∙ ap length (laid-stretches form c)
-
       deck-stretches : map form.stretch_of (map form.word_for (stretches_of form c)) ≡ stretches_of form c
-      deck-stretches = stretches-back (stretches_of form c) (stretches-have-words form c strands) (omega (arith, sum-stretches))
+      deck-stretches = stretches-back (stretches_of form c) (stretches-have-words form c strands) (omega (arith, sum-stretches form c))
 
       small : length c < 2 ^ 28
       small = omega arith
@@ -88,7 +85,7 @@ module _ (form : Form) where
             kind = kind-word 1 (length c) small;
             few = omega arith;
             follows = rw deck-stretches (follow-stretches form c);
-            sum = rw deck-stretches (eq-eqb (positions (stretches_of form c)) (payload_of (word_of 1 (length c))) (sum-stretches ∙ sym split));
+            sum = rw deck-stretches (eq-eqb (positions (stretches_of form c)) (payload_of (word_of 1 (length c))) (sum-stretches form c ∙ sym split));
           })
 
       pub deck-configuration : configuration_of form (deck_of form c) ≡ c

@@ -1,34 +1,59 @@
--- The first stretch of a configuration that begins with a run: neighbours in it are of one run, and what comes after it is not. Assumes nothing.
-use mathlib.Core.Path.{◌≡◌, refl, sym, ap, ◌∙◌}
-use mathlib.Core.Bool.{true, false}
-use mathlib.Core.List.{List, [], ◌∷◌, ◌++◌}
-use Prim.Native.Nat.{ℕ, suc, ◌-◌, ◌<◌}
-use native.Mathlib.Numerals.{add-one}
+-- The first stretch of a configuration: a position of no run by itself, or a run as far as its occupant goes. Assumes nothing.
+use mathlib.Core.Path.{◌≡◌, refl, sym, ◌∙◌}
+use mathlib.Core.Bool.{Bool, true, false, cond, true≢false}
+use mathlib.Core.List.{List, [], ◌∷◌}
+use Prim.Native.Nat.{ℕ, suc, ◌+◌}
 use native.Mathlib.Omega.{arith}
-use lib.ListN.{length, get_or}
-use Rattle.std.specs.List.{IsChunkByPrefix}
+use lib.Dec.{eqb}
+use lib.ListN.{drop}
+use borrow.Author.Tests.{eqb-true, eq-eqb, ne_eqb}
+use Rattle.std.specs.List.{prefix_len}
 use Rattle.deck.specs.Form.{Form, stretch, same_run}
 use Rattle.deck.specs.Deck.{stretches_of}
 use Rattle.deck.proofs.Stretches.{in-front-apart, follow-first}
 
-module _ (form : Form) where
-  run-first : (run rest : List ℕ) → 0 < length run
-      → ((k : ℕ) → suc k < length run → same_run form (get_or (run ++ rest) k 0) (get_or (run ++ rest) (suc k) 0) ≡ true)
-      → ((k : ℕ) → suc k ≡ length run → suc k < length (run ++ rest) → same_run form (get_or (run ++ rest) k 0) (get_or (run ++ rest) (suc k) 0) ≡ false)
-      → stretches_of form (run ++ rest) ≡ stretch (get_or run 0 0) (length run) ∷ stretches_of form rest
-  unfolding stretches_of
-  run-first [] rest h same ends = absurd (omega arith)
-  run-first (a ∷ []) [] h same ends = refl
-  run-first (a ∷ []) (b ∷ rest) h same ends = in-front-apart form a (stretches_of form (b ∷ rest)) (follow-first form (stretch a 1) b rest (ends 0 refl (omega arith)))
-  run-first (a ∷ b ∷ run) rest h same ends =
-      let later = run-first (b ∷ run) rest (omega arith) (λ k l. same (suc k) (omega arith)) (λ k e l. ends (suc k) (ap suc e) (omega arith)) in
-      rw (later, same 0 (omega arith)) refl
+-- whether a position has this occupant
+abbrev pub is : ℕ → ℕ → Bool
+is o x = eqb x o
 
-  -- as the library's `chunk_by` gives them
-  pub chunk-first : (run rest whole : List ℕ) → whole ≡ run ++ rest → 0 < length run → IsChunkByPrefix (same_run form) whole (length run)
-      → stretches_of form whole ≡ stretch (get_or run 0 0) (length run) ∷ stretches_of form rest
-  chunk-first run rest whole e h p =
-      let p = rw e at p in
-      ap (stretches_of form) e
-      ∙ run-first run rest h (λ k l. rw add-one at (p.0 k 0 (omega arith)))
-      (λ k n l. let before : length run - 1 ≡ k = omega arith in rw (before, sym n) at (p.1 (omega arith) 0))
+module _ (form : Form) where
+  -- a position that is not of one run with the next
+  apart-first : (o x : ℕ) (c : List ℕ) → same_run form o x ≡ false → stretches_of form (o ∷ x ∷ c) ≡ stretch o 1 ∷ stretches_of form (x ∷ c)
+  unfolding stretches_of
+  apart-first o x c e = in-front-apart form o (stretches_of form (x ∷ c)) (follow-first form (stretch o 1) x c e)
+
+  alone-first : (o : ℕ) (c : List ℕ) → form.in_runs o ≡ false → stretches_of form (o ∷ c) ≡ stretch o 1 ∷ stretches_of form c
+  unfolding stretches_of
+  alone-first o [] n = refl
+  alone-first o (x ∷ c) n = apart-first o x c (go (eqb o x) refl)
+    where
+      go : (t : Bool) → eqb o x ≡ t → same_run form o x ≡ false
+      go true e = rw (e, ← eqb-true o x e, n)
+      go false e = rw e
+
+  run-first : (o : ℕ) (c : List ℕ) → form.in_runs o ≡ true
+      → stretches_of form (o ∷ c) ≡ stretch o (1 + prefix_len (is o) c) ∷ stretches_of form (drop (prefix_len (is o) c) c)
+  unfolding stretches_of
+  run-first o [] r = refl
+  run-first o (x ∷ c) r = go (eqb x o) refl (run-first o c r)
+    where
+      go : (t : Bool) → eqb x o ≡ t → stretches_of form (o ∷ c) ≡ stretch o (1 + prefix_len (is o) c) ∷ stretches_of form (drop (prefix_len (is o) c) c)
+          → stretches_of form (o ∷ x ∷ c) ≡ stretch o (1 + cond t (1 + prefix_len (is o) c) 0) ∷ stretches_of form (drop (cond t (1 + prefix_len (is o) c) 0) (x ∷ c))
+      go true e later =
+          let n = prefix_len (is o) c in
+          let one : 1 + n ≡ suc n = omega arith in
+          let two : 1 + suc n ≡ suc (suc n) = omega arith in
+          rw (eqb-true x o e, later, eq-eqb o o refl, r, one, two) refl
+      go false e later = apart-first o x c (rw (ne_eqb o x (λ s. true≢false (sym (eq-eqb x o (sym s)) ∙ e))))
+
+  -- of a list that begins so
+  module _ (o : ℕ) (c left : List ℕ) (e : left ≡ o ∷ c) where
+    pub alone : form.in_runs o ≡ false → stretches_of form left ≡ stretch o 1 ∷ stretches_of form (drop 1 left)
+    alone n = rw e (alone-first o c n)
+
+    pub run : form.in_runs o ≡ true → stretches_of form left ≡ stretch o (prefix_len (is o) left) ∷ stretches_of form (drop (prefix_len (is o) left) left)
+    run r =
+        let n = prefix_len (is o) c in
+        let one : 1 + n ≡ suc n = omega arith in
+        let first = run-first o c r in
+        rw (e, eq-eqb o o refl, one) (rw one at first)

@@ -9,7 +9,6 @@ pub mod Walk
 pub mod Faults
 pub mod Laying
 pub mod FirstRun
-pub mod Chunks
 pub mod Neighbours
 pub mod Valid
 pub mod ValidRuns

@@ -36,6 +36,10 @@ abbrev pub Each : (Stretch → Type 0) → List Stretch → Type 0
 Each P [] = Unit
 Each P (s ∷ ss) = P s × Each P ss
 
+-- a position at least
+abbrev pub Some : Stretch → Type 0
+Some s = 1 ≤ s.run
+
 -- words stand for strands and empties alone, so no strand number is too high
 pub strands-laid : (form : Form) (ss : List Stretch) → Each (HasWord form) ss → any too_high (laid_out ss) ≡ false
 unfolding laid_out any
@@ -128,6 +132,20 @@ module _ (form : Form) where
   unfolding stretches_of any
   stretches-have-words [] h = tt
   stretches-have-words (o ∷ c) h = let p = neither (too_high o) (any too_high c) h in in-front-has-word o (stretches_of form c) (ltb-false 63 o p.0) (stretches-have-words c p.1)
+
+  some-in-front : (o : ℕ) (ss : List Stretch) → Each Some ss → Each Some (in_front form o ss)
+  some-in-front o [] t = (omega arith, tt)
+  some-in-front o (s ∷ ss) t = in-front-cases (Each Some) o s ss (λ e j. (omega arith, t.1)) (λ e. (omega arith, t))
+
+  -- each stretch of a configuration has a position at least
+  pub some-stretches : (c : List ℕ) → Each Some (stretches_of form c)
+  unfolding stretches_of
+  some-stretches [] = tt
+  some-stretches (o ∷ c) = some-in-front o (stretches_of form c) (some-stretches c)
+
+  -- and all have its positions
+  pub sum-stretches : (c : List ℕ) → positions (stretches_of form c) ≡ length c
+  sum-stretches c = sym (laid-length (stretches_of form c)) ∙ ap length (laid-stretches c)
 
   fewer-in-front : (o : ℕ) (ss : List Stretch) → length (in_front form o ss) ≤ suc (length ss)
   fewer-in-front o [] = omega arith
