@@ -1,5 +1,5 @@
 -- Parts of the text, and what is learnt and numbered. Assumes nothing.
-use mathlib.Core.Path.{◌≡◌, refl}
+use mathlib.Core.Path.{◌≡◌, refl, ap}
 use mathlib.Core.Bool.{Bool, true, false, not, ◌&&◌, ◌||◌}
 use mathlib.Core.List.{List, [], ◌∷◌, ◌++◌}
 use mathlib.Core.Option.{none, some}
@@ -80,6 +80,14 @@ module _ (text : List ℕ) (name : LentName) where
 pub base-size : (name : Name) → length (base_of name) ≡ base_length name
 unfolding base_of
 base-size name = length-take-le (base_length name) name (base-le name)
+
+pub base-within : (name : Name) → length (base_of name) ≤ length name
+base-within name = rw (base-size name) (base-le name)
+
+-- what a base lacks of its name is the stars
+pub stars-left : (name : Name) → length name - length (base_of name) ≡ stars_of name
+unfolding stars_of
+stars-left name = ap (λ (n : ℕ). length name - n) (base-size name)
 
 pub base-is : (name : Name) (n : ℕ) → base_length name ≡ n → take n name ≡ base_of name
 unfolding base_of

@@ -62,7 +62,8 @@ pub fn name_numbers(
 {
     refused_if(Refusal::WrongSize, unfit_strands(text, users, strands))?;
     refused_if(Refusal::WrongSize, unfit_names(numbers.len(), text, names))?;
-    let bases = BaseTable::new(text, strands);
+    let mut bases = BaseTable::empty(text);
+    bases.refill(text, strands);
     bases.fill_numbers(text, names, numbers);
     Ok(bases.len())
 }
@@ -79,7 +80,8 @@ pub fn strand_glues(
 {
     refused_if(Refusal::WrongSize, unfit_strands(text, users, strands))?;
     refused_if(Refusal::WrongSize, glues.len() != 3 * users)?;
-    let bases = BaseTable::new(text, strands);
+    let mut bases = BaseTable::empty(text);
+    bases.refill(text, strands);
     refused_if(Refusal::TooManyGlues, MOST_BASES < bases.len())?;
     bases.fill_glues(text, strands, glues);
     Ok(())

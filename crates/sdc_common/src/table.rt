@@ -7,7 +7,7 @@ ghost use Rattle.sdc_common.specs.inner.Table.{glue, Found};
 ghost use Rattle.sdc_common.specs.Numbers.{learn, bases_of, glue_number, crowds};
 
 use crate::MOST_STRANDS;
-use crate::names::{LentName, base_of, rows, stars_of};
+use crate::names::{LentName, base_of, rows};
 use reply::limits::SIDES;
 use std::marker::Model;
 
@@ -37,12 +37,24 @@ impl<'a> Model for BaseTable<'a> {
 
 impl<'a> BaseTable<'a> {
     // A table of no bases, for names that lie in a text.
-    fn empty(text: &'a [u8]) -> BaseTable<'a>
+    pub(crate) fn empty(text: &'a [u8]) -> BaseTable<'a>
         ensures { result ≡ [] }
     {
         BaseTable {
             bases: [&text[..0]; ROOM],
             count: 0,
+        }
+    }
+
+    // The bases of the names, in place of its own: where `new` hands a table back, it is copied.
+    pub(crate) fn refill(&mut self, text: &'a [u8], names: &[usize])
+        requires fit_names { FitNames text.now names.now }
+        requires names_len_bound { length names.now / 3 ≤ 183 }
+        ensures { self.new ≡ bases_of (glues_of text.now (names_of names.now)) }
+    {
+        self.count = 0;
+        for row in rows(names) {
+            self.learn(LentName::from(*row).bytes(text));
         }
     }
 
@@ -54,9 +66,7 @@ impl<'a> BaseTable<'a> {
         ensures { result ≡ bases_of (glues_of text.now (names_of names.now)) }
     {
         let mut table = BaseTable::empty(text);
-        for row in rows(names) {
-            table.learn(LentName::from(*row).bytes(text));
-        }
+        table.refill(text, names);
         table
     }
 
@@ -117,9 +127,10 @@ impl<'a> BaseTable<'a> {
         let Some(name) = name else {
             return NO_NUMBER;
         };
-        match self.find(base_of(name)) {
+        let base = base_of(name);
+        match self.find(base) {
             None => NO_NUMBER,
-            Some(place) => 1 + 2 * place + stars_of(name) % 2,
+            Some(place) => 1 + 2 * place + (name.len() - base.len()) % 2,
         }
     }
 

@@ -36,8 +36,8 @@ returns-in_err-refused_if-2-clause-numbers_after c =
     let fit = admits WrongSize c.unfit_strands.result c.in_ok-refused_if.ensures in
     rw (← c.unfit_strands.ensures, fit, ← c.unfit_names.ensures, q.0)
 
-pub new-bases-requires : goal.new-bases-requires
-new-bases-requires c =
+pub refill-requires : goal.refill-requires
+refill-requires c =
     let a = c.args in
     let fit = sym c.unfit_strands.ensures ∙ admits WrongSize _ c.in_ok-refused_if.ensures in
     record { fit_names = strands-fit a.users a.text.now a.strands.now fit; names_len_bound = strands-few a.users a.text.now a.strands.now fit }
@@ -56,7 +56,7 @@ returns c =
     let all = let a = c.args in
     let fit = sym c.unfit_strands.ensures ∙ admits WrongSize _ c.in_ok-refused_if.ensures in
     let good = sym c.unfit_names.ensures ∙ admits WrongSize _ c.in_ok-refused_if-2.ensures in
-    numbers-given a.users a.text.now (names_of a.strands.now) c.new-bases.result fit c.new-bases.ensures (names_of a.names.now) a.numbers.now _ good c.fill_numbers.ensures in record {
+    numbers-given a.users a.text.now (names_of a.strands.now) c.refill.new.self fit c.refill.ensures (names_of a.names.now) a.numbers.now _ good c.fill_numbers.ensures in record {
       result_value = ap given_numbers c.len.ensures ∙ all.0;
       numbers_after = all.1;
     }

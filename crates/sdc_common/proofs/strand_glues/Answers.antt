@@ -39,8 +39,8 @@ returns-in_err-refused_if-2-clause-glues_after c =
     let fit = admits WrongSize c.unfit_strands.result c.in_ok-refused_if.ensures in
     rw (← c.unfit_strands.ensures, fit, q.0)
 
-pub new-bases-requires : goal.new-bases-requires
-new-bases-requires c =
+pub refill-requires : goal.refill-requires
+refill-requires c =
     let a = c.args in
     let fit = sym c.unfit_strands.ensures ∙ admits WrongSize _ c.in_ok-refused_if.ensures in
     record { fit_names = strands-fit a.users a.text.now a.strands.now fit; names_len_bound = strands-few a.users a.text.now a.strands.now fit }
@@ -51,7 +51,7 @@ returns-in_err-refused_if-3 c =
     let q = exits c.from_residual-in_err-refused_if-3.result TooManyGlues (ltb 31 c.len.result) _ c.from_residual-in_err-refused_if-3.ensures.1 c.in_err-refused_if-3.ensures in
     let fit = sym c.unfit_strands.ensures ∙ admits WrongSize _ c.in_ok-refused_if.ensures in
     let lent = eqb-true _ _ (not-false _ (admits WrongSize (not (eqb (length a.glues.now) (3 * a.users))) c.in_ok-refused_if-2.ensures)) in
-    let all = glues-many a.users a.text.now (names_of a.strands.now) c.new-bases.result fit c.new-bases.ensures a.glues.now lent (rw (← c.len.ensures) (ltb-true _ _ q.0)) in
+    let all = glues-many a.users a.text.now (names_of a.strands.now) c.refill.new.self fit c.refill.ensures a.glues.now lent (rw (← c.len.ensures) (ltb-true _ _ q.0)) in
     record {
       result_value = rw q.1 all.0;
       glues_after = all.1;
@@ -73,8 +73,8 @@ returns c =
     let all = let a = c.args in
     let fit = sym c.unfit_strands.ensures ∙ admits WrongSize _ c.in_ok-refused_if.ensures in
     let lent = eqb-true _ _ (not-false _ (admits WrongSize (not (eqb (length a.glues.now) (3 * a.users))) c.in_ok-refused_if-2.ensures)) in
-    let few : length c.new-bases.result ≤ 31 = rw (← c.len.ensures) (ltb-false _ _ (admits TooManyGlues (ltb 31 c.len.result) c.in_ok-refused_if-3.ensures)) in
-    glues-given a.users a.text.now (names_of a.strands.now) c.new-bases.result fit c.new-bases.ensures a.glues.now _ lent few c.fill_glues.ensures in record {
+    let few : length c.refill.new.self ≤ 31 = rw (← c.len.ensures) (ltb-false _ _ (admits TooManyGlues (ltb 31 c.len.result) c.in_ok-refused_if-3.ensures)) in
+    glues-given a.users a.text.now (names_of a.strands.now) c.refill.new.self fit c.refill.ensures a.glues.now _ lent few c.fill_glues.ensures in record {
       result_value = all.0;
       glues_after = all.1;
     }

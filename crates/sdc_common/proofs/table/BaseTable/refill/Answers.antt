@@ -1,4 +1,4 @@
-use mathlib.Core.Path.{◌≡◌, sym, ap, ap₂, ◌∙◌}
+use mathlib.Core.Path.{◌≡◌, refl, sym, ap, ap₂, ◌∙◌}
 use mathlib.Core.List.{List, []}
 use Prim.Native.Nat.{ℕ, ◌/◌}
 use native.Mathlib.Omega.{arith}
@@ -9,11 +9,11 @@ use Rattle.lists.proofs.Counted.{fold_more}
 use Rattle.sdc_common.specs.Lent.{Glue, glue_of}
 use Rattle.sdc_common.specs.Numbers.{learn, bases_of}
 use Rattle.sdc_common.proofs.Fit.{glue_at, glues-listed}
-use Rattle.sdc_common.proofs.table.BaseTable.new.Goals as goal
+use Rattle.sdc_common.proofs.table.BaseTable.refill.Goals as goal
 
 pub loop-row-init : goal.loop-row-init
 unfolding tabulate foldl
-loop-row-init c = let e = c.empty-table.ensures in (rw e (omega arith), e)
+loop-row-init c = (omega arith, refl)
 
 pub loop-row-preserved : goal.loop-row-preserved
 loop-row-preserved c =
