@@ -10,7 +10,6 @@ pub mod Cells
 pub mod Chunks
 pub mod Folded
 pub mod Range
-pub mod Squares
 pub mod Concentrations
 pub mod BoundLaws
 pub mod Lowest
