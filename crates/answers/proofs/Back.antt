@@ -1,16 +1,15 @@
 -- The hexadecimal digits that are printed of a double's bits are those that are read back. Assumes nothing.
 use mathlib.Core.Path.{◌≡◌, refl, sym, ap, ◌∙◌}
-use mathlib.Core.Bool.{Bool, true, false}
+use mathlib.Core.Bool.{false}
 use mathlib.Core.List.{List, [], ◌∷◌, ◌++◌, append_assoc, append-nil}
-use Prim.Native.Nat.{ℕ, zero, suc, ◌+◌, ◌-◌, ◌/◌, ◌%◌, ◌^◌, ◌≤◌, ◌<◌}
+use Prim.Native.Nat.{ℕ, zero, suc, ◌-◌, ◌/◌, ◌%◌, ◌^◌, ◌≤◌, ◌<◌}
 use native.Mathlib.Nat.{sub-zero, pow-suc, div-lt_iff_lt-mul, zero-lt-suc}
 use native.Mathlib.Omega.{arith}
 use native.Mathlib.Decide.{ℕ_discrete}
 use borrow.Author.Tests.{eq-eqb, ne_eqb}
 use lib.ListN.{length, replicate, length-append}
 use Rattle.std.specs.Fmt.{digits, digits_onto, digit_glyph, padded_integral, char_count}
-use Rattle.decimals.specs.Digits.{digit_of, digits_in}
-use Rattle.decimals.specs.Number.{number_of}
+use Rattle.decimals.specs.Digits.{digits_in}
 use Rattle.decimals.proofs.Back.{pattern-read-back}
 use Rattle.answers.specs.Text.{hex_text}
 use Rattle.answers.specs.Back.{ShownReadBack}

@@ -1,5 +1,5 @@
 -- What a text is: UTF-8, and control characters byte by byte. Assumes nothing.
-use mathlib.Core.Path.{◌≡◌, refl, ◌∙◌}
+use mathlib.Core.Path.{◌≡◌, refl}
 use mathlib.Core.Bool.{Bool, true, false, ◌||◌}
 use mathlib.Core.List.{List}
 use Prim.Native.Nat.{ℕ, ◌+◌, ◌<◌, ◌≤◌}
@@ -17,19 +17,17 @@ module _ (bytes : List ℕ) (i before : ℕ) where
   unfolding has_control
   control_step d h = rw (drop-cons bytes i d h) (simp add-one)
 
-  -- one that ends here
-  pub control_here : (d : ℕ) → i < length bytes → is_control before (get_or bytes i d) ≡ true → has_control before (drop i bytes) ≡ true
-  control_here d h e = control_step d h ∙ rw e refl
-
-  -- none that ends here
-  pub control_later : (d : ℕ) → i < length bytes → is_control before (get_or bytes i d) ≡ false
-      → has_control before (drop i bytes) ≡ has_control (get_or bytes i d) (drop (i + 1) bytes)
-  control_later d h e = control_step d h ∙ rw e refl
+  -- found before, or here, or later
+  pub control_on : (d : ℕ) → i < length bytes → (found : Bool)
+      → (found || has_control before (drop i bytes)) ≡ ((found || is_control before (get_or bytes i d)) || has_control (get_or bytes i d) (drop (i + 1) bytes))
+  control_on d h true = refl
+  control_on d h false = control_step d h
 
   -- none where no byte is left
-  pub control_past : length bytes ≤ i → has_control before (drop i bytes) ≡ false
+  pub control_past : length bytes ≤ i → (found : Bool) → (found || has_control before (drop i bytes)) ≡ found
   unfolding has_control
-  control_past h = rw (drop_of_length-le bytes h) refl
+  control_past h true = refl
+  control_past h false = rw (drop_of_length-le bytes h) refl
 
 module _ (bytes : List ℕ) where
   -- well-formed bytes are a text unless a control character is among them

@@ -1,5 +1,6 @@
 -- How bytes of a file, or of its name, are shown: text as it is, anything else byte by byte.
-use Rattle.std.specs.Prelude.{Bool, false, cond, not, ◌&&◌, ◌||◌, List, [], ◌∷◌, ◌++◌, ℕ, eqb, ltb, leb, length, get_or, take}
+use Rattle.std.specs.Prelude.{◌≡◌, Bool, false, cond, not, ◌&&◌, ◌||◌, List, [], ◌∷◌, ◌++◌, ℕ, ◌<◌, eqb, ltb, leb, length, get_or, take, drop}
+use Rattle.std.specs.List.{IsChunkByPrefix}
 use Rattle.std.specs.Str.{is_utf8}
 use lib.Chars.{codes}
 use Rattle.answers.specs.Text.{hex_text, pieces}
@@ -45,6 +46,22 @@ byte_text Json as_text byte =
 -- the same, whatever the byte's place
 abbrev pub byte_piece : Style → Bool → ℕ → ℕ → List ℕ
 byte_piece style as_text i byte = byte_text style as_text byte
+
+-- a byte that stands for itself
+abbrev pub is_itself : Style → Bool → ℕ → Bool
+is_itself People as_text byte = as_text || is_printable byte
+is_itself Tsv as_text byte = as_text || is_printable byte
+is_itself Json as_text byte = not (is_quote byte) && (as_text || is_printable byte)
+
+-- bytes begin with a run: a byte, and all behind it that stand for themselves
+abbrev pub IsFirstRun : Style → Bool → List ℕ → List ℕ → Type 0
+IsFirstRun style as_text bytes run =
+    (0 < length run) × (bytes ≡ run ++ drop (length run) bytes) × IsChunkByPrefix (λ before byte. is_itself style as_text byte) bytes (length run)
+
+-- the text of a run
+abbrev pub run_text : Style → Bool → List ℕ → List ℕ
+run_text style as_text [] = []
+run_text style as_text (byte ∷ plain) = byte_text style as_text byte ++ plain
 
 -- ---- names and words
 

@@ -1,7 +1,7 @@
 // How bytes of a file, or of its name, are shown: text as it is, anything else byte by byte.
-ghost use Rattle.std.specs.Prelude.{◌≡◌, OnOk};
+ghost use Rattle.std.specs.Prelude.{◌≡◌, length, MatchOption, OnOk};
 ghost use Rattle.std.specs.Io.KnownBytes.{Appends};
-ghost use Rattle.answers.specs.Shown.{is_continuation, is_control, has_control, is_text, is_printable, is_quote, byte_text, shown_bytes, is_inside, cut, word_text, json_text};
+ghost use Rattle.answers.specs.Shown.{is_continuation, is_control, has_control, is_text, is_printable, is_quote, is_itself, IsFirstRun, byte_text, run_text, shown_bytes, is_inside, cut, word_text, json_text};
 
 use crate::print::{Printer, Style};
 use crate::reads::first;
@@ -23,18 +23,17 @@ fn is_control(before: u8, byte: u8) -> bool
     byte < 32 || byte == 127 || (before == 194 && byte < 160)
 }
 
-// Whether some character is a control character.
+// Whether some character is a control character. Without an early return many bytes are looked at at once.
 fn has_control(bytes: &[u8]) -> bool
     ensures { result ≡ has_control 0 bytes.now }
 {
     let mut before = 0;
+    let mut found = false;
     for byte in bytes {
-        if is_control(before, *byte) {
-            return true;
-        }
+        found |= is_control(before, *byte);
         before = *byte;
     }
-    false
+    found
 }
 
 // Well-formed UTF-8 with no control character.
@@ -59,6 +58,25 @@ fn is_quote(byte: u8) -> bool
     ensures { result ≡ is_quote byte }
 {
     byte == b'"' || byte == b'\\'
+}
+
+// Whether a byte stands for itself.
+fn is_itself(style: Style, as_text: bool, byte: u8) -> bool
+    ensures { result ≡ is_itself style as_text byte }
+{
+    match style {
+        Style::Json if is_quote(byte) => false,
+        _ => as_text || is_printable(byte),
+    }
+}
+
+// The first byte, and those behind it that stand for themselves.
+fn first_run(style: Style, as_text: bool, bytes: &[u8]) -> Option<&[u8]>
+    ensures { MatchOption result (length bytes.now ≡ 0) (λ run. IsFirstRun style as_text bytes.now run.now) }
+{
+    bytes
+        .chunk_by(|_, byte| is_itself(style, as_text, *byte))
+        .next()
 }
 
 // Whether a character goes on at a place.
@@ -120,14 +138,31 @@ impl<W: Write> Printer<'_, W> {
         }
     }
 
+    // A byte, and at once those behind it, which stand for themselves.
+    fn print_run(&mut self, style: Style, as_text: bool, run: &[u8]) -> io::Result<()>
+        ensures { OnOk result (Appends (W.contents self.old.out.now) (W.contents self.new.out.now) (run_text style as_text run.now)) }
+    {
+        match run {
+            [] => Ok(()),
+            [byte] => self.print_byte(style, as_text, *byte),
+            [byte, plain @ ..] => {
+                self.print_byte(style, as_text, *byte)?;
+                self.out.write_all(plain)
+            }
+        }
+    }
+
     // Bytes of a file, or of its name.
     #[tactic(auto, unfolding(crate::specs::Shown::shown_bytes))]
     pub(crate) fn print_bytes(&mut self, style: Style, bytes: &[u8]) -> io::Result<()>
         ensures { OnOk result (Appends (W.contents self.old.out.now) (W.contents self.new.out.now) (shown_bytes style bytes.now)) }
     {
         let as_text = is_text(bytes);
-        for byte in bytes {
-            self.print_byte(style, as_text, *byte)?;
+        let mut rest = bytes;
+        // A proof sees no `for` over `chunk_by` where W is a parameter.
+        while let Some(run) = first_run(style, as_text, rest) {
+            self.print_run(style, as_text, run)?;
+            rest = &rest[run.len()..];
         }
         Ok(())
     }
