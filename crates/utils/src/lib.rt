@@ -289,12 +289,13 @@ fn excess_in_range(excess: Kelvin) -> bool
 }
 
 // The strength of a sequence on its perfect partner.
+#[tactic(auto, unfolding(crate::specs::Strength::sequence_strength))]
 pub fn sequence_strength(dna: &[u8], excess: Kelvin) -> Result<KcalPerMol, Refusal>
     ensures { dg_figures result ≡ sequence_strength dna.now excess.0 }
 {
-    let dna = admitted(dna)?;
+    let sequence = admitted(dna)?;
     refused_if(Refusal::OutOfRange, !excess_in_range(excess))?;
-    Ok(strength(excess, dna.single_sequence_dg_ds()))
+    Ok(strength(excess, sequence.single_sequence_dg_ds()))
 }
 
 // The strength of two strands side by side.
